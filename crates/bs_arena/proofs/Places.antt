@@ -7,7 +7,7 @@ use Rattle.std.proofs.lemmas.Bool.{eq-eqb}
 use Rattle.std.proofs.lemmas.List.{append-nil, length-append, map-append}
 use Rattle.std.proofs.lemmas.List.Edits.{length-swap}
 use Rattle.std.proofs.lemmas.List.Elements.{All-from_recursion}
-use Rattle.bs_arena.specs.Words.{Stored, Placed, spelling, spelling_of, placed_from, size}
+use Rattle.bs_arena.specs.Words.{Stored, PlacedClause, spelling, spelling_of, placed_from, size}
 use Rattle.bs_arena.specs.Arena.{Held, held, held_at, live_in, clauses_of, places_of, IsWellFormed}
 use Rattle.bs_arena.proofs.Spellings.{read_back, spelling_of-append, placed_from-append}
 use Rattle.bs_arena.proofs.Splits.{Split, Header, header, misses, replaced, killed_words, swapped_words}
@@ -15,11 +15,11 @@ use Rattle.bs_arena.proofs.Lookups.{not_found}
 use Rattle.bs_arena.proofs.Compactions.{kept}
 
 abbrev places_from : ℕ → List Stored → List ℕ
-places_from at cs = map (λ (p : Placed). p.place) (placed_from at cs)
+places_from at cs = map (λ (p : PlacedClause). p.place) (placed_from at cs)
 
 -- the places of well formed words
 pub places_are : (words : List ℕ) (cs : List Stored) → words ≡ spelling_of cs → places_of words ≡ places_from 0 cs
-places_are words cs is = ap places_of is ∙ ap (map (λ (p : Placed). p.place)) (read_back 0 cs)
+places_are words cs is = ap places_of is ∙ ap (map (λ (p : PlacedClause). p.place)) (read_back 0 cs)
 
 -- one more clause
 pub places_push : (cs : List Stored) (c : Stored) (words : List ℕ) → words ≡ spelling_of cs →
@@ -29,8 +29,8 @@ places_push cs c words is =
     ap (λ w. w ++ spelling c) is ∙ ap (λ r. spelling_of cs ++ r) (sym (append-nil (spelling c))) ∙ sym (spelling_of-append cs (c ∷ [])) in
     let at : 0 + length (spelling_of cs) ≡ length words = omega (arith, ap length is) in
     places_are (words ++ spelling c) (cs ++ c ∷ []) whole ∙
-    ap (map (λ (p : Placed). p.place)) (placed_from-append 0 cs (c ∷ [])) ∙
-    map-append (λ (p : Placed). p.place) (placed_from 0 cs) (placed_from (0 + length (spelling_of cs)) (c ∷ [])) ∙
+    ap (map (λ (p : PlacedClause). p.place)) (placed_from-append 0 cs (c ∷ [])) ∙
+    map-append (λ (p : PlacedClause). p.place) (placed_from 0 cs) (placed_from (0 + length (spelling_of cs)) (c ∷ [])) ∙
     ap (λ n. places_from 0 cs ++ n ∷ []) at ∙
     ap (λ ps. ps ++ length words ∷ []) (sym (places_are words cs is))
 

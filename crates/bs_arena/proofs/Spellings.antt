@@ -8,7 +8,7 @@ use Rattle.std.proofs.Common.{◌-◌, get_or}
 use Rattle.std.proofs.lemmas.Bool.{eqb-true}
 use Rattle.std.proofs.lemmas.List.Elements.{filter-append, All-push}
 use Rattle.bs_arena.specs.Arena.{Held, held, held_at, live_in, clauses_of, IsWellFormed, IsStored}
-use Rattle.bs_arena.specs.Words.{Stored, Placed, spelling, spelling_of, placed_from, clauses_in, size}
+use Rattle.bs_arena.specs.Words.{Stored, PlacedClause, spelling, spelling_of, placed_from, clauses_in, size}
 
 -- skipped words are not read
 skips : (at n : ℕ) (xs ys : List ℕ) → length xs ≡ n → clauses_in at n (xs ++ ys) ≡ clauses_in (at + n) 0 ys
@@ -99,7 +99,7 @@ found_from at (c ∷ cs) r h e =
       | false ↦ λ _ later. further later
     ] refl e
 
-pub live_in-append : (xs ys : List Placed) → live_in (xs ++ ys) ≡ live_in xs ++ live_in ys
+pub live_in-append : (xs ys : List PlacedClause) → live_in (xs ++ ys) ≡ live_in xs ++ live_in ys
 live_in-append xs ys =
     ap (map held) (filter-append (λ p. p.clause.live) xs ys) ∙ map-append held (filter (λ p. p.clause.live) xs) (filter (λ p. p.clause.live) ys)
 

@@ -6,7 +6,7 @@ use Rattle.std.specs.Option.{unwrap_or}
 use Rattle.bs_clause.specs.Literal.{Literal, IsVariable}
 pub use Rattle.bs_clause.specs.Literal.{AreCodes, literal_of}
 use Rattle.bs_arena.specs.declared.reference.TheConstants.{WORD_LIMIT}
-use Rattle.bs_arena.specs.Words.{Stored, Placed, spelling_of, clauses_in}
+use Rattle.bs_arena.specs.Words.{Stored, PlacedClause, spelling_of, clauses_in}
 
 -- a live clause with its reference
 pub record Held : Type 0 where
@@ -69,10 +69,10 @@ pub record IsContent (c : Content) : Type 0 where
 
 -- ---- the clauses that words spell
 
-abbrev pub held : Placed → Held
+abbrev pub held : PlacedClause → Held
 held p = record { ref = p.place; id = p.clause.id; literals = map literal_of p.clause.codes }
 
-abbrev pub live_in : List Placed → List Held
+abbrev pub live_in : List PlacedClause → List Held
 live_in ps = map held (filter (λ p. p.clause.live) ps)
 
 abbrev pub clauses_of : List ℕ → List Held

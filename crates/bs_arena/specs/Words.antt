@@ -16,19 +16,19 @@ spelling_of [] = []
 spelling_of (c ∷ cs) = spelling c ++ spelling_of cs
 
 -- with the place of its first word
-pub record Placed : Type 0 where
+pub record PlacedClause : Type 0 where
   pub place : ℕ
   pub clause : Stored
 
 abbrev pub size : Stored → ℕ
 size c = length c.codes + 4
 
-abbrev pub placed_from : ℕ → List Stored → List Placed
+abbrev pub placed_from : ℕ → List Stored → List PlacedClause
 placed_from at [] = []
 placed_from at (c ∷ cs) = record { place = at; clause = c } ∷ placed_from (at + size c) cs
 
 -- the clauses that the words spell, after some words that are skipped
-abbrev pub clauses_in : ℕ → ℕ → List ℕ → List Placed
+abbrev pub clauses_in : ℕ → ℕ → List ℕ → List PlacedClause
 clauses_in at skip [] = []
 clauses_in at (suc skip) (w ∷ ws) = clauses_in (at + 1) skip ws
 clauses_in at zero (w ∷ ws) =

@@ -42,15 +42,15 @@ is_same c d e = (pointwise_decides same_literal_iff c d).1 e
 abbrev pub variables_of : Clause → List ℕ
 variables_of c = map (λ l. l.variable) c
 
-abbrev pub denials_of : Clause → List Bool
-denials_of c = map (λ l. not l.positive) c
+abbrev pub negated_bits : Clause → List Bool
+negated_bits c = map (λ l. not l.positive) c
 
 not_not : (b : Bool) → not (not b) ≡ b
 not_not true = refl
 not_not false = refl
 
 -- literals over the variables are those with the signs that they have
-signed_again : (own ls : Clause) → variables_of ls ≡ variables_of own → ls ≡ signed own (map not (denials_of ls))
+signed_again : (own ls : Clause) → variables_of ls ≡ variables_of own → ls ≡ signed own (map not (negated_bits ls))
 signed_again [] [] e = refl
 signed_again [] (l ∷ ls) e = cc
 signed_again (o ∷ own) [] e = cc
@@ -58,7 +58,7 @@ signed_again (o ∷ own) (l ∷ ls) e =
     let first : l.variable ≡ o.variable = cc in
     let rest : variables_of ls ≡ variables_of own = cc in
     let sign : l.positive ≡ not (not l.positive) = sym (not_not l.positive) in
-    ap (λ (k : Clause). l ∷ k) (signed_again own ls rest) ∙ λ i. record { variable = first i; positive = sign i } ∷ signed own (map not (denials_of ls))
+    ap (λ (k : Clause). l ∷ k) (signed_again own ls rest) ∙ λ i. record { variable = first i; positive = sign i } ∷ signed own (map not (negated_bits ls))
 
 signed_variables : (own : Clause) (bits : List Bool) → length bits ≡ length own → variables_of (signed own bits) ≡ variables_of own
 signed_variables [] bits e = refl
@@ -66,47 +66,47 @@ signed_variables (o ∷ own) [] e = absurd (omega arith)
 signed_variables (o ∷ own) (b ∷ bits) e = ap (λ (k : List ℕ). o.variable ∷ k) (signed_variables own bits (omega arith))
 
 -- the signs of a state are the state
-denials_again : (own : Clause) (s : List Bool) → length s ≡ length own → denials_of (signed own (map not s)) ≡ s
-denials_again [] [] e = refl
-denials_again [] (b ∷ s) e = absurd (omega arith)
-denials_again (o ∷ own) [] e = absurd (omega arith)
-denials_again (o ∷ own) (b ∷ s) e =
-    ap (λ (k : Bool). k ∷ denials_of (signed own (map not s))) (not_not b) ∙ ap (λ (k : List Bool). b ∷ k) (denials_again own s (omega arith))
+negated_again : (own : Clause) (s : List Bool) → length s ≡ length own → negated_bits (signed own (map not s)) ≡ s
+negated_again [] [] e = refl
+negated_again [] (b ∷ s) e = absurd (omega arith)
+negated_again (o ∷ own) [] e = absurd (omega arith)
+negated_again (o ∷ own) (b ∷ s) e =
+    ap (λ (k : Bool). k ∷ negated_bits (signed own (map not s))) (not_not b) ∙ ap (λ (k : List Bool). b ∷ k) (negated_again own s (omega arith))
 
 signs_differ : (own : Clause) (s t : List Bool) → length s ≡ length own → length t ≡ length own → signed own (map not s) ≡ signed own (map not t) → s ≡ t
-signs_differ own s t e f h = sym (denials_again own s e) ∙ (ap denials_of h ∙ denials_again own t f)
+signs_differ own s t e f h = sym (negated_again own s e) ∙ (ap negated_bits h ∙ negated_again own t f)
 
-blocking_differ : (e : Encoded) (guard : Literal) (s t : List Bool) → length s ≡ length e.states → length t ≡ length e.states →
-    blocking e guard s ≡ blocking e guard t → s ≡ t
-blocking_differ e guard s t ws wt h = let rest : block_for e s ≡ block_for e t = cc in signs_differ e.states s t ws wt rest
+blocking_differ : (e : Encoded) (activation : Literal) (s t : List Bool) → length s ≡ length e.states → length t ≡ length e.states →
+    blocking e activation s ≡ blocking e activation t → s ≡ t
+blocking_differ e activation s t ws wt h = let rest : block_for e s ≡ block_for e t = cc in signs_differ e.states s t ws wt rest
 
 -- ---- the state of a block
 
-pub blocks_state : (e : Encoded) (guard first : Literal) (rest clause : Clause) (state : List Bool) → clause ≡ first ∷ rest → first ≡ negation guard →
+pub blocks_state : (e : Encoded) (activation first : Literal) (rest clause : Clause) (state : List Bool) → clause ≡ first ∷ rest → first ≡ negation activation →
     variables_of rest ≡ variables_of e.states →
-    state ≡ denials_of rest → Blocks e guard clause state
-blocks_state e guard first rest clause state is f v d =
-    let width : length (denials_of rest) ≡ length e.states =
+    state ≡ negated_bits rest → Blocks e activation clause state
+blocks_state e activation first rest clause state is f v d =
+    let width : length (negated_bits rest) ≡ length e.states =
     length-map rest (λ (l : Literal). not l.positive)
     ∙ (sym (length-map rest (λ (l : Literal). l.variable)) ∙ (ap length v ∙ length-map e.states (λ (l : Literal). l.variable))) in
     record {
       width = ap length d ∙ width;
       is =
           is ∙ (ap (λ (l : Literal). l ∷ rest) f
-          ∙ ap (λ (k : Clause). negation guard ∷ k) (signed_again e.states rest v ∙ ap (λ (s : List Bool). signed e.states (map not s)) (sym d)));
+          ∙ ap (λ (k : Clause). negation activation ∷ k) (signed_again e.states rest v ∙ ap (λ (s : List Bool). signed e.states (map not s)) (sym d)));
     }
 
-pub none_empty : (e : Encoded) (guard : Literal) (clause : Clause) → clause ≡ [] → BlocksNone e guard clause
-none_empty e guard clause is = record { none = λ s w h. cc }
+pub none_empty : (e : Encoded) (activation : Literal) (clause : Clause) → clause ≡ [] → BlocksNone e activation clause
+none_empty e activation clause is = record { none = λ s w h. cc }
 
-pub none_first : (e : Encoded) (guard first : Literal) (rest clause : Clause) → clause ≡ first ∷ rest → same_literal first (negation guard) ≡ false →
-    BlocksNone e guard clause
-none_first e guard first rest clause is f =
-    record { none = λ s w h. let same : first ≡ negation guard = cc in absurd (true≢false (sym ((same_literal_iff first (negation guard)).1 same) ∙ f)) }
+pub none_first : (e : Encoded) (activation first : Literal) (rest clause : Clause) → clause ≡ first ∷ rest → same_literal first (negation activation) ≡ false →
+    BlocksNone e activation clause
+none_first e activation first rest clause is f =
+    record { none = λ s w h. let same : first ≡ negation activation = cc in absurd (true≢false (sym ((same_literal_iff first (negation activation)).1 same) ∙ f)) }
 
-pub none_variables : (e : Encoded) (guard first : Literal) (rest clause : Clause) → clause ≡ first ∷ rest →
-    (variables_of rest ≡ variables_of e.states → ⊥) → BlocksNone e guard clause
-none_variables e guard first rest clause is v =
+pub none_variables : (e : Encoded) (activation first : Literal) (rest clause : Clause) → clause ≡ first ∷ rest →
+    (variables_of rest ≡ variables_of e.states → ⊥) → BlocksNone e activation clause
+none_variables e activation first rest clause is v =
     record { none = λ s w h. let same : rest ≡ block_for e s = cc in v (ap variables_of same ∙ signed_variables e.states (map not s) (length-map s not ∙ w)) }
 
 -- ---- the variables of literals
@@ -149,71 +149,71 @@ lengths_differ ls own differ e =
 abbrev pub WidthsAre : ℕ → List (List Bool) → Type 0
 WidthsAre width states = All (λ s. length s ≡ width) states
 
-due_here : (e : Encoded) (guard : Literal) (states : List (List Bool)) (j : ℕ) → j < length states →
-    get_or (map (blocking e guard) states) j [] ≡ blocking e guard (get_or states j [])
-due_here e guard states j lt = get_or-map (blocking e guard) states j [] [] lt
+due_here : (e : Encoded) (activation : Literal) (states : List (List Bool)) (j : ℕ) → j < length states →
+    get_or (map (blocking e activation) states) j [] ≡ blocking e activation (get_or states j [])
+due_here e activation states j lt = get_or-map (blocking e activation) states j [] [] lt
 
 -- a clause that is a state's block is due exactly where that state is listed
-not_listed : (e : Encoded) (guard : Literal) (states : List (List Bool)) (clause : Clause) (s : List Bool) → WidthsAre (length e.states) states →
-    Blocks e guard clause s → is_listed states s ≡ false →
-    has_clause (map (blocking e guard) states) clause ≡ false
-not_listed e guard states clause s widths is out =
-    list_any_none (pointwise same_literal clause) (map (blocking e guard) states)
+not_listed : (e : Encoded) (activation : Literal) (states : List (List Bool)) (clause : Clause) (s : List Bool) → WidthsAre (length e.states) states →
+    Blocks e activation clause s → is_listed states s ≡ false →
+    has_clause (map (blocking e activation) states) clause ≡ false
+not_listed e activation states clause s widths is out =
+    list_any_none (pointwise same_literal clause) (map (blocking e activation) states)
     (λ j d lt.
-    let below : j < length states = omega (arith, lt, length-map states (blocking e guard)) in
-    by j d lt below (pointwise same_literal clause (get_or (map (blocking e guard) states) j d)) refl)
+    let below : j < length states = omega (arith, lt, length-map states (blocking e activation)) in
+    by j d lt below (pointwise same_literal clause (get_or (map (blocking e activation) states) j d)) refl)
   where
-    by : (j : ℕ) (d : Clause) → j < length (map (blocking e guard) states) → j < length states → (b : Bool) →
-        pointwise same_literal clause (get_or (map (blocking e guard) states) j d) ≡ b → b ≡ false
+    by : (j : ℕ) (d : Clause) → j < length (map (blocking e activation) states) → j < length states → (b : Bool) →
+        pointwise same_literal clause (get_or (map (blocking e activation) states) j d) ≡ b → b ≡ false
     by j d lt below false h = refl
     by j d lt below true h =
-        let there : clause ≡ blocking e guard (get_or states j []) =
-        same_is clause (get_or (map (blocking e guard) states) j d) h ∙ get_or-map (blocking e guard) states j [] d below in
-        let same : s ≡ get_or states j [] = blocking_differ e guard s (get_or states j []) is.width (widths j [] below) (sym is.is ∙ there) in
+        let there : clause ≡ blocking e activation (get_or states j []) =
+        same_is clause (get_or (map (blocking e activation) states) j d) h ∙ get_or-map (blocking e activation) states j [] d below in
+        let same : s ≡ get_or states j [] = blocking_differ e activation s (get_or states j []) is.width (widths j [] below) (sym is.is ∙ there) in
         absurd (true≢false (sym (list_any_at (bits_eq s) states j [] below (ap (bits_eq s) (sym same) ∙ bits_same s)) ∙ out))
 
-none_due : (e : Encoded) (guard : Literal) (states : List (List Bool)) (clause : Clause) → WidthsAre (length e.states) states → BlocksNone e guard clause →
-    has_clause (map (blocking e guard) states) clause ≡ false
-none_due e guard states clause widths is =
-    list_any_none (pointwise same_literal clause) (map (blocking e guard) states)
+none_due : (e : Encoded) (activation : Literal) (states : List (List Bool)) (clause : Clause) → WidthsAre (length e.states) states → BlocksNone e activation clause →
+    has_clause (map (blocking e activation) states) clause ≡ false
+none_due e activation states clause widths is =
+    list_any_none (pointwise same_literal clause) (map (blocking e activation) states)
     (λ j d lt.
-    let below : j < length states = omega (arith, lt, length-map states (blocking e guard)) in
-    by j d below (pointwise same_literal clause (get_or (map (blocking e guard) states) j d)) refl)
+    let below : j < length states = omega (arith, lt, length-map states (blocking e activation)) in
+    by j d below (pointwise same_literal clause (get_or (map (blocking e activation) states) j d)) refl)
   where
-    by : (j : ℕ) (d : Clause) → j < length states → (b : Bool) → pointwise same_literal clause (get_or (map (blocking e guard) states) j d) ≡ b → b ≡ false
+    by : (j : ℕ) (d : Clause) → j < length states → (b : Bool) → pointwise same_literal clause (get_or (map (blocking e activation) states) j d) ≡ b → b ≡ false
     by j d below false h = refl
     by j d below true h =
         absurd (is.none (get_or states j []) (widths j [] below)
-        (same_is clause (get_or (map (blocking e guard) states) j d) h ∙ get_or-map (blocking e guard) states j [] d below))
+        (same_is clause (get_or (map (blocking e activation) states) j d) h ∙ get_or-map (blocking e activation) states j [] d below))
 
-pub not_due_none : (e : Encoded) (guard : Literal) (states : List (List Bool)) (clause : Clause) (width : ℕ) → width ≡ length e.states →
-    WidthsAre width states → BlocksNone e guard clause →
-    IsNotDue e guard states clause
-not_due_none e guard states clause width w widths is = record { none = none_due e guard states clause (subst (λ (n : ℕ). WidthsAre n states) w widths) is }
+pub not_due_none : (e : Encoded) (activation : Literal) (states : List (List Bool)) (clause : Clause) (width : ℕ) → width ≡ length e.states →
+    WidthsAre width states → BlocksNone e activation clause →
+    IsNotDue e activation states clause
+not_due_none e activation states clause width w widths is = record { none = none_due e activation states clause (subst (λ (n : ℕ). WidthsAre n states) w widths) is }
 
-pub not_due_unlisted : (e : Encoded) (guard : Literal) (states : List (List Bool)) (clause : Clause) (s : List Bool) (width : ℕ) →
+pub not_due_unlisted : (e : Encoded) (activation : Literal) (states : List (List Bool)) (clause : Clause) (s : List Bool) (width : ℕ) →
     width ≡ length e.states → WidthsAre width states →
-    Blocks e guard clause s → is_listed states s ≡ false → IsNotDue e guard states clause
-not_due_unlisted e guard states clause s width w widths is out =
-    record { none = not_listed e guard states clause s (subst (λ (n : ℕ). WidthsAre n states) w widths) is out }
+    Blocks e activation clause s → is_listed states s ≡ false → IsNotDue e activation states clause
+not_due_unlisted e activation states clause s width w widths is out =
+    record { none = not_listed e activation states clause s (subst (λ (n : ℕ). WidthsAre n states) w widths) is out }
 
-pub due_listed : (e : Encoded) (guard : Literal) (states : List (List Bool)) (clause : Clause) (s : List Bool) (j : ℕ) → Blocks e guard clause s →
-    IsAt states s j → IsDueAt e guard states clause j
-due_listed e guard states clause s j is at = record { below = at.below; is = is.is ∙ ap (blocking e guard) (sym at.is) }
+pub due_listed : (e : Encoded) (activation : Literal) (states : List (List Bool)) (clause : Clause) (s : List Bool) (j : ℕ) → Blocks e activation clause s →
+    IsAt states s j → IsDueAt e activation states clause j
+due_listed e activation states clause s j is at = record { below = at.below; is = is.is ∙ ap (blocking e activation) (sym at.is) }
 
-pub due_place : (e : Encoded) (guard : Literal) (states : List (List Bool)) (clause : Clause) (s : List Bool) (width : ℕ) (o : Option ℕ) →
+pub due_place : (e : Encoded) (activation : Literal) (states : List (List Bool)) (clause : Clause) (s : List Bool) (width : ℕ) (o : Option ℕ) →
     width ≡ length e.states → WidthsAre width states →
-    Blocks e guard clause s → MatchOption o (is_listed states s ≡ false) (IsAt states s) →
-    MatchOption o (IsNotDue e guard states clause) (IsDueAt e guard states clause)
-due_place e guard states clause s width None w widths is out = not_due_unlisted e guard states clause s width w widths is out
-due_place e guard states clause s width (Some j) w widths is at = due_listed e guard states clause s j is at
+    Blocks e activation clause s → MatchOption o (is_listed states s ≡ false) (IsAt states s) →
+    MatchOption o (IsNotDue e activation states clause) (IsDueAt e activation states clause)
+due_place e activation states clause s width None w widths is out = not_due_unlisted e activation states clause s width w widths is out
+due_place e activation states clause s width (Some j) w widths is at = due_listed e activation states clause s j is at
 
-pub due_known : (e : Encoded) (guard : Literal) (states : List (List Bool)) (clause : Clause) (j : ℕ) → IsDueAt e guard states clause j →
-    has_clause (map (blocking e guard) states) clause ≡ true
-due_known e guard states clause j at =
-    let below : j < length (map (blocking e guard) states) = omega (arith, at.below, length-map states (blocking e guard)) in
-    list_any_at (pointwise same_literal clause) (map (blocking e guard) states) j [] below
-    (is_same clause (get_or (map (blocking e guard) states) j []) (at.is ∙ sym (due_here e guard states j at.below)))
+pub due_known : (e : Encoded) (activation : Literal) (states : List (List Bool)) (clause : Clause) (j : ℕ) → IsDueAt e activation states clause j →
+    has_clause (map (blocking e activation) states) clause ≡ true
+due_known e activation states clause j at =
+    let below : j < length (map (blocking e activation) states) = omega (arith, at.below, length-map states (blocking e activation)) in
+    list_any_at (pointwise same_literal clause) (map (blocking e activation) states) j [] below
+    (is_same clause (get_or (map (blocking e activation) states) j []) (at.is ∙ sym (due_here e activation states j at.below)))
 
 -- ---- ascending states
 
@@ -313,17 +313,17 @@ not_found states s low high met less greater =
 
 -- ---- blocks that are noted
 
-pub none_are_noted : (e : Encoded) (guard : Literal) (states : List (List Bool)) (noted : List Bool) (count : ℕ) → count ≡ length states →
+pub none_are_noted : (e : Encoded) (activation : Literal) (states : List (List Bool)) (noted : List Bool) (count : ℕ) → count ≡ length states →
     noted ≡ replicate count false →
-    AreNoted e guard states [] noted
-none_are_noted e guard states noted count n is =
+    AreNoted e activation states [] noted
+none_are_noted e activation states noted count n is =
     record {
       each = ap length is ∙ (length-replicate count false ∙ n);
       right = λ j lt. ap (λ (l : List Bool). get_or l j false) is ∙ get_or-replicate count j false false (omega (arith, lt, n));
     }
 
-pub notes_nothing : (e : Encoded) (guard : Literal) (states : List (List Bool)) (noted : List Bool) → NotesMore e guard states [] noted noted
-notes_nothing e guard states noted = record { is = λ blocks h. subst (λ (l : List Clause). AreNoted e guard states l noted) (sym (append-nil blocks)) h }
+pub notes_nothing : (e : Encoded) (activation : Literal) (states : List (List Bool)) (noted : List Bool) → NotesMore e activation states [] noted noted
+notes_nothing e activation states noted = record { is = λ blocks h. subst (λ (l : List Clause). AreNoted e activation states l noted) (sym (append-nil blocks)) h }
 
 one_more : (blocks : List Clause) (clause due : Clause) → has_clause (blocks ++ clause ∷ []) due ≡ (has_clause blocks due || pointwise same_literal due clause)
 one_more blocks clause due =
@@ -342,10 +342,10 @@ or_none : (b : Bool) → (b || false) ≡ b
 or_none true = refl
 or_none false = refl
 
-pub notes_block : (e : Encoded) (guard : Literal) (states : List (List Bool)) (clause : Clause) (j width : ℕ) (old new : List Bool) →
+pub notes_block : (e : Encoded) (activation : Literal) (states : List (List Bool)) (clause : Clause) (j width : ℕ) (old new : List Bool) →
     width ≡ length e.states → WidthsAre width states → Ascend states →
-    IsDueAt e guard states clause j → new ≡ slice_set old j true → NotesMore e guard states (clause ∷ []) old new
-notes_block e guard states clause j width old new w widths asc at is =
+    IsDueAt e activation states clause j → new ≡ slice_set old j true → NotesMore e activation states (clause ∷ []) old new
+notes_block e activation states clause j width old new w widths asc at is =
     record {
       is = λ blocks h. record {
         each = ap length is ∙ (length-set old j true ∙ h.each);
@@ -356,38 +356,38 @@ notes_block e guard states clause j width old new w widths asc at is =
     wide : (k : ℕ) → k < length states → length (get_or states k []) ≡ length e.states
     wide k lt = widths k [] lt ∙ w
 
-    other : (k : ℕ) → k < length states → (k ≡ j → ⊥) → (b : Bool) → pointwise same_literal (blocking e guard (get_or states k [])) clause ≡ b → b ≡ false
+    other : (k : ℕ) → k < length states → (k ≡ j → ⊥) → (b : Bool) → pointwise same_literal (blocking e activation (get_or states k [])) clause ≡ b → b ≡ false
     other k lt differ false t = refl
     other k lt differ true t =
-        let same : blocking e guard (get_or states k []) ≡ blocking e guard (get_or states j []) =
-        same_is (blocking e guard (get_or states k [])) clause t ∙ at.is in
+        let same : blocking e activation (get_or states k []) ≡ blocking e activation (get_or states j []) =
+        same_is (blocking e activation (get_or states k [])) clause t ∙ at.is in
         absurd (differ (distinct states asc k j lt at.below
-        (blocking_differ e guard (get_or states k []) (get_or states j []) (wide k lt) (wide j at.below) same)))
+        (blocking_differ e activation (get_or states k []) (get_or states j []) (wide k lt) (wide j at.below) same)))
 
-    apart : (blocks : List Clause) → AreNoted e guard states blocks old → (k : ℕ) → k < length states → (k ≡ j → ⊥) →
-        get_or new k false ≡ has_clause (blocks ++ clause ∷ []) (blocking e guard (get_or states k []))
+    apart : (blocks : List Clause) → AreNoted e activation states blocks old → (k : ℕ) → k < length states → (k ≡ j → ⊥) →
+        get_or new k false ≡ has_clause (blocks ++ clause ∷ []) (blocking e activation (get_or states k []))
     apart blocks h k lt differ =
         ap (λ (l : List Bool). get_or l k false) is
         ∙ (get_or-set_other old j k true false differ
         ∙ (h.right k lt
-        ∙ (sym (or_none (has_clause blocks (blocking e guard (get_or states k []))))
-        ∙ (ap (λ (b : Bool). has_clause blocks (blocking e guard (get_or states k [])) || b)
-        (sym (other k lt differ (pointwise same_literal (blocking e guard (get_or states k [])) clause) refl))
-        ∙ sym (one_more blocks clause (blocking e guard (get_or states k [])))))))
+        ∙ (sym (or_none (has_clause blocks (blocking e activation (get_or states k []))))
+        ∙ (ap (λ (b : Bool). has_clause blocks (blocking e activation (get_or states k [])) || b)
+        (sym (other k lt differ (pointwise same_literal (blocking e activation (get_or states k [])) clause) refl))
+        ∙ sym (one_more blocks clause (blocking e activation (get_or states k [])))))))
 
-    by : (blocks : List Clause) → AreNoted e guard states blocks old → (k : ℕ) → k < length states → (k ≡ j) ⊎ ((k < j) ⊎ (j < k)) →
-        get_or new k false ≡ has_clause (blocks ++ clause ∷ []) (blocking e guard (get_or states k []))
+    by : (blocks : List Clause) → AreNoted e activation states blocks old → (k : ℕ) → k < length states → (k ≡ j) ⊎ ((k < j) ⊎ (j < k)) →
+        get_or new k false ≡ has_clause (blocks ++ clause ∷ []) (blocking e activation (get_or states k []))
     by blocks h k lt (inl same) =
         let here : get_or new k false ≡ true =
         ap (λ (l : List Bool). get_or l k false) is
         ∙ (ap (λ (i : ℕ). get_or (slice_set old j true) i false) same ∙ get_or-set_same old j true false (omega (arith, at.below, h.each))) in
-        let there : pointwise same_literal (blocking e guard (get_or states k [])) clause ≡ true =
-        is_same (blocking e guard (get_or states k [])) clause (ap (λ (i : ℕ). blocking e guard (get_or states i [])) same ∙ sym at.is) in
+        let there : pointwise same_literal (blocking e activation (get_or states k [])) clause ≡ true =
+        is_same (blocking e activation (get_or states k [])) clause (ap (λ (i : ℕ). blocking e activation (get_or states i [])) same ∙ sym at.is) in
         here
         ∙ sym
-        (one_more blocks clause (blocking e guard (get_or states k []))
-        ∙ (ap (λ (b : Bool). has_clause blocks (blocking e guard (get_or states k [])) || b) there
-        ∙ or_true (has_clause blocks (blocking e guard (get_or states k [])))))
+        (one_more blocks clause (blocking e activation (get_or states k []))
+        ∙ (ap (λ (b : Bool). has_clause blocks (blocking e activation (get_or states k [])) || b) there
+        ∙ or_true (has_clause blocks (blocking e activation (get_or states k [])))))
     by blocks h k lt (inr (inl less)) = apart blocks h k lt (λ same. omega (arith, less, same))
     by blocks h k lt (inr (inr more)) = apart blocks h k lt (λ same. omega (arith, more, same))
 
@@ -424,12 +424,12 @@ unknown_one test lines i line lt is f =
     and_none true = refl
     and_none false = refl
 
-pub noted_more : (e : Encoded) (guard : Literal) (states : List (List Bool)) (lines : List Line) (i : ℕ) (line : Line) (old new : List Bool) →
+pub noted_more : (e : Encoded) (activation : Literal) (states : List (List Bool)) (lines : List Line) (i : ℕ) (line : Line) (old new : List Bool) →
     i < length lines → line ≡ get_or lines i line →
-    AreNoted e guard states (blocks_in (take i lines)) old → NotesMore e guard states (blocks_in (line ∷ [])) old new →
-    AreNoted e guard states (blocks_in (take (i + 1) lines)) new
-noted_more e guard states lines i line old new lt is h more =
-    subst (λ (l : List Clause). AreNoted e guard states l new) (sym (blocks_more lines i line lt is)) (more.is (blocks_in (take i lines)) h)
+    AreNoted e activation states (blocks_in (take i lines)) old → NotesMore e activation states (blocks_in (line ∷ [])) old new →
+    AreNoted e activation states (blocks_in (take (i + 1) lines)) new
+noted_more e activation states lines i line old new lt is h more =
+    subst (λ (l : List Clause). AreNoted e activation states l new) (sym (blocks_more lines i line lt is)) (more.is (blocks_in (take i lines)) h)
 
 -- ---- all candidates
 
@@ -443,12 +443,12 @@ all_alike p q (a ∷ xs) (b ∷ ys) x y e h =
     ap (λ (t : Bool). t && list_all p xs) (h 0 (omega arith))
     ∙ ap (λ (t : Bool). q b && t) (all_alike p q xs ys x y (omega arith) (λ j lt. h (suc j) (omega arith)))
 
-pub all_noted : (e : Encoded) (guard : Literal) (states : List (List Bool)) (blocks : List Clause) (noted : List Bool) → AreNoted e guard states blocks noted →
-    list_all (λ b. b) noted ≡ list_all (has_clause blocks) (map (blocking e guard) states)
-all_noted e guard states blocks noted h =
-    all_alike (λ (b : Bool). b) (has_clause blocks) noted (map (blocking e guard) states) false [] (h.each ∙ sym (length-map states (blocking e guard)))
-    (λ j lt. let below : j < length states = omega (arith, lt, length-map states (blocking e guard)) in h.right j below
-    ∙ ap (has_clause blocks) (sym (due_here e guard states j below)))
+pub all_noted : (e : Encoded) (activation : Literal) (states : List (List Bool)) (blocks : List Clause) (noted : List Bool) → AreNoted e activation states blocks noted →
+    list_all (λ b. b) noted ≡ list_all (has_clause blocks) (map (blocking e activation) states)
+all_noted e activation states blocks noted h =
+    all_alike (λ (b : Bool). b) (has_clause blocks) noted (map (blocking e activation) states) false [] (h.each ∙ sym (length-map states (blocking e activation)))
+    (λ j lt. let below : j < length states = omega (arith, lt, length-map states (blocking e activation)) in h.right j below
+    ∙ ap (has_clause blocks) (sym (due_here e activation states j below)))
 
 count_more : (line : Line) (rest : List Line) → count_by is_block (line ∷ rest) ≡ cond (is_block line) 1 0 + count_by is_block rest
 count_more line rest = sum_by-cons (λ (l : Line). cond (is_block l) 1 0) line rest
@@ -464,46 +464,46 @@ blocks_count (Delete ids ∷ rest) = let h = blocks_count rest in omega (arith, 
 
 -- ---- a line's block
 
-pub line_is_due : (e : Encoded) (guard : Literal) (states : List (List Bool)) (clause : Clause) (j id : ℕ) (line : Line) → line ≡ Block id clause →
-    IsDueAt e guard states clause j →
-    true ≡ list_all (has_clause (map (blocking e guard) states)) (blocks_in (line ∷ []))
-line_is_due e guard states clause j id line is at =
+pub line_is_due : (e : Encoded) (activation : Literal) (states : List (List Bool)) (clause : Clause) (j id : ℕ) (line : Line) → line ≡ Block id clause →
+    IsDueAt e activation states clause j →
+    true ≡ list_all (has_clause (map (blocking e activation) states)) (blocks_in (line ∷ []))
+line_is_due e activation states clause j id line is at =
     sym
-    (ap (λ (l : Line). list_all (has_clause (map (blocking e guard) states)) (blocks_in (l ∷ []))) is
-    ∙ ap (λ (b : Bool). b && true) (due_known e guard states clause j at))
+    (ap (λ (l : Line). list_all (has_clause (map (blocking e activation) states)) (blocks_in (l ∷ []))) is
+    ∙ ap (λ (b : Bool). b && true) (due_known e activation states clause j at))
 
-pub line_is_noted : (e : Encoded) (guard : Literal) (states : List (List Bool)) (clause : Clause) (j id width : ℕ) (line : Line)
+pub line_is_noted : (e : Encoded) (activation : Literal) (states : List (List Bool)) (clause : Clause) (j id width : ℕ) (line : Line)
     (old new : List Bool) → line ≡ Block id clause → width ≡ length e.states →
-    WidthsAre width states → Ascend states → IsDueAt e guard states clause j → new ≡ slice_set old j true →
-    NotesMore e guard states (blocks_in (line ∷ [])) old new
-line_is_noted e guard states clause j id width line old new is w widths asc at n =
-    subst (λ (l : Line). NotesMore e guard states (blocks_in (l ∷ [])) old new) (sym is) (notes_block e guard states clause j width old new w widths asc at n)
+    WidthsAre width states → Ascend states → IsDueAt e activation states clause j → new ≡ slice_set old j true →
+    NotesMore e activation states (blocks_in (line ∷ [])) old new
+line_is_noted e activation states clause j id width line old new is w widths asc at n =
+    subst (λ (l : Line). NotesMore e activation states (blocks_in (l ∷ [])) old new) (sym is) (notes_block e activation states clause j width old new w widths asc at n)
 
 -- ---- the whole test
 
-pub counts_differ : (e : Encoded) (guard : Literal) (cands : List Cand) (lines : List Line) (count : ℕ) → count ≡ count_by is_block lines →
+pub counts_differ : (e : Encoded) (activation : Literal) (cands : List Cand) (lines : List Line) (count : ℕ) → count ≡ count_by is_block lines →
     (count ≡ length cands → ⊥) →
-    false ≡ are_right_blocks (blocks_due guard (block_for e) cands) (blocks_in lines)
-counts_differ e guard cands lines count n differ =
-    let long : length (map (blocking e guard) (listed cands)) ≡ length cands = length-map (listed cands) (blocking e guard) ∙ listed_length cands in
-    let apart : (length (blocks_in lines) == length (map (blocking e guard) (listed cands))) ≡ false =
-    not_same (length (blocks_in lines)) (length (map (blocking e guard) (listed cands))) (λ same. differ (n ∙ (blocks_count lines ∙ (same ∙ long)))) in
+    false ≡ are_right_blocks (blocks_due activation (block_for e) cands) (blocks_in lines)
+counts_differ e activation cands lines count n differ =
+    let long : length (map (blocking e activation) (listed cands)) ≡ length cands = length-map (listed cands) (blocking e activation) ∙ listed_length cands in
+    let apart : (length (blocks_in lines) == length (map (blocking e activation) (listed cands))) ≡ false =
+    not_same (length (blocks_in lines)) (length (map (blocking e activation) (listed cands))) (λ same. differ (n ∙ (blocks_count lines ∙ (same ∙ long)))) in
     sym
-    (ap (λ (b : Bool). b && list_all (has_clause (map (blocking e guard) (listed cands))) (blocks_in lines) && list_all (has_clause (blocks_in lines))
-    (map (blocking e guard) (listed cands))) apart)
+    (ap (λ (b : Bool). b && list_all (has_clause (map (blocking e activation) (listed cands))) (blocks_in lines) && list_all (has_clause (blocks_in lines))
+    (map (blocking e activation) (listed cands))) apart)
 
-pub blocks_are_right : (e : Encoded) (guard : Literal) (cands : List Cand) (lines : List Line) (count : ℕ) (noted : List Bool) (known right : Bool) →
+pub blocks_are_right : (e : Encoded) (activation : Literal) (cands : List Cand) (lines : List Line) (count : ℕ) (noted : List Bool) (known right : Bool) →
     count ≡ count_by is_block lines → count ≡ length cands →
-    known ≡ list_all (has_clause (map (blocking e guard) (listed cands))) (blocks_in lines) → known ≡ true →
-    AreNoted e guard (listed cands) (blocks_in lines) noted → right ≡ list_all (λ b. b) noted →
-    right ≡ are_right_blocks (blocks_due guard (block_for e) cands) (blocks_in lines)
-blocks_are_right e guard cands lines count noted known right n same k t h r =
-    let long : length (map (blocking e guard) (listed cands)) ≡ length cands = length-map (listed cands) (blocking e guard) ∙ listed_length cands in
-    let alike : (length (blocks_in lines) == length (map (blocking e guard) (listed cands))) ≡ true =
-    eq-eqb (length (blocks_in lines)) (length (map (blocking e guard) (listed cands))) (sym (blocks_count lines) ∙ (sym n ∙ (same ∙ sym long))) in
+    known ≡ list_all (has_clause (map (blocking e activation) (listed cands))) (blocks_in lines) → known ≡ true →
+    AreNoted e activation (listed cands) (blocks_in lines) noted → right ≡ list_all (λ b. b) noted →
+    right ≡ are_right_blocks (blocks_due activation (block_for e) cands) (blocks_in lines)
+blocks_are_right e activation cands lines count noted known right n same k t h r =
+    let long : length (map (blocking e activation) (listed cands)) ≡ length cands = length-map (listed cands) (blocking e activation) ∙ listed_length cands in
+    let alike : (length (blocks_in lines) == length (map (blocking e activation) (listed cands))) ≡ true =
+    eq-eqb (length (blocks_in lines)) (length (map (blocking e activation) (listed cands))) (sym (blocks_count lines) ∙ (sym n ∙ (same ∙ sym long))) in
     r
-    ∙ (all_noted e guard (listed cands) (blocks_in lines) noted h
+    ∙ (all_noted e activation (listed cands) (blocks_in lines) noted h
     ∙ sym
-    (ap (λ (b : Bool). b && list_all (has_clause (map (blocking e guard) (listed cands))) (blocks_in lines) && list_all (has_clause (blocks_in lines))
-    (map (blocking e guard) (listed cands))) alike
-    ∙ ap (λ (b : Bool). b && list_all (has_clause (blocks_in lines)) (map (blocking e guard) (listed cands))) (sym k ∙ t)))
+    (ap (λ (b : Bool). b && list_all (has_clause (map (blocking e activation) (listed cands))) (blocks_in lines) && list_all (has_clause (blocks_in lines))
+    (map (blocking e activation) (listed cands))) alike
+    ∙ ap (λ (b : Bool). b && list_all (has_clause (blocks_in lines)) (map (blocking e activation) (listed cands))) (sym k ∙ t)))

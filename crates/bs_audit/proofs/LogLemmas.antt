@@ -25,12 +25,12 @@ use Rattle.bs_audit.proofs.Lines.{blocks_undeleted, finishes_undeleted}
 
 -- ---- what each step assumes
 
-pub assumptions_more : (e : Encoded) (steps : List Step) (i : ℕ) (step : Step) (all new : List Clause) (own : Clause) (guard : Literal) →
+pub assumptions_more : (e : Encoded) (steps : List Step) (i : ℕ) (step : Step) (all new : List Clause) (own : Clause) (activation : Literal) →
     i < length steps → step ≡ get_or steps i step →
-    all ≡ steps_from e 1 (map present_of (take i steps)) → guard ≡ lit (e.variables + (i + 1)) true →
-    own ≡ assumptions_for e guard (present_of step) → new ≡ all ++ own ∷ [] →
+    all ≡ steps_from e 1 (map present_of (take i steps)) → activation ≡ lit (e.variables + (i + 1)) true →
+    own ≡ assumptions_for e activation (present_of step) → new ≡ all ++ own ∷ [] →
     new ≡ steps_from e 1 (map present_of (take (i + 1) steps))
-assumptions_more e steps i step all new own guard lt is a g o n =
+assumptions_more e steps i step all new own activation lt is a g o n =
     let more : map present_of (take (i + 1) steps) ≡ map present_of (take i steps) ++ present_of step ∷ [] =
     map_more present_of steps i step lt ∙ ap (λ (s : Step). map present_of (take i steps) ++ present_of s ∷ []) (sym is) in
     let long : i + 1 ≡ 1 + length (map present_of (take i steps)) =
@@ -109,38 +109,38 @@ finish_undeleted e assumptions b i step lines =
     unless (are_right_blocks (blocks_due (lit (e.variables + (i + 1)) true) (block_for e) step.cands) l) (parts.Blocks (i + 1)) ∷
     unless (is_right_finish b assumptions (undeleted lines) step.end (finishes_in (undeleted lines))) (parts.Ended (i + 1)) ∷ []) (blocks_undeleted lines)
 
-first_is : (e : Encoded) (assumptions : Clause) (b i : ℕ) (step : Step) (lines : List Line) (guard : Literal) (right : Bool) →
-    guard ≡ lit (e.variables + (i + 1)) true →
-    right ≡ are_right_blocks (blocks_due guard (block_for e) step.cands) (blocks_in lines) →
+first_is : (e : Encoded) (assumptions : Clause) (b i : ℕ) (step : Step) (lines : List Line) (activation : Literal) (right : Bool) →
+    activation ≡ lit (e.variables + (i + 1)) true →
+    right ≡ are_right_blocks (blocks_due activation (block_for e) step.cands) (blocks_in lines) →
     first_of_all (lines_parts e assumptions b i step (undeleted lines))
     ≡ option_or (unless right (parts.Blocks (i + 1)))
     (option_or (unless (is_right_finish b assumptions (undeleted lines) step.end (finishes_in (undeleted lines))) (parts.Ended (i + 1))) None)
-first_is e assumptions b i step lines guard right g r =
+first_is e assumptions b i step lines activation right g r =
     ap first_of_all (finish_undeleted e assumptions b i step lines)
     ∙ ap (λ (t : Bool).
     option_or (unless t (parts.Blocks (i + 1)))
     (option_or (unless (is_right_finish b assumptions (undeleted lines) step.end (finishes_in (undeleted lines))) (parts.Ended (i + 1))) None))
     (sym (r ∙ ap (λ (l : Literal). are_right_blocks (blocks_due l (block_for e) step.cands) (blocks_in lines)) g))
 
-pub blocks_fail : (e : Encoded) (assumptions : Clause) (b i : ℕ) (step : Step) (lines : List Line) (guard : Literal) (right : Bool) →
-    guard ≡ lit (e.variables + (i + 1)) true →
-    right ≡ are_right_blocks (blocks_due guard (block_for e) step.cands) (blocks_in lines) → right ≡ false →
+pub blocks_fail : (e : Encoded) (assumptions : Clause) (b i : ℕ) (step : Step) (lines : List Line) (activation : Literal) (right : Bool) →
+    activation ≡ lit (e.variables + (i + 1)) true →
+    right ≡ are_right_blocks (blocks_due activation (block_for e) step.cands) (blocks_in lines) → right ≡ false →
     Some (parts.Blocks (i + 1)) ≡ first_of_all (lines_parts e assumptions b i step (undeleted lines))
-blocks_fail e assumptions b i step lines guard right g r f =
+blocks_fail e assumptions b i step lines activation right g r f =
     sym
-    (first_is e assumptions b i step lines guard right g r
+    (first_is e assumptions b i step lines activation right g r
     ∙ ap (λ (t : Bool).
     option_or (unless t (parts.Blocks (i + 1)))
     (option_or (unless (is_right_finish b assumptions (undeleted lines) step.end (finishes_in (undeleted lines))) (parts.Ended (i + 1))) None)) f)
 
-pub end_is : (e : Encoded) (assumptions : Clause) (b i : ℕ) (step : Step) (lines : List Line) (guard : Literal) (right ended : Bool) →
-    guard ≡ lit (e.variables + (i + 1)) true →
-    right ≡ are_right_blocks (blocks_due guard (block_for e) step.cands) (blocks_in lines) → right ≡ true →
+pub end_is : (e : Encoded) (assumptions : Clause) (b i : ℕ) (step : Step) (lines : List Line) (activation : Literal) (right ended : Bool) →
+    activation ≡ lit (e.variables + (i + 1)) true →
+    right ≡ are_right_blocks (blocks_due activation (block_for e) step.cands) (blocks_in lines) → right ≡ true →
     ended ≡ is_right_finish b assumptions (undeleted lines) step.end (finishes_in lines) →
     option_or (unless ended (parts.Ended (i + 1))) None ≡ first_of_all (lines_parts e assumptions b i step (undeleted lines))
-end_is e assumptions b i step lines guard right ended g r t d =
+end_is e assumptions b i step lines activation right ended g r t d =
     sym
-    (first_is e assumptions b i step lines guard right g r
+    (first_is e assumptions b i step lines activation right g r
     ∙ (ap (λ (t : Bool).
     option_or (unless t (parts.Blocks (i + 1)))
     (option_or (unless (is_right_finish b assumptions (undeleted lines) step.end (finishes_in (undeleted lines))) (parts.Ended (i + 1))) None)) t

@@ -49,16 +49,16 @@ fn blocked_state(
     alloc: Global,
     encoding: &Encoding,
     width: usize,
-    guard: Lit,
+    activation: Lit,
     clause: &[Lit],
 ) -> Result<Option<Bits>, NoMemory>
     requires { width ≡ length encoding.now.states }
-    ensures { IfOk result (λ state. MatchOption state (BlocksNone encoding.now guard clause.now) (Blocks encoding.now guard clause.now)) }
+    ensures { IfOk result (λ state. MatchOption state (BlocksNone encoding.now activation clause.now) (Blocks encoding.now activation clause.now)) }
 {
     match clause.split_first() {
         None => Ok(None),
         Some((first, rest)) => {
-            if !is_same(*first, guard.negate()) {
+            if !is_same(*first, activation.negate()) {
                 return Ok(None);
             }
             if !are_of_state(encoding, width, rest) {
@@ -92,16 +92,16 @@ fn blocked_place(
     alloc: Global,
     encoding: &Encoding,
     width: usize,
-    guard: Lit,
+    activation: Lit,
     cands: &[Cand],
     clause: &[Lit],
 ) -> Result<Option<usize>, NoMemory>
     requires width { width ≡ length encoding.now.states }
     requires ascend { Ascend (listed cands.now) }
     requires widths { All (λ s. length s ≡ width) (listed cands.now) }
-    ensures { IfOk result (λ place. MatchOption place (IsNotDue encoding.now guard (listed cands.now) clause.now) (IsDueAt encoding.now guard (listed cands.now) clause.now)) }
+    ensures { IfOk result (λ place. MatchOption place (IsNotDue encoding.now activation (listed cands.now) clause.now) (IsDueAt encoding.now activation (listed cands.now) clause.now)) }
 {
-    match blocked_state(alloc, encoding, width, guard, clause)? {
+    match blocked_state(alloc, encoding, width, activation, clause)? {
         None => Ok(None),
         Some(state) => Ok(place_of(cands, &state)),
     }
@@ -112,7 +112,7 @@ fn note_line(
     alloc: Global,
     encoding: &Encoding,
     width: usize,
-    guard: Lit,
+    activation: Lit,
     cands: &[Cand],
     line: &Line,
     noted: &mut Vec<bool>,
@@ -121,12 +121,12 @@ fn note_line(
     requires ascend { Ascend (listed cands.now) }
     requires widths { All (λ s. length s ≡ width) (listed cands.now) }
     requires room { length noted.old.items ≡ length cands.now }
-    ensures known { IfOk result (λ known. known ≡ list_all (has_clause (blocks_due guard (block_for encoding.now) cands.now)) (blocks_in (line.now ∷ []))) }
-    ensures noted { IfOk result (λ known. IsTrue known → NotesMore encoding.now guard (listed cands.now) (blocks_in (line.now ∷ [])) noted.old.items noted.new.items) }
+    ensures known { IfOk result (λ known. known ≡ list_all (has_clause (blocks_due activation (block_for encoding.now) cands.now)) (blocks_in (line.now ∷ []))) }
+    ensures noted { IfOk result (λ known. IsTrue known → NotesMore encoding.now activation (listed cands.now) (blocks_in (line.now ∷ [])) noted.old.items noted.new.items) }
 {
     match line {
         Line::Block { lits, .. } => {
-            match blocked_place(alloc, encoding, width, guard, cands, lits.slice())? {
+            match blocked_place(alloc, encoding, width, activation, cands, lits.slice())? {
                 None => Ok(false),
                 Some(place) => {
                     noted[place] = true;
@@ -143,7 +143,7 @@ fn note_lines(
     alloc: Global,
     encoding: &Encoding,
     width: usize,
-    guard: Lit,
+    activation: Lit,
     cands: &[Cand],
     lines: &[Line],
     noted: &mut Vec<bool>,
@@ -151,12 +151,12 @@ fn note_lines(
     requires width { width ≡ length encoding.now.states }
     requires ascend { Ascend (listed cands.now) }
     requires widths { All (λ s. length s ≡ width) (listed cands.now) }
-    requires none { AreNoted encoding.now guard (listed cands.now) [] noted.old.items }
-    ensures known { IfOk result (λ known. known ≡ list_all (has_clause (blocks_due guard (block_for encoding.now) cands.now)) (blocks_in lines.now)) }
-    ensures noted { IfOk result (λ known. IsTrue known → AreNoted encoding.now guard (listed cands.now) (blocks_in lines.now) noted.new.items) }
+    requires none { AreNoted encoding.now activation (listed cands.now) [] noted.old.items }
+    ensures known { IfOk result (λ known. known ≡ list_all (has_clause (blocks_due activation (block_for encoding.now) cands.now)) (blocks_in lines.now)) }
+    ensures noted { IfOk result (λ known. IsTrue known → AreNoted encoding.now activation (listed cands.now) (blocks_in lines.now) noted.new.items) }
 {
     'lines: for line in lines {
-        if !note_line(alloc, encoding, width, guard, cands, line, noted)? {
+        if !note_line(alloc, encoding, width, activation, cands, line, noted)? {
             return Ok(false);
         }
     }
@@ -196,20 +196,20 @@ pub fn are_right_blocks(
     alloc: Global,
     encoding: &Encoding,
     width: usize,
-    guard: Lit,
+    activation: Lit,
     cands: &[Cand],
     lines: &[Line],
 ) -> Result<bool, NoMemory>
     requires width { width ≡ length encoding.now.states }
     requires ascend { Ascend (listed cands.now) }
     requires widths { All (λ s. length s ≡ width) (listed cands.now) }
-    ensures { IfOk result (λ right. right ≡ are_right_blocks (blocks_due guard (block_for encoding.now) cands.now) (blocks_in lines.now)) }
+    ensures { IfOk result (λ right. right ≡ are_right_blocks (blocks_due activation (block_for encoding.now) cands.now) (blocks_in lines.now)) }
 {
     if count_blocks(lines) != cands.len() {
         return Ok(false);
     }
     let mut noted = none_noted(alloc, cands.len())?;
-    if !note_lines(alloc, encoding, width, guard, cands, lines, &mut noted)? {
+    if !note_lines(alloc, encoding, width, activation, cands, lines, &mut noted)? {
         return Ok(false);
     }
     Ok(are_noted(noted.as_slice()))

@@ -1,4 +1,4 @@
--- Prints of states, notes of them, and where a look may begin.
+-- Hashes of states, notes of them, and where a look may begin.
 use Rattle.std.proofs.Common.{◌≡◌, ℕ, ◌<◌, ◌≤◌, ◌+◌, ◌-◌, ◌*◌, ◌/◌, ◌%◌, ◌^◌, Bool, true, false, List, [], ◌∷◌, ◌++◌, length, map, take, get_or, refl}
 use Rattle.std.proofs.Common.{arith, ap, ap₂, sym, subst, ◌∙◌, ⊎_elim, Option, Some, None, min, cond, suc, inl, inr, ◌||◌, ◌⊎◌}
 use Rattle.std.proofs.Math.Nat.{mul-suc, mul_assoc, add-mul, div-mul-le_self, div-eq_of_lt, lt-div-mul-add}
@@ -20,29 +20,29 @@ use Rattle.bs_lanes_planes.specs.Planes.{lane, bit_place}
 use Rattle.bs_scan.specs.Moments.{Run, run_of, state_at}
 use Rattle.bs_scan.proofs.SignatureLemmas.{bits_same_is}
 use Rattle.bs_chip.specs.Index.{HasBy, Keeps, NotesLanes, NotesCycle, NotesCycles, HasNoneBefore, IsNoted, IsPaid, is_cycle}
-use Rattle.bs_chip.specs.Index.{AddsLanes, AddsPrint, IsAdded, IsFirstPrinted, NotesFirsts}
+use Rattle.bs_chip.specs.Index.{AddsLanes, AddsHash, IsAdded, IsFirstHashed, NotesFirsts}
 use Rattle.bs_chip.specs.Lockstep.{wide_of, ShowsCycle, NoneBefore}
-use Rattle.bs_chip.specs.Prints.{print_more, print_of}
+use Rattle.bs_chip.specs.Hashes.{hash_more, hash_of}
 use Rattle.bs_chip.proofs.LaneLemmas.{place_of}
 
--- ---- prints
+-- ---- hashes
 
-pub print_snoc : (bits : List Bool) (bit : Bool) → print_of (bits ++ bit ∷ []) ≡ print_more (print_of bits) bit
-print_snoc bits bit = fold-append print_more 0 bits (bit ∷ [])
+pub hash_snoc : (bits : List Bool) (bit : Bool) → hash_of (bits ++ bit ∷ []) ≡ hash_more (hash_of bits) bit
+hash_snoc bits bit = fold-append hash_more 0 bits (bit ∷ [])
 
-pub print_next : (bits : List Bool) (i print next : ℕ) (bit : Bool) → i < length bits → bit ≡ get_or bits i false → print ≡ print_of (take i bits) →
-    next ≡ print_more print bit → next ≡ print_of (take (i + 1) bits)
-print_next bits i print next bit lt e h n =
-    n ∙ (ap₂ print_more h e ∙ (sym (print_snoc (take i bits) (get_or bits i false)) ∙ sym (ap print_of (take_more bits i false lt))))
+pub hash_next : (bits : List Bool) (i hash next : ℕ) (bit : Bool) → i < length bits → bit ≡ get_or bits i false → hash ≡ hash_of (take i bits) →
+    next ≡ hash_more hash bit → next ≡ hash_of (take (i + 1) bits)
+hash_next bits i hash next bit lt e h n =
+    n ∙ (ap₂ hash_more h e ∙ (sym (hash_snoc (take i bits) (get_or bits i false)) ∙ sym (ap hash_of (take_more bits i false lt))))
 
-pub lane_next : (wide i r print next : ℕ) (words : List ℕ) (bit : Bool) → bit ≡ bit_in words ((i * wide + r / 64) * 64 + r % 64) →
-    print ≡ print_of (lane wide i words r) → next ≡ print_more print bit → next ≡ print_of (lane wide (i + 1) words r)
-lane_next wide i r print next words bit e h n =
+pub lane_next : (wide i r hash next : ℕ) (words : List ℕ) (bit : Bool) → bit ≡ bit_in words ((i * wide + r / 64) * 64 + r % 64) →
+    hash ≡ hash_of (lane wide i words r) → next ≡ hash_more hash bit → next ≡ hash_of (lane wide (i + 1) words r)
+lane_next wide i r hash next words bit e h n =
     let f : ℕ → Bool = λ plane. bit_in words (bit_place wide plane r) in
     let here : bit ≡ f i = e ∙ ap (bit_in words) (place_of wide i r) in
     n
-    ∙ (ap₂ print_more h here
-    ∙ (sym (print_snoc (lane wide i words r) (f i)) ∙ sym (ap print_of (map-range_with_len_more f 0 i i (omega arith)))))
+    ∙ (ap₂ hash_more h here
+    ∙ (sym (hash_snoc (lane wide i words r) (f i)) ∙ sym (ap hash_of (map-range_with_len_more f 0 i i (omega arith)))))
 
 -- ---- notes
 
@@ -63,36 +63,36 @@ before_all (Some c) from k lt h = omega (arith, lt, h)
 
 module _ {S : Type 0} where
   pub keeps_same : (old : HashMap ℕ ℕ S) → Keeps old old
-  keeps_same old = record { each = λ print cycle h. h }
+  keeps_same old = record { each = λ hash cycle h. h }
 
   pub keeps_more : (old mid new : HashMap ℕ ℕ S) → Keeps old mid → Keeps mid new → Keeps old new
-  keeps_more old mid new f g = record { each = λ print cycle h. g.each print cycle (f.each print cycle h) }
+  keeps_more old mid new f g = record { each = λ hash cycle h. g.each hash cycle (f.each hash cycle h) }
 
   pub keeps_unchanged : (old new : HashMap ℕ ℕ S) → new.entries ≡ old.entries → Keeps old new
   keeps_unchanged old new e =
       record {
-        each = λ print cycle h.
-            let P : List (ℕ × ℕ) → Type 0 = λ es. unwrap_or (lookup (nat_eq print) es) (cycle + 1) ≤ cycle in subst P (sym e) h;
+        each = λ hash cycle h.
+            let P : List (ℕ × ℕ) → Type 0 = λ es. unwrap_or (lookup (nat_eq hash) es) (cycle + 1) ≤ cycle in subst P (sym e) h;
       }
 
-  pub put_keeps : (old new : HashMap ℕ ℕ S) (print cycle : ℕ) → cycle < unwrap_or (get nat_eq old print) (cycle + 1) →
-      ((q : ℕ) → get nat_eq new q ≡ cond (nat_eq print q) (Some cycle) (get nat_eq old q)) → Keeps old new
-  put_keeps old new print cycle late puts = record { each = each }
+  pub put_keeps : (old new : HashMap ℕ ℕ S) (hash cycle : ℕ) → cycle < unwrap_or (get nat_eq old hash) (cycle + 1) →
+      ((q : ℕ) → get nat_eq new q ≡ cond (nat_eq hash q) (Some cycle) (get nat_eq old q)) → Keeps old new
+  put_keeps old new hash cycle late puts = record { each = each }
     where
-      by : (b : Bool) (q k : ℕ) → nat_eq print q ≡ b → unwrap_or (get nat_eq old q) (k + 1) ≤ k →
+      by : (b : Bool) (q k : ℕ) → nat_eq hash q ≡ b → unwrap_or (get nat_eq old q) (k + 1) ≤ k →
           unwrap_or (cond {A = Option ℕ} b (Some cycle) (get nat_eq old q)) (k + 1) ≤ k
       by true q k e h =
           let P : ℕ → Type 0 = λ n. cycle < unwrap_or (get nat_eq old n) (cycle + 1) in
-          sooner (get nat_eq old q) cycle k (subst P (same_number print q e) late) h
+          sooner (get nat_eq old q) cycle k (subst P (same_number hash q e) late) h
       by false q k e h = h
 
       each : (q k : ℕ) → HasBy old q k → HasBy new q k
       each q k h =
           let P : Option ℕ → Type 0 = λ o. unwrap_or o (k + 1) ≤ k in
-          subst P (sym (puts q)) (by (nat_eq print q) q k refl h)
+          subst P (sym (puts q)) (by (nat_eq hash q) q k refl h)
 
-  pub put_notes : (new : HashMap ℕ ℕ S) (print cycle : ℕ) → get nat_eq new print ≡ Some cycle → HasBy new print cycle
-  put_notes new print cycle e = (let P : Option ℕ → Type 0 = λ o. unwrap_or o (cycle + 1) ≤ cycle in subst P (sym e) (omega arith))
+  pub put_notes : (new : HashMap ℕ ℕ S) (hash cycle : ℕ) → get nat_eq new hash ≡ Some cycle → HasBy new hash cycle
+  put_notes new hash cycle e = (let P : Option ℕ → Type 0 = λ o. unwrap_or o (cycle + 1) ≤ cycle in subst P (sym e) (omega arith))
 
   pub lanes_none : (runs : List Run) (first : HashMap ℕ ℕ S) (planes : List ℕ) (width cycle : ℕ) → NotesLanes runs first planes width cycle 0
   lanes_none runs first planes width cycle = record { each = λ r from below last. absurd (omega (arith, from, below)) }
@@ -101,13 +101,13 @@ module _ {S : Type 0} where
       NotesLanes runs old planes width cycle below → NotesLanes runs new planes width cycle below
   lanes_keep runs old new planes width cycle below keeps h = record { each = λ r from within last. keeps.each _ cycle (h.each r from within last) }
 
-  pub lanes_more : (runs : List Run) (old new : HashMap ℕ ℕ S) (planes : List ℕ) (width cycle at wide print : ℕ) → wide ≡ wide_of (length runs) →
-      print ≡ print_of (lane wide width planes at) → Keeps old new → HasBy new print cycle → NotesLanes runs old planes width cycle at →
+  pub lanes_more : (runs : List Run) (old new : HashMap ℕ ℕ S) (planes : List ℕ) (width cycle at wide hash : ℕ) → wide ≡ wide_of (length runs) →
+      hash ≡ hash_of (lane wide width planes at) → Keeps old new → HasBy new hash cycle → NotesLanes runs old planes width cycle at →
       NotesLanes runs new planes width cycle (at + 1)
-  lanes_more runs old new planes width cycle at wide print w p keeps here h =
+  lanes_more runs old new planes width cycle at wide hash w p keeps here h =
       let back : at ≡ at + 1 - 1 = omega arith in
-      let P : ℕ → Type 0 = λ n. HasBy new (print_of (lane (wide_of (length runs)) width planes n)) cycle in
-      let Q : ℕ → Type 0 = λ n. HasBy new (print_of (lane n width planes at)) cycle in
+      let P : ℕ → Type 0 = λ n. HasBy new (hash_of (lane (wide_of (length runs)) width planes n)) cycle in
+      let Q : ℕ → Type 0 = λ n. HasBy new (hash_of (lane n width planes at)) cycle in
       let R : ℕ → Type 0 = λ n. HasBy new n cycle in
       let mine : P (at + 1 - 1) = subst P back (subst Q w (subst R p here)) in
       record {
@@ -135,41 +135,41 @@ module _ {S : Type 0} where
   lanes_shown c runs first planes width cycle w shows h =
       record {
         each = λ r from there last.
-            let P : ℕ → Type 0 = λ n. HasBy first (print_of (lane (wide_of (length runs)) n planes (r - 1))) cycle in
-            let Q : List Bool → Type 0 = λ s. HasBy first (print_of s) cycle in
+            let P : ℕ → Type 0 = λ n. HasBy first (hash_of (lane (wide_of (length runs)) n planes (r - 1))) cycle in
+            let Q : List Bool → Type 0 = λ s. HasBy first (hash_of s) cycle in
             subst Q (shows.each r from there last) (subst P w (h.each r from there last));
       }
 
   -- ---- what has come
 
-  pub adds_none : (old : HashMap ℕ ℕ S) (print cycle : ℕ) → AddsPrint old old print cycle
-  adds_none old print cycle = record { each = λ other at e. inl e }
+  pub adds_none : (old : HashMap ℕ ℕ S) (hash cycle : ℕ) → AddsHash old old hash cycle
+  adds_none old hash cycle = record { each = λ other at e. inl e }
 
-  pub adds_unchanged : (old new : HashMap ℕ ℕ S) (print cycle : ℕ) → new.entries ≡ old.entries → AddsPrint old new print cycle
-  adds_unchanged old new print cycle same =
+  pub adds_unchanged : (old new : HashMap ℕ ℕ S) (hash cycle : ℕ) → new.entries ≡ old.entries → AddsHash old new hash cycle
+  adds_unchanged old new hash cycle same =
       record { each = λ other at e. inl (ap (λ (es : List (ℕ × ℕ)). lookup (nat_eq other) es) (sym same) ∙ e) }
 
-  pub adds_put : (old new : HashMap ℕ ℕ S) (print cycle : ℕ) → cycle < unwrap_or (get nat_eq old print) (cycle + 1) →
-      ((q : ℕ) → get nat_eq new q ≡ cond (nat_eq print q) (Some cycle) (get nat_eq old q)) → AddsPrint old new print cycle
-  adds_put old new print cycle late puts = record { each = λ other at e. by other at (nat_eq print other) refl (sym (puts other) ∙ e) }
+  pub adds_put : (old new : HashMap ℕ ℕ S) (hash cycle : ℕ) → cycle < unwrap_or (get nat_eq old hash) (cycle + 1) →
+      ((q : ℕ) → get nat_eq new q ≡ cond (nat_eq hash q) (Some cycle) (get nat_eq old q)) → AddsHash old new hash cycle
+  adds_put old new hash cycle late puts = record { each = λ other at e. by other at (nat_eq hash other) refl (sym (puts other) ∙ e) }
     where
-      by : (other at : ℕ) (b : Bool) → nat_eq print other ≡ b → cond {A = Option ℕ} b (Some cycle) (get nat_eq old other) ≡ Some at →
-          (get nat_eq old other ≡ Some at) ⊎ ((other ≡ print) × (at ≡ cycle) × (HasBy old print cycle → ⊥))
+      by : (other at : ℕ) (b : Bool) → nat_eq hash other ≡ b → cond {A = Option ℕ} b (Some cycle) (get nat_eq old other) ≡ Some at →
+          (get nat_eq old other ≡ Some at) ⊎ ((other ≡ hash) × (at ≡ cycle) × (HasBy old hash cycle → ⊥))
       by other at true e is =
           let same : cycle ≡ at = cc in
-          inr (sym (same_number print other e), sym same, λ (has : HasBy old print cycle). omega (arith, has, late))
+          inr (sym (same_number hash other e), sym same, λ (has : HasBy old hash cycle). omega (arith, has, late))
       by other at false e is = inl is
 
   pub added_none : (runs : List Run) (old : HashMap ℕ ℕ S) (planes : List ℕ) (width cycle : ℕ) → AddsLanes runs old old planes width cycle 0
-  added_none runs old planes width cycle = record { each = λ print at e. inl e }
+  added_none runs old planes width cycle = record { each = λ hash at e. inl e }
 
   pub added_wider : (runs : List Run) (old new : HashMap ℕ ℕ S) (planes : List ℕ) (width cycle below more : ℕ) → below ≤ more →
       AddsLanes runs old new planes width cycle below → AddsLanes runs old new planes width cycle more
   added_wider runs old new planes width cycle below more le h =
       record {
-        each = λ print at e.
-            ⊎_elim (λ (was : get nat_eq old print ≡ Some at). inl was)
-            (λ (a : IsAdded runs old planes width cycle below print at).
+        each = λ hash at e.
+            ⊎_elim (λ (was : get nat_eq old hash ≡ Some at). inl was)
+            (λ (a : IsAdded runs old planes width cycle below hash at).
             inr
             (record {
               here = a.here;
@@ -180,21 +180,21 @@ module _ {S : Type 0} where
               lasts = a.lasts;
               is = a.is;
             }))
-            (h.each print at e);
+            (h.each hash at e);
       }
 
   pub added_more : (runs : List Run) (old mid new : HashMap ℕ ℕ S) (planes : List ℕ) (width cycle lanes wide mark : ℕ) → wide ≡ wide_of (length runs) →
-      mark ≡ print_of (lane wide width planes lanes) → cycle ≤ length (run_of runs (lanes + 1)) → Keeps old mid →
-      AddsLanes runs old mid planes width cycle lanes → AddsPrint mid new mark cycle → AddsLanes runs old new planes width cycle (lanes + 1)
+      mark ≡ hash_of (lane wide width planes lanes) → cycle ≤ length (run_of runs (lanes + 1)) → Keeps old mid →
+      AddsLanes runs old mid planes width cycle lanes → AddsHash mid new mark cycle → AddsLanes runs old new planes width cycle (lanes + 1)
   added_more runs old mid new planes width cycle lanes wide mark w p last keeps h adds =
       let wider = added_wider runs old mid planes width cycle lanes (lanes + 1) (omega arith) h in
       let back : lanes + 1 - 1 ≡ lanes = omega arith in
-      let shown : print_of (lane (wide_of (length runs)) width planes (lanes + 1 - 1)) ≡ mark =
-      ap₂ (λ (a b : ℕ). print_of (lane a width planes b)) (sym w) back ∙ sym p in
+      let shown : hash_of (lane (wide_of (length runs)) width planes (lanes + 1 - 1)) ≡ mark =
+      ap₂ (λ (a b : ℕ). hash_of (lane a width planes b)) (sym w) back ∙ sym p in
       record {
-        each = λ print at e.
-            ⊎_elim (λ (was : get nat_eq mid print ≡ Some at). wider.each print at was)
-            (λ (a : (print ≡ mark) × (at ≡ cycle) × (HasBy mid mark cycle → ⊥)).
+        each = λ hash at e.
+            ⊎_elim (λ (was : get nat_eq mid hash ≡ Some at). wider.each hash at was)
+            (λ (a : (hash ≡ mark) × (at ≡ cycle) × (HasBy mid mark cycle → ⊥)).
             inr
             (record {
               here = a.1;
@@ -205,7 +205,7 @@ module _ {S : Type 0} where
               lasts = last;
               is = shown ∙ sym a.0;
             }))
-            (adds.each print at e);
+            (adds.each hash at e);
       }
 
   -- what comes at a cycle is first there, where all cycles before are noted
@@ -214,29 +214,29 @@ module _ {S : Type 0} where
       AddsLanes runs old new planes width cycle (length runs) → NotesFirsts c runs new
   firsts_more c runs old new planes width cycle w shows notes firsts adds =
       record {
-        each = λ print at e.
-            ⊎_elim (λ (was : get nat_eq old print ≡ Some at). firsts.each print at was)
-            (λ (a : IsAdded runs old planes width cycle (length runs) print at).
+        each = λ hash at e.
+            ⊎_elim (λ (was : get nat_eq old hash ≡ Some at). firsts.each hash at was)
+            (λ (a : IsAdded runs old planes width cycle (length runs) hash at).
             let state : lane (wide_of (length runs)) width planes (a.run - 1) ≡ state_at c (run_of runs a.run) cycle =
             ap (λ (n : ℕ). lane (wide_of (length runs)) n planes (a.run - 1)) w ∙ shows.each a.run a.from_one a.recorded a.lasts in
-            let first : IsFirstPrinted c runs print cycle =
+            let first : IsFirstHashed c runs hash cycle =
             record {
-              there = record { run = a.run; from_one = a.from_one; recorded = a.recorded; lasts = a.lasts; is = sym (ap print_of state) ∙ a.is };
-              before = λ k lt printed.
-                  let has : HasBy old print k =
-                  subst (λ (q : ℕ). HasBy old q k) printed.is ((notes.each k lt).each printed.run printed.from_one printed.recorded printed.lasts) in
-                  a.late (later (get nat_eq old print) k cycle lt has);
+              there = record { run = a.run; from_one = a.from_one; recorded = a.recorded; lasts = a.lasts; is = sym (ap hash_of state) ∙ a.is };
+              before = λ k lt hashed.
+                  let has : HasBy old hash k =
+                  subst (λ (q : ℕ). HasBy old q k) hashed.is ((notes.each k lt).each hashed.run hashed.from_one hashed.recorded hashed.lasts) in
+                  a.late (later (get nat_eq old hash) k cycle lt has);
             } in
-            subst (λ (k : ℕ). IsFirstPrinted c runs print k) (sym a.here) first)
-            (adds.each print at e);
+            subst (λ (k : ℕ). IsFirstHashed c runs hash k) (sym a.here) first)
+            (adds.each hash at e);
       }
 
   pub firsts_none : (c : Circuit) (runs : List Run) (first : HashMap ℕ ℕ S) → hash_map_len first ≡ 0 → NotesFirsts c runs first
-  firsts_none c runs first none = record { each = λ print cycle e. by print cycle first.entries none e }
+  firsts_none c runs first none = record { each = λ hash cycle e. by hash cycle first.entries none e }
     where
-      by : (print cycle : ℕ) (es : List (ℕ × ℕ)) → length es ≡ 0 → lookup (nat_eq print) es ≡ Some cycle → IsFirstPrinted c runs print cycle
-      by print cycle [] l e = absurd cc
-      by print cycle (x ∷ es) l e = absurd (omega (arith, l))
+      by : (hash cycle : ℕ) (es : List (ℕ × ℕ)) → length es ≡ 0 → lookup (nat_eq hash) es ≡ Some cycle → IsFirstHashed c runs hash cycle
+      by hash cycle [] l e = absurd cc
+      by hash cycle (x ∷ es) l e = absurd (omega (arith, l))
 
   -- ---- cycles
 
@@ -260,28 +260,28 @@ module _ {S : Type 0} where
 
   -- ---- where a look may begin
 
-  pub start_more : {X : Type 0} (f : X → List Bool) (first : HashMap ℕ ℕ S) (xs : List X) (i from next print cycle : ℕ) (x : X) (s : List Bool) →
+  pub start_more : {X : Type 0} (f : X → List Bool) (first : HashMap ℕ ℕ S) (xs : List X) (i from next hash cycle : ℕ) (x : X) (s : List Bool) →
       i < length xs →
-      x ≡ get_or xs i x → s ≡ f x → print ≡ print_of s → cycle ≡ unwrap_or (get nat_eq first print) from → next ≡ min from cycle →
-      All (λ x. HasNoneBefore first from (print_of (f x))) (take i xs) → All (λ x. HasNoneBefore first next (print_of (f x))) (take (i + 1) xs)
-  start_more {X} f first xs i from next print cycle x s lt is same p e n h =
-      let P : X → Type 0 = λ x. HasNoneBefore first from (print_of (f x)) in
-      let Q : X → Type 0 = λ x. HasNoneBefore first next (print_of (f x)) in
+      x ≡ get_or xs i x → s ≡ f x → hash ≡ hash_of s → cycle ≡ unwrap_or (get nat_eq first hash) from → next ≡ min from cycle →
+      All (λ x. HasNoneBefore first from (hash_of (f x))) (take i xs) → All (λ x. HasNoneBefore first next (hash_of (f x))) (take (i + 1) xs)
+  start_more {X} f first xs i from next hash cycle x s lt is same p e n h =
+      let P : X → Type 0 = λ x. HasNoneBefore first from (hash_of (f x)) in
+      let Q : X → Type 0 = λ x. HasNoneBefore first next (hash_of (f x)) in
       let less : next ≤ from = omega (arith, n) in
       let R : ℕ → Type 0 = λ q. HasNoneBefore first next q in
-      let mine : R print =
+      let mine : R hash =
       record {
         each = λ k below has.
-            before_all (get nat_eq first print) from k (let T : ℕ → Type 0 = λ c. k < min from c in subst T e
+            before_all (get nat_eq first hash) from k (let T : ℕ → Type 0 = λ c. k < min from c in subst T e
             (let U : ℕ → Type 0 = λ m. k < m in subst U n below)) has;
       } in
-      let here : Q x = subst R (p ∙ ap print_of same) mine in
+      let here : Q x = subst R (p ∙ ap hash_of same) mine in
       All-more Q xs i x lt
       (All-weaker P Q (λ y g. record { each = λ k below has. g.each k (omega (arith, below, less)) has }) (take i xs) h)
       (subst Q is here)
 
   pub none_started : {X : Type 0} (f : X → List Bool) (c : Circuit) (runs : List Run) (first : HashMap ℕ ℕ S) (xs : List X) (cycles from : ℕ) → from ≤ cycles →
-      NotesCycles c runs first cycles → All (λ x. HasNoneBefore first from (print_of (f x))) xs → NoneBefore c runs (map f xs) from
+      NotesCycles c runs first cycles → All (λ x. HasNoneBefore first from (hash_of (f x))) xs → NoneBefore c runs (map f xs) from
   none_started f c runs first xs cycles from le notes none = record {
     each = λ k lt. record {
       each = λ r behind below there last. each k r lt behind
@@ -289,21 +289,21 @@ module _ {S : Type 0} where
     };
   }
     where
-      unlike : (s t : List Bool) (k : ℕ) (b : Bool) → bits_eq s t ≡ b → k < from → HasBy first (print_of s) k →
-          HasNoneBefore first from (print_of t) → b ≡ false
+      unlike : (s t : List Bool) (k : ℕ) (b : Bool) → bits_eq s t ≡ b → k < from → HasBy first (hash_of s) k →
+          HasNoneBefore first from (hash_of t) → b ≡ false
       unlike s t k false e lt has without = refl
       unlike s t k true e lt has without =
-          let P : List Bool → Type 0 = λ u. HasBy first (print_of u) k in
+          let P : List Bool → Type 0 = λ u. HasBy first (hash_of u) k in
           absurd (without.each k lt (subst P (bits_same_is s t e) has))
 
       each : (k r : ℕ) → k < from → 0 < r → r ≤ length runs → k ≤ length (run_of runs r) → list_any (bits_eq (state_at c (run_of runs r) k)) (map f xs) ≡ false
       each k r lt behind there last =
           let s = state_at c (run_of runs r) k in
-          let has : HasBy first (print_of s) k = (notes.each k (omega (arith, lt, le))).each r (omega (arith, behind)) there last in
+          let has : HasBy first (hash_of s) k = (notes.each k (omega (arith, lt, le))).each r (omega (arith, behind)) there last in
           list_any_none (bits_eq s) (map f xs)
-          (All-weaker (λ t. HasNoneBefore first from (print_of t)) (λ t. bits_eq s t ≡ false) (λ t without. unlike s t k
+          (All-weaker (λ t. HasNoneBefore first from (hash_of t)) (λ t. bits_eq s t ≡ false) (λ t without. unlike s t k
           (bits_eq s t) refl lt has without) (map f xs)
-          (All-map (λ t. HasNoneBefore first from (print_of t)) f xs none))
+          (All-map (λ t. HasNoneBefore first from (hash_of t)) f xs none))
 
 pub none_sooner : (c : Circuit) (runs : List Run) (states : List (List Bool)) (late from : ℕ) → from ≤ late → NoneBefore c runs states late →
     NoneBefore c runs states from
@@ -316,11 +316,11 @@ or_true true = refl
 or_true false = refl
 
 module _ {S X : Type 0} where
-  noted_still : (first : HashMap ℕ ℕ S) (print : X → ℕ) (xs : List X) (i cycles from next : ℕ) → next ≡ from →
-      IsNoted first cycles from print (take i xs) → IsNoted first cycles next print (take (i + 1) xs)
-  noted_still first print xs i cycles from next e h =
-      let R : ℕ → Type 0 = λ q. IsNoted first cycles q print (take (i + 1) xs) in
-      let p : X → Bool = λ x. is_cycle (get nat_eq first (print x)) from in
+  noted_still : (first : HashMap ℕ ℕ S) (hash : X → ℕ) (xs : List X) (i cycles from next : ℕ) → next ≡ from →
+      IsNoted first cycles from hash (take i xs) → IsNoted first cycles next hash (take (i + 1) xs)
+  noted_still first hash xs i cycles from next e h =
+      let R : ℕ → Type 0 = λ q. IsNoted first cycles q hash (take (i + 1) xs) in
+      let p : X → Bool = λ x. is_cycle (get nat_eq first (hash x)) from in
       subst R (sym e)
       (record {
         either =
@@ -328,38 +328,38 @@ module _ {S X : Type 0} where
             (λ (there : list_any p (take i xs) ≡ true). inr (list_any_kept p xs i there)) h.either;
       })
 
-  noted_here : (first : HashMap ℕ ℕ S) (print : X → ℕ) (xs : List X) (i cycles next : ℕ) (x : X) → i < length xs → x ≡ get_or xs i x →
-      is_cycle (get nat_eq first (print x)) next ≡ true → IsNoted first cycles next print (take (i + 1) xs)
-  noted_here first print xs i cycles next x lt is e =
-      let p : X → Bool = λ y. is_cycle (get nat_eq first (print y)) next in
+  noted_here : (first : HashMap ℕ ℕ S) (hash : X → ℕ) (xs : List X) (i cycles next : ℕ) (x : X) → i < length xs → x ≡ get_or xs i x →
+      is_cycle (get nat_eq first (hash x)) next ≡ true → IsNoted first cycles next hash (take (i + 1) xs)
+  noted_here first hash xs i cycles next x lt is e =
+      let p : X → Bool = λ y. is_cycle (get nat_eq first (hash y)) next in
       let more : Bool → Bool = λ b. list_any p (take i xs) || b in
       record {
         either =
             inr (list_any_more p xs i x lt ∙ (ap (λ y. more (p y)) (sym is) ∙ (ap more e ∙ or_true (list_any p (take i xs)))));
       }
 
-  pub noted_more : (first : HashMap ℕ ℕ S) (print : X → ℕ) (xs : List X) (i cycles from next mark cycle : ℕ) (x : X) → i < length xs →
-      x ≡ get_or xs i x → mark ≡ print x → cycle ≡ unwrap_or (get nat_eq first mark) from → next ≡ min from cycle →
-      IsNoted first cycles from print (take i xs) → IsNoted first cycles next print (take (i + 1) xs)
-  noted_more first print xs i cycles from next mark cycle x lt is m e n h = by (get nat_eq first mark) refl
+  pub noted_more : (first : HashMap ℕ ℕ S) (hash : X → ℕ) (xs : List X) (i cycles from next mark cycle : ℕ) (x : X) → i < length xs →
+      x ≡ get_or xs i x → mark ≡ hash x → cycle ≡ unwrap_or (get nat_eq first mark) from → next ≡ min from cycle →
+      IsNoted first cycles from hash (take i xs) → IsNoted first cycles next hash (take (i + 1) xs)
+  noted_more first hash xs i cycles from next mark cycle x lt is m e n h = by (get nat_eq first mark) refl
     where
-      by : (o : Option ℕ) → get nat_eq first mark ≡ o → IsNoted first cycles next print (take (i + 1) xs)
+      by : (o : Option ℕ) → get nat_eq first mark ≡ o → IsNoted first cycles next hash (take (i + 1) xs)
       by None g =
           let same : cycle ≡ from = e ∙ ap (λ o. unwrap_or o from) g in
-          noted_still first print xs i cycles from next (omega (arith, n, same)) h
+          noted_still first hash xs i cycles from next (omega (arith, n, same)) h
       by (Some c) g =
           let same : cycle ≡ c = e ∙ ap (λ o. unwrap_or o from) g in
           ⊎_elim
           (λ (less : c < from).
-          noted_here first print xs i cycles next x lt is
+          noted_here first hash xs i cycles next x lt is
           (ap (λ q. is_cycle (get nat_eq first q) next) (sym m) ∙ (ap (λ o. is_cycle o next) g ∙ grind (arith, n, same, less))))
-          (λ (more : from ≤ c). noted_still first print xs i cycles from next (omega (arith, n, same, more)) h)
+          (λ (more : from ≤ c). noted_still first hash xs i cycles from next (omega (arith, n, same, more)) h)
           (cases_lt c from)
 
-  pub noted_all : (first : HashMap ℕ ℕ S) (print : X → ℕ) (xs : List X) (i cycles from : ℕ) → length xs ≤ i →
-      IsNoted first cycles from print (take i xs) → IsNoted first cycles from print xs
-  noted_all first print xs i cycles from le h =
-      let R : List X → Type 0 = λ ys. IsNoted first cycles from print ys in
+  pub noted_all : (first : HashMap ℕ ℕ S) (hash : X → ℕ) (xs : List X) (i cycles from : ℕ) → length xs ≤ i →
+      IsNoted first cycles from hash (take i xs) → IsNoted first cycles from hash xs
+  noted_all first hash xs i cycles from le h =
+      let R : List X → Type 0 = λ ys. IsNoted first cycles from hash ys in
       subst R (take_all i xs le) h
 
 -- ---- the price of notes

@@ -8,4 +8,4 @@ pub mod StepLemmas
 pub mod TrackLemmas
 pub mod IndexLemmas
 pub mod ParityLemmas
-pub mod SignLemmas
+pub mod SignatureHashLemmas

@@ -21,7 +21,7 @@ use Rattle.bs_scan.specs.Signature.{parity_of, signature}
 use Rattle.bs_break.specs.Masks.{has}
 use Rattle.bs_break.proofs.MaskLemmas.{nothing}
 use Rattle.bs_chip.specs.Parities.{HaveParities, IsParityWord}
-use Rattle.bs_chip.specs.Prints.{ListsEach}
+use Rattle.bs_chip.specs.Hashes.{ListsEach}
 
 -- ---- a word
 
@@ -122,7 +122,7 @@ signature_lane choice planes words wide count r range whole have small =
     get_or-map (parity_of s) choice.items k [] false lt
     ∙ (ap is_odd same ∙ (sym (here.each (r % 64) (omega arith)) ∙ sym (bit_from words (k * wide) r)))))
 
--- ---- lists of prints
+-- ---- lists of hashes
 
 at_end : (xs : List ℕ) (x d : ℕ) → get_or (xs ++ x ∷ []) (length xs) d ≡ x
 at_end [] x d = refl

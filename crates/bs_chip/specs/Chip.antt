@@ -4,7 +4,7 @@ use Rattle.std.specs.HashMap.{hash_map_len}
 use Rattle.bs_scan.specs.Choice.{Chosen}
 use Rattle.bs_scan.specs.Crash.{Recording, IsRecording}
 use Rattle.bs_chip.specs.declared.index.Index.{Index}
-use Rattle.bs_chip.specs.declared.index.TheConstants.{MAX_PRINTS}
+use Rattle.bs_chip.specs.declared.index.TheConstants.{MAX_HASHES}
 use Rattle.bs_chip.specs.Index.{NotesCycles, NotesFirsts}
 use Rattle.bs_chip.specs.Lockstep.{Passing, TrackShows}
 
@@ -18,4 +18,4 @@ pub record IsChip (r : Recording) (choice : Chosen) (p : Passing) (track : List 
   pub shows : TrackShows r.circuit r.runs track
   pub notes : NotesCycles r.circuit r.runs index.first index.cycles
   pub firsts : NotesFirsts r.circuit r.runs index.first
-  pub bound : hash_map_len index.first ≤ MAX_PRINTS + length r.runs
+  pub bound : hash_map_len index.first ≤ MAX_HASHES + length r.runs

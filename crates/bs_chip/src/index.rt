@@ -1,23 +1,23 @@
-//! The index of states: a cycle before which no run is in a listed state, by the prints of the states of the first
+//! The index of states: a cycle before which no run is in a listed state, by the hashes of the states of the first
 //! cycles. It only says where a look may begin; whether a state is listed is for the bank to say.
 ghost use Rattle.std.specs.Prelude.{◌≡◌, ◌≤◌, ◌+◌, ◌-◌, ◌^◌, length, min, All, OnOk};
 ghost use Rattle.std.specs.HashMap.{hash_map_len};
 ghost use Rattle.bs_chip.specs.Index.{looks, price_of, HasNoneBefore, IsNoted, IsPaid, IsSpent, NotesCycles, NotesFirsts};
 ghost use Rattle.bs_chip.specs.Lockstep.{TrackShows};
-ghost use Rattle.bs_chip.specs.Prints.{print_of};
+ghost use Rattle.bs_chip.specs.Hashes.{hash_of};
 
 use crate::notes::cycle_of;
 use crate::pass::Pass;
-use crate::prints::print_of;
+use crate::hashes::hash_of;
 use bs_bits::{List, NoMemory};
 use bs_scan::{HasState, Moment};
 use std::alloc::Global;
 use std::collections::HashMap;
 
-/// How many prints an index has when it takes no more cycles. It never has more than this many and one a run.
-pub const MAX_PRINTS: usize = 2_097_152;
+/// How many hashes an index has when it takes no more cycles. It never has more than this many and one a run.
+pub const MAX_HASHES: usize = 2_097_152;
 
-/// For each print of a state of the first so many cycles, the first of these cycles at which a state has it.
+/// For each hash of a state of the first so many cycles, the first of these cycles at which a state has it.
 #[derive(Drop)]
 pub struct Index {
     pub first: HashMap<u64, u32>,
@@ -37,23 +37,23 @@ impl Index {
     }
 }
 
-/// A cycle before which no state of a list has a print: the least cycle that a state of the list has in the index, or the
+/// A cycle before which no state of a list has a hash: the least cycle that a state of the list has in the index, or the
 /// number of its cycles.
 pub fn start<S: HasState>(index: &Index, list: &[S]) -> usize
     ensures within { result ≤ index.now.cycles }
-    ensures before { All (λ listed. HasNoneBefore index.now.first result (print_of (S.shown listed))) list.now }
-    ensures noted { IsNoted index.now.first index.now.cycles result (λ listed. print_of (S.shown listed)) list.now }
+    ensures before { All (λ listed. HasNoneBefore index.now.first result (hash_of (S.shown listed))) list.now }
+    ensures noted { IsNoted index.now.first index.now.cycles result (λ listed. hash_of (S.shown listed)) list.now }
 {
     let mut from = index.cycles;
     'states: for i in 0..list.len() {
-        let print = print_of(list[i].state());
-        from = from.min(cycle_of(&index.first, print, from));
+        let hash = hash_of(list[i].state());
+        from = from.min(cycle_of(&index.first, hash, from));
     }
     from as usize
 }
 
 /// Notes further cycles of a track, as many as a credit pays for: the number of cycles that were looked at so far and not
-/// paid with yet. It ends before, where there are as many prints as there may be.
+/// paid with yet. It ends before, where there are as many hashes as there may be.
 pub fn grow(
     index: &mut Index,
     pass: &Pass<'_>,
@@ -65,16 +65,16 @@ pub fn grow(
     requires shows { TrackShows pass.now.circuit pass.now.runs track.now }
     requires notes { NotesCycles pass.now.circuit pass.now.runs index.old.first index.old.cycles }
     requires firsts { NotesFirsts pass.now.circuit pass.now.runs index.old.first }
-    requires bound { hash_map_len index.old.first ≤ MAX_PRINTS + length pass.now.runs }
+    requires bound { hash_map_len index.old.first ≤ MAX_HASHES + length pass.now.runs }
     ensures notes { NotesCycles pass.now.circuit pass.now.runs index.new.first index.new.cycles }
     ensures firsts { NotesFirsts pass.now.circuit pass.now.runs index.new.first }
-    ensures bound { hash_map_len index.new.first ≤ MAX_PRINTS + length pass.now.runs }
+    ensures bound { hash_map_len index.new.first ≤ MAX_HASHES + length pass.now.runs }
     ensures paid { IsPaid (price_of width (length pass.now.runs)) credit.old credit.new index.old.cycles index.new.cycles }
     ensures spent { OnOk result (IsSpent (price_of width (length pass.now.runs)) credit.new (length track.now) index.new.cycles (hash_map_len index.new.first)) }
 {
     let price = pass.price(width);
     'cycles: for at in index.cycles as usize..track.len() {
-        if *credit < price || index.first.len() >= MAX_PRINTS {
+        if *credit < price || index.first.len() >= MAX_HASHES {
             return Ok(());
         }
         pass.note(&mut index.first, track.get(at).slice(), width, at as u32)?;

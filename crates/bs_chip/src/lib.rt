@@ -2,11 +2,11 @@
 //!
 //! Modules: `replay` (`Chip`, `Hit`), `live` (runs that last to a cycle), `inputs` and `pass` (all
 //! runs in lock step at one cycle), `track` (the planes of the first cycles, kept), `looking` (the
-//! lowest run in a listed state, by the bank), `prints`, `notes` and `index` (at which kept cycle a
-//! look may begin), `player` and `moments` (one run replayed to a moment), `parities` and `signs`
-//! (`Signs`, the signatures of all recorded states). Used above:
+//! lowest run in a listed state, by the bank), `hashes`, `notes` and `index` (at which kept cycle a
+//! look may begin), `player` and `moments` (one run replayed to a moment), `parities` and `signature_hashes`
+//! (`SignatureHashes`, the signatures of all recorded states). Used above:
 //! `Chip::first`, clause `first`: the first moment of the runs in the listed states. How much is
-//! kept: `MAX_TRACK_BYTES`, `MAX_PRINTS`; when the index grows: `Pass::price`.
+//! kept: `MAX_TRACK_BYTES`, `MAX_HASHES`; when the index grows: `Pass::price`.
 #![tactic(auto)]
 
 mod index;
@@ -19,12 +19,12 @@ mod notes;
 mod parities;
 mod pass;
 mod player;
-mod prints;
+mod hashes;
 mod replay;
-mod signs;
+mod signature_hashes;
 mod track;
 
 pub use pass::{Pass, step_to};
-pub use prints::{print_more, print_of};
+pub use hashes::{hash_more, hash_of};
 pub use replay::{Chip, Hit, MAX_TRACK_BYTES};
-pub use signs::Signs;
+pub use signature_hashes::SignatureHashes;

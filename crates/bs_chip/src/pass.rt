@@ -150,7 +150,7 @@ impl<'a> Pass<'a> {
         (width as u64 / 8 + 2).saturating_mul(u64::from(self.runs.count()))
     }
 
-    /// Notes the prints of the states that planes show at a cycle.
+    /// Notes the hashes of the states that planes show at a cycle.
     pub(crate) fn note(
         &self,
         first: &mut HashMap<u64, u32>,

@@ -13,7 +13,7 @@ use crate::index::{Index, credited, grow, start};
 use crate::moments::{replay, unload};
 use crate::pass::Pass;
 use crate::player::Player;
-use crate::signs::Signs;
+use crate::signature_hashes::SignatureHashes;
 use crate::track::{at_reset, first_moment, keep_ahead, recall};
 use bs_bits::{Bits, List, NoMemory};
 use bs_break::Bank;
@@ -259,11 +259,11 @@ impl<'a> Chip<'a> {
     }
 
     /// The signatures of the recorded states.
-    pub fn signs(&self, alloc: Global) -> Result<Signs<'a>, NoMemory>
-        ensures { IfOk result (λ signs. signs ≡ self.now.recording) }
+    pub fn signature_hashes(&self, alloc: Global) -> Result<SignatureHashes<'a>, NoMemory>
+        ensures { IfOk result (λ signature_hashes. signature_hashes ≡ self.now.recording) }
     {
         let _state = self.player.state();
-        Signs::new(alloc, self.player.net(), self.choice, self.player.runs())
+        SignatureHashes::new(alloc, self.player.net(), self.choice, self.player.runs())
     }
 
     /// Keeps the planes of the cycles up to one, and of some more, as far as the bound allows: the dump of a moment of a kept
@@ -290,17 +290,17 @@ impl<'a> Chip<'a> {
     }
 
     /// Makes the signatures of the cycles up to one, out of the kept planes where there are some.
-    pub fn lend_signs(
+    pub fn lend_signature_hashes(
         &self,
         alloc: Global,
-        signs: &mut Signs<'_>,
+        signature_hashes: &mut SignatureHashes<'_>,
         cycle: u32,
     ) -> Result<(), NoMemory>
-        requires recording { signs.old ≡ self.now.recording }
+        requires recording { signature_hashes.old ≡ self.now.recording }
         requires few { cycle ≤ MAX_CYCLES }
-        ensures kept { signs.new ≡ signs.old }
+        ensures kept { signature_hashes.new ≡ signature_hashes.old }
     {
-        signs.follow(alloc, &self.track, cycle)
+        signature_hashes.follow(alloc, &self.track, cycle)
     }
 
     /// The netlist.

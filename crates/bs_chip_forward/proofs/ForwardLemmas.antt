@@ -1,4 +1,4 @@
--- Where all runs lead, cycle by cycle, and what a print that differs says.
+-- Where all runs lead, cycle by cycle, and what a hash that differs says.
 use Rattle.std.proofs.Common.{◌≡◌, ℕ, zero, suc, ◌<◌, ◌≤◌, ◌+◌, ◌-◌, ◌*◌, Bool, true, false, ◌||◌, List, [], ◌∷◌, ◌++◌, length, map, take, get_or, refl, arith, ap, ap₂, sym, subst, ◌∙◌, ◌⊎◌, ⊎_elim, length-append, Some, nat_eq}
 use Rattle.std.specs.Prelude.{◌==◌, slice_get, OnOk, OnErr, Result, Ok, Err, All}
 use Rattle.std.specs.List.{AllByRecursion}
@@ -9,7 +9,7 @@ use Rattle.std.proofs.lemmas.List.FromFn.{map-range_with_len_more}
 use Rattle.bs_net.specs.Circuit.{Circuit, next}
 use Rattle.bs_net.specs.Gate.{is_odd}
 use Rattle.bs_net.specs.Netlist.{circuit}
-use Rattle.bs_chip_forward.specs.Free.{IsFree}
+use Rattle.bs_chip_forward.specs.Independent.{IsIndependent}
 use Rattle.bs_stim.specs.declared.limits.TheConstants.{MAX_CYCLES}
 use Rattle.bs_stim.specs.Packing.{bit_in, HasPut}
 use Rattle.bs_lanes.specs.Lanes.{LaneTable, IsSameTable, AreStepped}
@@ -17,50 +17,50 @@ use Rattle.bs_lanes_planes.specs.Planes.{bit_place, lane}
 use Rattle.bs_lanes_planes.proofs.PlaneLemmas.{lane_at, length_lane}
 use Rattle.bs_scan.specs.Moments.{Run, moment, IsMoment, run_of, state_at}
 use Rattle.bs_chip_forward.specs.declared.forward.Aim.{Aim}
-use Rattle.bs_chip_forward.specs.declared.forward.Row.{Row}
+use Rattle.bs_chip_forward.specs.declared.forward.NextStateHashes.{NextStateHashes}
 use Rattle.bs_chip_forward.specs.Forward.{Holding, Holds, IsHeldIn, IsHolding, TellsLead, TellLeads, TellRuns, TellsRow, no_row, IsSide, IsForward, Extended, LeadsNowhere}
 use Rattle.bs_chip.specs.Lockstep.{wide_of, Passing, IsSamePass, ShowsCycle}
-use Rattle.bs_chip.specs.Prints.{print_more, print_of, ListsEach}
-use Rattle.bs_chip_forward.specs.Groups.{parities_of, AreFree}
+use Rattle.bs_chip.specs.Hashes.{hash_more, hash_of, ListsEach}
+use Rattle.bs_chip_forward.specs.Groups.{parities_of, AreIndependent}
 use Rattle.bs_chip.specs.Parities.{HaveParities}
 use Rattle.bs_scan.specs.Signature.{parity_of}
-use Rattle.bs_chip.proofs.IndexLemmas.{print_snoc}
+use Rattle.bs_chip.proofs.IndexLemmas.{hash_snoc}
 use Rattle.bs_chip.proofs.ParityLemmas.{signature_lane}
 use Rattle.bs_chip.proofs.TrackLemmas.{track_at}
 use Rattle.bs_chip.proofs.StepLemmas.{of_table}
 
--- ---- prints of parities
+-- ---- hashes of parities
 
-pub lane_next : (wide i r print next : ℕ) (words : List ℕ) (bit : Bool) → bit ≡ bit_in words (bit_place wide i r) →
-    print ≡ print_of (lane wide i words r) → next ≡ print_more print bit → next ≡ print_of (lane wide (i + 1) words r)
-lane_next wide i r print next words bit e h n =
+pub lane_next : (wide i r hash next : ℕ) (words : List ℕ) (bit : Bool) → bit ≡ bit_in words (bit_place wide i r) →
+    hash ≡ hash_of (lane wide i words r) → next ≡ hash_more hash bit → next ≡ hash_of (lane wide (i + 1) words r)
+lane_next wide i r hash next words bit e h n =
     let f : ℕ → Bool = λ plane. bit_in words (bit_place wide plane r) in
     n
-    ∙ (ap₂ print_more h e
-    ∙ (sym (print_snoc (lane wide i words r) (f i)) ∙ sym (ap print_of (map-range_with_len_more f 0 i i (omega arith)))))
+    ∙ (ap₂ hash_more h e
+    ∙ (sym (hash_snoc (lane wide i words r) (f i)) ∙ sym (ap hash_of (map-range_with_len_more f 0 i i (omega arith)))))
 
-pub parity_next : (groups : List (List ℕ)) (bits : List Bool) (i print next : ℕ) (group : List ℕ) (bit : Bool) → i < length groups →
-    slice_get groups i ≡ Some group → bit ≡ parity_of bits group → print ≡ print_of (map (parity_of bits) (take i groups)) →
-    next ≡ print_more print bit → next ≡ print_of (map (parity_of bits) (take (i + 1) groups))
-parity_next groups bits i print next group bit lt look e h n =
+pub parity_next : (groups : List (List ℕ)) (bits : List Bool) (i hash next : ℕ) (group : List ℕ) (bit : Bool) → i < length groups →
+    slice_get groups i ≡ Some group → bit ≡ parity_of bits group → hash ≡ hash_of (map (parity_of bits) (take i groups)) →
+    next ≡ hash_more hash bit → next ≡ hash_of (map (parity_of bits) (take (i + 1) groups))
+parity_next groups bits i hash next group bit lt look e h n =
     let here : bit ≡ parity_of bits (get_or groups i []) = e ∙ ap (parity_of bits) (sym (track_at groups i group look)) in
     n
-    ∙ (ap₂ print_more h here
-    ∙ (sym (print_snoc (map (parity_of bits) (take i groups)) (parity_of bits (get_or groups i [])))
-    ∙ sym (ap print_of (map_more (parity_of bits) groups i [] lt))))
+    ∙ (ap₂ hash_more h here
+    ∙ (sym (hash_snoc (map (parity_of bits) (take i groups)) (parity_of bits (get_or groups i [])))
+    ∙ sym (ap hash_of (map_more (parity_of bits) groups i [] lt))))
 
 -- the lanes of the groups' planes tell the parities of the lanes
-pub parities_told : (groups : List (List ℕ)) (planes words prints : List ℕ) (wide width count lanes n : ℕ) →
+pub parities_told : (groups : List (List ℕ)) (planes words hashes : List ℕ) (wide width count lanes n : ℕ) →
     All (λ group. All (λ place. place < width) group) groups → count ≡ length groups * wide → HaveParities groups planes wide count words →
-    lanes ≤ 64 * wide → n ≡ length groups → ListsEach (λ r. print_of (lane wide n words r)) prints lanes →
-    ListsEach (λ r. print_of (parities_of groups (lane wide width planes r))) prints lanes
-parities_told groups planes words prints wide width count lanes n range whole have few number list =
+    lanes ≤ 64 * wide → n ≡ length groups → ListsEach (λ r. hash_of (lane wide n words r)) hashes lanes →
+    ListsEach (λ r. hash_of (parities_of groups (lane wide width planes r))) hashes lanes
+parities_told groups planes words hashes wide width count lanes n range whole have few number list =
     record {
       size = list.size;
       each = λ r lt.
           list.each r lt
-          ∙ (ap (λ (m : ℕ). print_of (lane wide m words r)) number
-          ∙ ap print_of
+          ∙ (ap (λ (m : ℕ). hash_of (lane wide m words r)) number
+          ∙ ap hash_of
           (signature_lane (record { width = width; depth = 1; items = groups }) planes words wide count r range whole have (omega (arith, lt, few))));
     }
 
@@ -76,16 +76,16 @@ flagged_below flags k n size on =
     (λ (past : length flags ≤ k). absurd (true≢false (sym on ∙ get_or_past flags k false past)))
     (cases_lt k (length flags))
 
-pub groups_free : (c : Circuit) (input : ℕ) (value : Bool) (flags : List Bool) (groups : List (List ℕ)) → IsFree c input value flags →
-    All (λ group. All (λ place. get_or flags place false ≡ true) group) groups → AreFree c input value groups
-groups_free c input value flags groups free flagged =
+pub groups_independent : (c : Circuit) (input : ℕ) (value : Bool) (flags : List Bool) (groups : List (List ℕ)) → IsIndependent c input value flags →
+    All (λ group. All (λ place. get_or flags place false ≡ true) group) groups → AreIndependent c input value groups
+groups_independent c input value flags groups independent flagged =
     let On : List ℕ → Type 0 = λ group. All (λ place. get_or flags place false ≡ true) group in
     record {
       in_range =
           All-weaker On (λ group. All (λ place. place < length c.flops) group)
           (λ group h.
           All-weaker (λ place. get_or flags place false ≡ true) (λ place. place < length c.flops)
-          (λ place on. flagged_below flags place (length c.flops) free.size on) group h)
+          (λ place on. flagged_below flags place (length c.flops) independent.size on) group h)
           groups flagged;
       same = λ state a b ls la lb ha hb.
           let s : List Bool = next c state a in
@@ -98,15 +98,15 @@ groups_free c input value flags groups free flagged =
           (same_map (λ place. get_or s place false) (λ place. get_or t place false) group
           (recursion_from_All (λ place. get_or s place false ≡ get_or t place false) group
           (All-weaker (λ place. get_or flags place false ≡ true) (λ place. get_or s place false ≡ get_or t place false)
-          (λ place on. free.same place on state a b ls la lb ha hb) group h))))
+          (λ place on. independent.same place on state a b ls la lb ha hb) group h))))
           groups flagged));
     }
 
 pub holds_groups : (c d : Circuit) (wide w input : ℕ) (value : Bool) (groups : List (List ℕ)) (words : List ℕ) (width count : ℕ) → d ≡ c → w ≡ wide →
     1 ≤ wide → wide ≤ 4 → width ≡ length c.flops → count ≡ length c.inputs → length words ≡ count * wide →
-    (input < count → IsHeldIn wide input value words (64 * wide)) → AreFree c input value groups →
+    (input < count → IsHeldIn wide input value words (64 * wide)) → AreIndependent c input value groups →
     IsHolding (record { circuit = d; wide = w; input = input; value = value; groups = groups }) words width
-holds_groups c d wide w input value groups words width count e f some few size inputs room held free =
+holds_groups c d wide w input value groups words width count e f some few size inputs room held independent =
     let h : Circuit → ℕ → Holding = λ d w. record { circuit = d; wide = w; input = input; value = value; groups = groups } in
     subst (λ (d : Circuit). IsHolding (h d w) words width) (sym e)
     (subst (λ (w : ℕ). IsHolding (h c w) words width) (sym f)
@@ -116,7 +116,7 @@ holds_groups c d wide w input value groups words width count e f some few size i
       width_is = size;
       size = room ∙ ap (λ (n : ℕ). n * wide) inputs;
       held = λ lt. held (omega (arith, lt, inputs));
-      free = free;
+      independent = independent;
     }))
 
 -- ---- an input held at a value
@@ -150,20 +150,20 @@ lane_holds wide count input value planes r x held lt size has =
     ∙ (sym (get_or_past x input false (omega (arith, past, size))) ∙ has))
     (cases_lt input count)
 
-lead_told : (h : Holding) (s a : List Bool) (print : ℕ) → AreFree h.circuit h.input h.value h.groups → length s ≡ length h.circuit.flops →
+lead_told : (h : Holding) (s a : List Bool) (hash : ℕ) → AreIndependent h.circuit h.input h.value h.groups → length s ≡ length h.circuit.flops →
     length a ≡ length h.circuit.inputs →
     ((x : List Bool) → length x ≡ length h.circuit.inputs → get_or x h.input false ≡ h.value → get_or a h.input false ≡ h.value) →
-    print ≡ print_of (parities_of h.groups (next h.circuit s a)) → TellsLead h s print
-lead_told h s a print free ls la holds e =
+    hash ≡ hash_of (parities_of h.groups (next h.circuit s a)) → TellsLead h s hash
+lead_told h s a hash independent ls la holds e =
     record {
-      each = λ x lx has. e ∙ ap print_of (free.same s a x ls la lx (holds x lx has) has);
+      each = λ x lx has. e ∙ ap hash_of (independent.same s a x ls la lx (holds x lx has) has);
     }
 
-pub leads_told : (h : Holding) (loaded new : LaneTable) (inputs planes prints : List ℕ) (lanes wide width : ℕ) → IsHolding h inputs width →
+pub leads_told : (h : Holding) (loaded new : LaneTable) (inputs planes hashes : List ℕ) (lanes wide width : ℕ) → IsHolding h inputs width →
     circuit loaded.net ≡ h.circuit → loaded.wide ≡ h.wide → loaded.flops ≡ planes → IsSameTable loaded new → AreStepped loaded new inputs →
     wide ≡ new.wide → lanes ≤ 64 * h.wide →
-    ListsEach (λ r. print_of (parities_of h.groups (lane wide width new.flops r))) prints lanes → TellLeads h planes prints lanes
-leads_told h loaded new inputs planes prints lanes wide size hold net w flops same step width few list =
+    ListsEach (λ r. hash_of (parities_of h.groups (lane wide width new.flops r))) hashes lanes → TellLeads h planes hashes lanes
+leads_told h loaded new inputs planes hashes lanes wide size hold net w flops same step width few list =
     record {
       size = list.size;
       each = λ r lt.
@@ -177,22 +177,22 @@ leads_told h loaded new inputs planes prints lanes wide size hold net w flops sa
           let is : lane wide size new.flops r ≡ next c s a =
           ap₂ (λ (i j : ℕ). lane i j new.flops r) (width ∙ (same.wide ∙ w)) hold.width_is
           ∙ (led ∙ ap (λ (ps : List ℕ). next c (lane h.wide (length c.flops) ps r) a) flops) in
-          lead_told h s a (get_or prints r 0) hold.free (length_lane h.wide (length c.flops) planes r) (length_lane h.wide (length c.inputs) inputs r)
+          lead_told h s a (get_or hashes r 0) hold.independent (length_lane h.wide (length c.flops) planes r) (length_lane h.wide (length c.inputs) inputs r)
           (λ x lx has. lane_holds h.wide (length c.inputs) h.input h.value inputs r x hold.held small lx has)
-          (list.each r lt ∙ ap (λ (bits : List Bool). print_of (parities_of h.groups bits)) is);
+          (list.each r lt ∙ ap (λ (bits : List Bool). hash_of (parities_of h.groups bits)) is);
     }
 
 -- ---- all runs at a cycle
 
-pub runs_told : (p : Passing) (h : Holding) (value : Bool) (planes prints : List ℕ) (lanes : ℕ) → IsSide p h value →
-    ShowsCycle p.circuit p.runs planes p.cycle → lanes ≡ length p.runs → TellLeads h planes prints lanes → TellRuns p h prints p.cycle
-runs_told p h value planes prints lanes side shows all leads =
+pub runs_told : (p : Passing) (h : Holding) (value : Bool) (planes hashes : List ℕ) (lanes : ℕ) → IsSide p h value →
+    ShowsCycle p.circuit p.runs planes p.cycle → lanes ≡ length p.runs → TellLeads h planes hashes lanes → TellRuns p h hashes p.cycle
+runs_told p h value planes hashes lanes side shows all leads =
     record {
       size = leads.size ∙ all;
       each = λ n low high last.
           let same : lane h.wide (length h.circuit.flops) planes (n - 1) ≡ state_at p.circuit (run_of p.runs n) p.cycle =
           (λ i. lane (side.wide i) (length (side.circuit i).flops) planes (n - 1)) ∙ shows.each n low high last in
-          subst (λ (s : List Bool). TellsLead h s (get_or prints (n - 1) 0)) same (leads.each (n - 1) (omega (arith, low, high, all)));
+          subst (λ (s : List Bool). TellsLead h s (get_or hashes (n - 1) 0)) same (leads.each (n - 1) (omega (arith, low, high, all)));
     }
 
 side_same : (p q : Passing) (h : Holding) (value : Bool) → IsSamePass p q → IsSide p h value → IsSide q h value
@@ -202,29 +202,29 @@ side_same p q h value same side = record {
   held = side.held;
 }
 
-told_same : (p q : Passing) (h : Holding) (prints : List ℕ) (cycle : ℕ) → IsSamePass p q → TellRuns p h prints cycle → TellRuns q h prints cycle
-told_same p q h prints cycle same told =
-    let P : Circuit → Type 0 = λ c. TellRuns (record { circuit = c; runs = p.runs; cycle = q.cycle }) h prints cycle in
-    let Q : List Run → Type 0 = λ runs. TellRuns (record { circuit = q.circuit; runs = runs; cycle = q.cycle }) h prints cycle in
-    let here : TellRuns (record { circuit = p.circuit; runs = p.runs; cycle = q.cycle }) h prints cycle = record { size = told.size; each = told.each } in
+told_same : (p q : Passing) (h : Holding) (hashes : List ℕ) (cycle : ℕ) → IsSamePass p q → TellRuns p h hashes cycle → TellRuns q h hashes cycle
+told_same p q h hashes cycle same told =
+    let P : Circuit → Type 0 = λ c. TellRuns (record { circuit = c; runs = p.runs; cycle = q.cycle }) h hashes cycle in
+    let Q : List Run → Type 0 = λ runs. TellRuns (record { circuit = q.circuit; runs = runs; cycle = q.cycle }) h hashes cycle in
+    let here : TellRuns (record { circuit = p.circuit; runs = p.runs; cycle = q.cycle }) h hashes cycle = record { size = told.size; each = told.each } in
     subst Q (sym same.runs) (subst P (sym same.circuit) here)
 
-row_same : (p q : Passing) (low high : Holding) (row : Row) (cycle : ℕ) → IsSamePass p q → TellsRow p low high row cycle → TellsRow q low high row cycle
+row_same : (p q : Passing) (low high : Holding) (row : NextStateHashes) (cycle : ℕ) → IsSamePass p q → TellsRow p low high row cycle → TellsRow q low high row cycle
 row_same p q low high row cycle same told =
     record { lows = told_same p q low row.low cycle same told.lows; highs = told_same p q high row.high cycle same told.highs }
 
 -- ---- the rows
 
-row_at_end : (xs : List Row) (x d : Row) → get_or (xs ++ x ∷ []) (length xs) d ≡ x
+row_at_end : (xs : List NextStateHashes) (x d : NextStateHashes) → get_or (xs ++ x ∷ []) (length xs) d ≡ x
 row_at_end [] x d = refl
 row_at_end (y ∷ xs) x d = row_at_end xs x d
 
-row_at_front : (xs : List Row) (x d : Row) (k : ℕ) → k < length xs → get_or (xs ++ x ∷ []) k d ≡ get_or xs k d
+row_at_front : (xs : List NextStateHashes) (x d : NextStateHashes) (k : ℕ) → k < length xs → get_or (xs ++ x ∷ []) k d ≡ get_or xs k d
 row_at_front [] x d k lt = absurd (omega (arith, lt))
 row_at_front (y ∷ xs) x d zero lt = refl
 row_at_front (y ∷ xs) x d (suc k) lt = row_at_front xs x d k (omega (arith, lt))
 
-pub row_there : (rows : List Row) (k : ℕ) (row : Row) → slice_get rows k ≡ Some row → get_or rows k no_row ≡ row
+pub row_there : (rows : List NextStateHashes) (k : ℕ) (row : NextStateHashes) → slice_get rows k ≡ Some row → get_or rows k no_row ≡ row
 row_there [] k row e = absurd (cc)
 row_there (x ∷ rows) zero row e = cc
 row_there (x ∷ rows) (suc k) row e = row_there rows k row e
@@ -243,15 +243,15 @@ nothing_ahead p low high one other same reset =
     }
 
 -- both sides of a split, and no row yet
-pub starts_ahead : (p : Passing) (low high : Holding) (c : Circuit) (wide input : ℕ) (rows : List Row) → Holds c wide input false low →
+pub starts_ahead : (p : Passing) (low high : Holding) (c : Circuit) (wide input : ℕ) (rows : List NextStateHashes) → Holds c wide input false low →
     Holds c wide input true high → c ≡ p.circuit → wide ≡ wide_of (length p.runs) → p.cycle ≡ 0 → rows ≡ [] → IsForward p low high rows
 starts_ahead p low high c wide input rows one other e w reset none =
     let first : IsSide p low false = record { circuit = one.circuit_is ∙ e; wide = one.wide_is ∙ w; held = one.value_is } in
     let second : IsSide p high true = record { circuit = other.circuit_is ∙ e; wide = other.wide_is ∙ w; held = other.value_is } in
-    subst (λ (rs : List Row). IsForward p low high rs) (sym none) (nothing_ahead p low high first second (other.input_is ∙ sym one.input_is) reset)
+    subst (λ (rs : List NextStateHashes). IsForward p low high rs) (sym none) (nothing_ahead p low high first second (other.input_is ∙ sym one.input_is) reset)
 
 -- a pass that stands at the cycle behind the rows
-pub still_ahead : (old p : Passing) (low high : Holding) (rows : List Row) → IsForward old low high rows → IsSamePass old p → p.cycle ≡ length rows →
+pub still_ahead : (old p : Passing) (low high : Holding) (rows : List NextStateHashes) → IsForward old low high rows → IsSamePass old p → p.cycle ≡ length rows →
     IsForward p low high rows
 still_ahead old p low high rows f same there =
     record {
@@ -265,7 +265,7 @@ still_ahead old p low high rows f same there =
     }
 
 -- a pass that was brought to the cycle behind the rows, or has stayed
-pub brought_ahead : (old p : Passing) (low high : Holding) (rows : List Row) (next : ℕ) → IsForward old low high rows → IsSamePass old p →
+pub brought_ahead : (old p : Passing) (low high : Holding) (rows : List NextStateHashes) (next : ℕ) → IsForward old low high rows → IsSamePass old p →
     next ≡ length rows → (p.cycle ≡ old.cycle) ⊎ (p.cycle ≡ next) → IsForward p low high rows
 brought_ahead old p low high rows next f same is moved =
     record {
@@ -278,7 +278,7 @@ brought_ahead old p low high rows next f same is moved =
       show = λ k lt. row_same old p low high (get_or rows k no_row) k same (f.show k lt);
     }
 
-one_more_ahead : (p : Passing) (low high : Holding) (rows : List Row) (row : Row) → IsForward p low high rows → p.cycle ≡ length rows →
+one_more_ahead : (p : Passing) (low high : Holding) (rows : List NextStateHashes) (row : NextStateHashes) → IsForward p low high rows → p.cycle ≡ length rows →
     length rows ≤ MAX_CYCLES → TellsRow p low high row p.cycle → IsForward p low high (rows ++ row ∷ [])
 one_more_ahead p low high rows row f there few told =
     let longer : length (rows ++ row ∷ []) ≡ length rows + 1 = length-append rows (row ∷ []) in
@@ -292,62 +292,62 @@ one_more_ahead p low high rows row f there few told =
       show = λ k lt.
           ⊎_elim
           (λ (same : k ≡ length rows).
-          subst (λ (x : Row). TellsRow p low high x k)
+          subst (λ (x : NextStateHashes). TellsRow p low high x k)
           (sym (ap (λ (i : ℕ). get_or (rows ++ row ∷ []) i no_row) same ∙ row_at_end rows row no_row))
           (subst (λ (n : ℕ). TellsRow p low high row n) (there ∙ sym same) told))
           (λ (other : k ≡ length rows → ⊥).
           let less : k < length rows = omega (arith, lt, other, longer) in
-          subst (λ (x : Row). TellsRow p low high x k) (sym (row_at_front rows row no_row k less)) (f.show k less))
+          subst (λ (x : NextStateHashes). TellsRow p low high x k) (sym (row_at_front rows row no_row k less)) (f.show k less))
           (cases_eq k (length rows));
     }
 
 -- a row is put to the others, or nothing has changed
-pub pushed_ahead : {A E : Type 0} (p : Passing) (low high : Holding) (rows more : List Row) (row : Row) (put : Result A E) → IsForward p low high rows →
+pub pushed_ahead : {A E : Type 0} (p : Passing) (low high : Holding) (rows more : List NextStateHashes) (row : NextStateHashes) (put : Result A E) → IsForward p low high rows →
     p.cycle ≡ length rows → length rows ≤ MAX_CYCLES → TellsRow p low high row p.cycle → OnOk put (more ≡ rows ++ row ∷ []) → OnErr put (more ≡ rows) → IsForward p low high more
 pushed_ahead p low high rows more row (Ok done) f there few told is same =
-    subst (λ (rs : List Row). IsForward p low high rs) (sym is) (one_more_ahead p low high rows row f there few told)
-pushed_ahead p low high rows more row (Err want) f there few told is same = subst (λ (rs : List Row). IsForward p low high rs) (sym same) f
+    subst (λ (rs : List NextStateHashes). IsForward p low high rs) (sym is) (one_more_ahead p low high rows row f there few told)
+pushed_ahead p low high rows more row (Err want) f there few told is same = subst (λ (rs : List NextStateHashes). IsForward p low high rs) (sym same) f
 
-pub extended_same : (rows more : List Row) → more ≡ rows → Extended rows more
+pub extended_same : (rows more : List NextStateHashes) → more ≡ rows → Extended rows more
 extended_same rows more same =
-    record { longer = omega (arith, ap length same); each = λ k lt. ap (λ (rs : List Row). get_or rs k no_row) same }
+    record { longer = omega (arith, ap length same); each = λ k lt. ap (λ (rs : List NextStateHashes). get_or rs k no_row) same }
 
-pub extended_put : {A E : Type 0} (rows more : List Row) (row : Row) (put : Result A E) → OnOk put (more ≡ rows ++ row ∷ []) →
+pub extended_put : {A E : Type 0} (rows more : List NextStateHashes) (row : NextStateHashes) (put : Result A E) → OnOk put (more ≡ rows ++ row ∷ []) →
     OnErr put (more ≡ rows) → Extended rows more
 extended_put rows more row (Ok done) is same =
     record {
       longer = omega (arith, ap length is, length-append rows (row ∷ []));
-      each = λ k lt. ap (λ (rs : List Row). get_or rs k no_row) is ∙ row_at_front rows row no_row k lt;
+      each = λ k lt. ap (λ (rs : List NextStateHashes). get_or rs k no_row) is ∙ row_at_front rows row no_row k lt;
     }
 extended_put rows more row (Err want) is same = extended_same rows more same
 
-pub extended_more : (rows mid more : List Row) → Extended rows mid → Extended mid more → Extended rows more
+pub extended_more : (rows mid more : List NextStateHashes) → Extended rows mid → Extended mid more → Extended rows more
 extended_more rows mid more a b =
     record {
       longer = omega (arith, a.longer, b.longer);
       each = λ k lt. b.each k (omega (arith, lt, a.longer)) ∙ a.each k lt;
     }
 
--- ---- what a print says
+-- ---- what a hash says
 
 neither : (a b : Bool) → (a || b) ≡ false → (a ≡ false) × (b ≡ false)
 neither true b e = absurd (true≢false e)
 neither false b e = (refl, e)
 
--- a print that differs tells that the state leads nowhere, where the input has the value
-told_apart : (c : Circuit) (h : Holding) (s present x : List Bool) (print aim : ℕ) → h.circuit ≡ c → TellsLead h s print →
-    aim ≡ print_of (parities_of h.groups present) → (print ≡ aim → ⊥) → length x ≡ length c.inputs → get_or x h.input false ≡ h.value →
+-- a hash that differs tells that the state leads nowhere, where the input has the value
+told_apart : (c : Circuit) (h : Holding) (s present x : List Bool) (hash aim : ℕ) → h.circuit ≡ c → TellsLead h s hash →
+    aim ≡ hash_of (parities_of h.groups present) → (hash ≡ aim → ⊥) → length x ≡ length c.inputs → get_or x h.input false ≡ h.value →
     next c s x ≡ present → ⊥
-told_apart c h s present x print aim is told e differ lx has leads =
+told_apart c h s present x hash aim is told e differ lx has leads =
     differ
     (told.each x (lx ∙ ap (λ (d : Circuit). length d.inputs) (sym is)) has
-    ∙ (ap (λ (d : Circuit). print_of (parities_of h.groups (next d s x))) is
-    ∙ (ap (λ (bits : List Bool). print_of (parities_of h.groups bits)) leads ∙ sym e)))
+    ∙ (ap (λ (d : Circuit). hash_of (parities_of h.groups (next d s x))) is
+    ∙ (ap (λ (bits : List Bool). hash_of (parities_of h.groups bits)) leads ∙ sym e)))
 
--- two prints that differ from an aim's tell that a state leads nowhere
-pub led_nowhere : (p : Passing) (low high : Holding) (row : Row) (aim : Aim) (present : List Bool) (run cycle : ℕ) → IsSide p low false →
+-- two hashes that differ from an aim's tell that a state leads nowhere
+pub led_nowhere : (p : Passing) (low high : Holding) (row : NextStateHashes) (aim : Aim) (present : List Bool) (run cycle : ℕ) → IsSide p low false →
     IsSide p high true → high.input ≡ low.input → TellsRow p low high row cycle → IsMoment p.runs (moment run cycle) →
-    aim.low ≡ print_of (parities_of low.groups present) → aim.high ≡ print_of (parities_of high.groups present) →
+    aim.low ≡ hash_of (parities_of low.groups present) → aim.high ≡ hash_of (parities_of high.groups present) →
     (get_or row.low (run - 1) 0 ≡ aim.low → ⊥) → (get_or row.high (run - 1) 0 ≡ aim.high → ⊥) →
     LeadsNowhere p.circuit (state_at p.circuit (run_of p.runs run) cycle) present
 led_nowhere p low high row aim present run cycle low_side high_side input told m one other low_apart high_apart =
@@ -365,13 +365,13 @@ led_nowhere p low high row aim present run cycle low_side high_side input told m
         (told.highs.each run m.from_one m.recorded m.lasts) other high_apart lx
         (ap (λ (n : ℕ). get_or x n false) input ∙ (has ∙ sym high_side.held)) leads
 
-pub nowhere : (p : Passing) (low high : Holding) (rows : List Row) (row : Row) (aim : Aim) (present : List Bool) (run cycle at : ℕ) (may : Bool) →
+pub nowhere : (p : Passing) (low high : Holding) (rows : List NextStateHashes) (row : NextStateHashes) (aim : Aim) (present : List Bool) (run cycle at : ℕ) (may : Bool) →
     IsForward p low high rows → cycle < length rows → slice_get rows cycle ≡ Some row → IsMoment p.runs (moment run cycle) → at ≡ run - 1 →
-    aim.low ≡ print_of (parities_of low.groups present) → aim.high ≡ print_of (parities_of high.groups present) →
+    aim.low ≡ hash_of (parities_of low.groups present) → aim.high ≡ hash_of (parities_of high.groups present) →
     may ≡ ((get_or row.low at 0 == aim.low) || (get_or row.high at 0 == aim.high)) → may ≡ false →
     LeadsNowhere p.circuit (state_at p.circuit (run_of p.runs run) cycle) present
 nowhere p low high rows row aim present run cycle at may f lt look m back one other is denied =
-    let told : TellsRow p low high row cycle = subst (λ (x : Row). TellsRow p low high x cycle) (row_there rows cycle row look) (f.show cycle lt) in
+    let told : TellsRow p low high row cycle = subst (λ (x : NextStateHashes). TellsRow p low high x cycle) (row_there rows cycle row look) (f.show cycle lt) in
     let both : (nat_eq (get_or row.low at 0) aim.low ≡ false) × (nat_eq (get_or row.high at 0) aim.high ≡ false) = neither _ _ (sym is ∙ denied) in
     led_nowhere p low high row aim present run cycle f.low_side f.high_side f.input told m one other
     (λ (e : get_or row.low (run - 1) 0 ≡ aim.low). eqb-false (get_or row.low at 0) aim.low both.0 (ap (λ (n : ℕ). get_or row.low n 0) back ∙ e))

@@ -1,3 +1,3 @@
-pub mod FreeLemmas
+pub mod IndependentLemmas
 pub mod ForwardLemmas
 pub mod FirstLemmas

@@ -1,4 +1,4 @@
--- Where recorded states lead: prints of the next bits that no data input but one moves, where that one is 0, and where it is 1.
+-- Where recorded states lead: hashes of the next bits that no data input but one moves, where that one is 0, and where it is 1.
 use Rattle.std.specs.Prelude.{◌≡◌, ◌≢◌, ℕ, ◌<◌, ◌≤◌, ◌+◌, ◌-◌, ◌*◌, Bool, true, false, List, [], length, slice_index_or}
 use Rattle.bs_net.specs.Circuit.{Circuit, next}
 use Rattle.bs_stim.specs.declared.limits.TheConstants.{MAX_CYCLES}
@@ -6,10 +6,10 @@ use Rattle.bs_stim.specs.Packing.{bit_in}
 use Rattle.bs_lanes_planes.specs.Planes.{bit_place, lane}
 use Rattle.bs_scan.specs.Moments.{Run, moment, IsMoment, run_of, state_at}
 use Rattle.bs_chip_forward.specs.declared.forward.Aim.{Aim}
-use Rattle.bs_chip_forward.specs.declared.forward.Row.{Row}
+use Rattle.bs_chip_forward.specs.declared.forward.NextStateHashes.{NextStateHashes}
 use Rattle.bs_chip.specs.Lockstep.{wide_of, Passing}
-use Rattle.bs_chip.specs.Prints.{print_of}
-use Rattle.bs_chip_forward.specs.Groups.{parities_of, AreFree}
+use Rattle.bs_chip.specs.Hashes.{hash_of}
+use Rattle.bs_chip_forward.specs.Groups.{parities_of, AreIndependent}
 
 -- ---- what callers see
 
@@ -20,10 +20,10 @@ pub record Ahead : Type 0 where
   pub low : List (List ℕ)
   pub high : List (List ℕ)
 
--- the prints of a state's parities that are looked at
+-- the hashes of a state's parities that are looked at
 pub record IsAim (a : Ahead) (present : List Bool) (aim : Aim) : Type 0 where
-  pub low : aim.low ≡ print_of (parities_of a.low present)
-  pub high : aim.high ≡ print_of (parities_of a.high present)
+  pub low : aim.low ≡ hash_of (parities_of a.low present)
+  pub high : aim.high ≡ hash_of (parities_of a.high present)
 
 -- under no input of the netlist's width does a state lead to another
 pub record LeadsNowhere (c : Circuit) (s present : List Bool) : Type 0 where
@@ -54,40 +54,40 @@ pub record Holds (c : Circuit) (wide input : ℕ) (value : Bool) (h : Holding) :
 pub record IsHeldIn (wide input : ℕ) (value : Bool) (planes : List ℕ) (lanes : ℕ) : Type 0 where
   pub each : (r : ℕ) → r < lanes → bit_in planes (bit_place wide input r) ≡ value
 
--- the input has the value in each lane, if it is there, and the groups are free then
+-- the input has the value in each lane, if it is there, and the groups are independent then
 pub record IsHolding (h : Holding) (inputs : List ℕ) (width : ℕ) : Type 0 where
   pub some : 1 ≤ h.wide
   pub few : h.wide ≤ 4
   pub width_is : width ≡ length h.circuit.flops
   pub size : length inputs ≡ length h.circuit.inputs * h.wide
   pub held : h.input < length h.circuit.inputs → IsHeldIn h.wide h.input h.value inputs (64 * h.wide)
-  pub free : AreFree h.circuit h.input h.value h.groups
+  pub independent : AreIndependent h.circuit h.input h.value h.groups
 
--- a print is that of where a state leads under each input in which this one has the value, of the groups
-pub record TellsLead (h : Holding) (s : List Bool) (print : ℕ) : Type 0 where
+-- a hash is that of where a state leads under each input in which this one has the value, of the groups
+pub record TellsLead (h : Holding) (s : List Bool) (hash : ℕ) : Type 0 where
   pub each : (x : List Bool) → length x ≡ length h.circuit.inputs → slice_index_or x h.input false ≡ h.value →
-      print ≡ print_of (parities_of h.groups (next h.circuit s x))
+      hash ≡ hash_of (parities_of h.groups (next h.circuit s x))
 
--- so many prints are those of where the lanes of planes lead
-pub record TellLeads (h : Holding) (planes prints : List ℕ) (lanes : ℕ) : Type 0 where
-  pub size : length prints ≡ lanes
-  pub each : (r : ℕ) → r < lanes → TellsLead h (lane h.wide (length h.circuit.flops) planes r) (slice_index_or prints r 0)
+-- so many hashes are those of where the lanes of planes lead
+pub record TellLeads (h : Holding) (planes hashes : List ℕ) (lanes : ℕ) : Type 0 where
+  pub size : length hashes ≡ lanes
+  pub each : (r : ℕ) → r < lanes → TellsLead h (lane h.wide (length h.circuit.flops) planes r) (slice_index_or hashes r 0)
 
 -- ---- all runs
 
--- the prints of where each run leads from a cycle that it lasts to
-pub record TellRuns (p : Passing) (h : Holding) (prints : List ℕ) (cycle : ℕ) : Type 0 where
-  pub size : length prints ≡ length p.runs
+-- the hashes of where each run leads from a cycle that it lasts to
+pub record TellRuns (p : Passing) (h : Holding) (hashes : List ℕ) (cycle : ℕ) : Type 0 where
+  pub size : length hashes ≡ length p.runs
   pub each : (n : ℕ) → 1 ≤ n → n ≤ length p.runs → cycle ≤ length (run_of p.runs n) →
-      TellsLead h (state_at p.circuit (run_of p.runs n) cycle) (slice_index_or prints (n - 1) 0)
+      TellsLead h (state_at p.circuit (run_of p.runs n) cycle) (slice_index_or hashes (n - 1) 0)
 
 -- the same for both values
-pub record TellsRow (p : Passing) (low high : Holding) (row : Row) (cycle : ℕ) : Type 0 where
+pub record TellsRow (p : Passing) (low high : Holding) (row : NextStateHashes) (cycle : ℕ) : Type 0 where
   pub lows : TellRuns p low row.low cycle
   pub highs : TellRuns p high row.high cycle
 
 -- a row of nothing, which stands past the end of a list
-abbrev pub no_row : Row
+abbrev pub no_row : NextStateHashes
 no_row = record { low = []; high = [] }
 
 -- a machine with an input held at a value is that of a pass
@@ -97,7 +97,7 @@ pub record IsSide (p : Passing) (h : Holding) (value : Bool) : Type 0 where
   pub held : h.value ≡ value
 
 -- the rows of the first cycles, the last of which is that of the pass or the one before
-pub record IsForward (p : Passing) (low high : Holding) (rows : List Row) : Type 0 where
+pub record IsForward (p : Passing) (low high : Holding) (rows : List NextStateHashes) : Type 0 where
   pub low_side : IsSide p low false
   pub high_side : IsSide p high true
   pub input : high.input ≡ low.input
@@ -107,6 +107,6 @@ pub record IsForward (p : Passing) (low high : Holding) (rows : List Row) : Type
   pub show : (k : ℕ) → k < length rows → TellsRow p low high (slice_index_or rows k no_row) k
 
 -- the same rows, and perhaps further ones
-pub record Extended (old new : List Row) : Type 0 where
+pub record Extended (old new : List NextStateHashes) : Type 0 where
   pub longer : length old ≤ length new
   pub each : (k : ℕ) → k < length old → slice_index_or new k no_row ≡ slice_index_or old k no_row

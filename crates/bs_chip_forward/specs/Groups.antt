@@ -12,7 +12,7 @@ pub record IsPicked (flags : List Bool) (place : ℕ) (picked : Bool) : Type 0 w
   pub flagged : picked ≡ true → slice_index_or flags place false ≡ true
 
 -- the groups' parities of the next state are the same under all inputs in which a data input has a value
-pub record AreFree (c : Circuit) (input : ℕ) (value : Bool) (groups : List (List ℕ)) : Type 0 where
+pub record AreIndependent (c : Circuit) (input : ℕ) (value : Bool) (groups : List (List ℕ)) : Type 0 where
   pub in_range : All (λ group. All (λ place. place < length c.flops) group) groups
   pub same : (state a b : List Bool) → length state ≡ length c.flops → length a ≡ length c.inputs → length b ≡ length c.inputs →
       slice_index_or a input false ≡ value → slice_index_or b input false ≡ value →

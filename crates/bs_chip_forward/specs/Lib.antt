@@ -3,5 +3,5 @@ pub mod Groups
 pub mod Forward
 pub mod Firsts
 -- flip-flops that load the same bit under all inputs with one data input's value
-pub mod Free
+pub mod Independent
 pub mod Marked

@@ -1,4 +1,4 @@
-//! For each print, the first cycle at which a run leads to a state that has it: before this cycle none does.
+//! For each hash, the first cycle at which a run leads to a state that has it: before this cycle none does.
 ghost use Rattle.std.specs.Prelude.{◌≡◌, ◌<◌, ◌≤◌, ◌+◌, length, nat_eq, OnOk};
 ghost use Rattle.std.specs.HashMap.{get};
 ghost use Rattle.std.specs.Option.{unwrap_or};
@@ -6,15 +6,15 @@ ghost use Rattle.bs_stim.specs.declared.limits.TheConstants.{MAX_CYCLES};
 ghost use Rattle.bs_chip.specs.Index.{HasBy, Keeps};
 ghost use Rattle.bs_chip_forward.specs.Firsts.{AreNoted, HaveBy};
 
-use crate::forward::{Aim, Row};
+use crate::forward::{Aim, NextStateHashes};
 use bs_bits::{List, NoMemory};
 use std::alloc::Global;
 use std::collections::HashMap;
 
-/// How many prints of one side are noted when no further cycle is. There are never more than this many and one a run.
+/// How many hashes of one side are noted when no further cycle is. There are never more than this many and one a run.
 const MAX_FIRSTS: usize = 2_097_152;
 
-/// For each print of the first so many rows, the first row that has it: where the data input is 0, and where it is 1.
+/// For each hash of the first so many rows, the first row that has it: where the data input is 0, and where it is 1.
 #[derive(Drop)]
 pub struct Firsts {
     pub low: HashMap<u64, u32>,
@@ -23,7 +23,7 @@ pub struct Firsts {
 }
 
 impl Firsts {
-    /// The prints of no row.
+    /// The hashes of no row.
     pub fn new(alloc: Global) -> Firsts
         ensures { result.cycles ≡ 0 }
     {
@@ -35,49 +35,49 @@ impl Firsts {
     }
 }
 
-/// The cycle of a print, or another where it has none.
-fn cycle_of(first: &HashMap<u64, u32>, print: u64, other: u32) -> u32
-    ensures { result ≡ unwrap_or (get nat_eq first.now print) other }
+/// The cycle of a hash, or another where it has none.
+fn cycle_of(first: &HashMap<u64, u32>, hash: u64, other: u32) -> u32
+    ensures { result ≡ unwrap_or (get nat_eq first.now hash) other }
 {
-    first.get(&print).copied().unwrap_or(other)
+    first.get(&hash).copied().unwrap_or(other)
 }
 
-/// Notes that a state has a print at a cycle.
+/// Notes that a state has a hash at a cycle.
 #[tactic(auto, using(bs_chip::proofs::IndexLemmas::keeps_same, bs_chip::proofs::IndexLemmas::keeps_unchanged, bs_chip::proofs::IndexLemmas::put_keeps, bs_chip::proofs::IndexLemmas::put_notes))]
-fn note(first: &mut HashMap<u64, u32>, print: u64, cycle: u32) -> Result<(), NoMemory>
+fn note(first: &mut HashMap<u64, u32>, hash: u64, cycle: u32) -> Result<(), NoMemory>
     requires { cycle ≤ MAX_CYCLES }
     ensures keeps { Keeps first.old first.new }
-    ensures notes { OnOk result (HasBy first.new print cycle) }
+    ensures notes { OnOk result (HasBy first.new hash cycle) }
 {
-    if cycle_of(first, print, cycle + 1) <= cycle {
+    if cycle_of(first, hash, cycle + 1) <= cycle {
         return Ok(());
     }
-    first.insert(print, cycle)?;
+    first.insert(hash, cycle)?;
     Ok(())
 }
 
-/// Notes the prints of a cycle.
-fn note_all(first: &mut HashMap<u64, u32>, prints: &[u64], cycle: u32) -> Result<(), NoMemory>
+/// Notes the hashes of a cycle.
+fn note_all(first: &mut HashMap<u64, u32>, hashes: &[u64], cycle: u32) -> Result<(), NoMemory>
     requires { cycle ≤ MAX_CYCLES }
     ensures keeps { Keeps first.old first.new }
-    ensures notes { OnOk result (HaveBy first.new prints.now cycle (length prints.now)) }
+    ensures notes { OnOk result (HaveBy first.new hashes.now cycle (length hashes.now)) }
 {
-    'prints: for i in 0..prints.len() {
-        note(first, prints[i], cycle)?;
+    'hashes: for i in 0..hashes.len() {
+        note(first, hashes[i], cycle)?;
     }
     Ok(())
 }
 
-/// Whether as many prints are noted as there may be.
+/// Whether as many hashes are noted as there may be.
 fn is_full(firsts: &Firsts) -> bool {
     firsts.low.len() >= MAX_FIRSTS || firsts.high.len() >= MAX_FIRSTS
 }
 
-/// Notes the prints of a row.
+/// Notes the hashes of a row.
 fn note_row(
     low: &mut HashMap<u64, u32>,
     high: &mut HashMap<u64, u32>,
-    row: &Row,
+    row: &NextStateHashes,
     cycle: u32,
 ) -> Result<(), NoMemory>
     requires { cycle ≤ MAX_CYCLES }
@@ -90,8 +90,8 @@ fn note_row(
     note_all(high, row.high.slice(), cycle)
 }
 
-/// Notes the prints of further rows, as long as there are not too many.
-pub fn note_rows(firsts: &mut Firsts, rows: &List<Row>) -> Result<(), NoMemory>
+/// Notes the hashes of further rows, as long as there are not too many.
+pub fn note_rows(firsts: &mut Firsts, rows: &List<NextStateHashes>) -> Result<(), NoMemory>
     requires few { length rows.now ≤ MAX_CYCLES + 1 }
     requires noted { AreNoted firsts.old.low firsts.old.high firsts.old.cycles rows.now }
     ensures { AreNoted firsts.new.low firsts.new.high firsts.new.cycles rows.now }
@@ -106,7 +106,7 @@ pub fn note_rows(firsts: &mut Firsts, rows: &List<Row>) -> Result<(), NoMemory>
     Ok(())
 }
 
-/// A cycle before which no noted row has a print of an aim.
+/// A cycle before which no noted row has a hash of an aim.
 pub fn first_of(firsts: &Firsts, aim: Aim) -> u32
     ensures within { result ≤ firsts.now.cycles }
     ensures low { result ≤ unwrap_or (get nat_eq firsts.now.low aim.low) firsts.now.cycles }

@@ -2,7 +2,7 @@
 ghost use Rattle.std.specs.Prelude.{◌≡◌, length, map, All, IfOk};
 ghost use Rattle.bs_net.specs.Netlist.{circuit};
 ghost use Rattle.bs_net.specs.Parts.{IsFlopPlaced};
-ghost use Rattle.bs_chip_forward.specs.Free.{IsFree};
+ghost use Rattle.bs_chip_forward.specs.Independent.{IsIndependent};
 ghost use Rattle.bs_net_marks.specs.Marks.{flop_mark, is_known};
 
 use crate::nets::marks_of;
@@ -26,8 +26,8 @@ fn known_flops(alloc: Global, marks: &[Mark], flops: &[Flop]) -> Result<Bits, No
 /// A flag for each flip-flop: those whose next bits no other data input moves, once this one (counted from 0) has a value.
 /// Where there is no such data input: those that no data input moves. It takes time linear in the nets and in the gates'
 /// inputs.
-pub fn free_flops(alloc: Global, net: &Netlist, input: usize, value: bool) -> Result<Bits, NoMemory>
-    ensures { IfOk result (λ flags. IsFree (circuit net.now) input value flags) }
+pub fn independent_flops(alloc: Global, net: &Netlist, input: usize, value: bool) -> Result<Bits, NoMemory>
+    ensures { IfOk result (λ flags. IsIndependent (circuit net.now) input value flags) }
 {
     let marks = marks_of(alloc, net, input, value)?;
     let raw = net.raw();

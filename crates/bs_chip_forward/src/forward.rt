@@ -1,7 +1,7 @@
-//! Where the recorded states lead, as prints by cycle and run: states that lead elsewhere under every input are passed over.
+//! Where the recorded states lead, as hashes by cycle and run: states that lead elsewhere under every input are passed over.
 ghost use Rattle.std.specs.Prelude.{◌≡◌, ◌⊎◌, ◌<◌, ◌≤◌, ◌+◌, ◌==◌, ◌||◌, false, true, length, slice_index_or, IfOk, IsTrue, OnOk};
 ghost use Rattle.bs_net.specs.Netlist.{circuit};
-ghost use Rattle.bs_chip_forward.specs.Free.{IsFree};
+ghost use Rattle.bs_chip_forward.specs.Independent.{IsIndependent};
 ghost use Rattle.bs_stim.specs.declared.limits.TheConstants.{MAX_CYCLES};
 ghost use Rattle.bs_scan.specs.Moments.{moment, run_of, state_at, IsMoment};
 ghost use Rattle.bs_lanes.specs.Lanes.{is_wide};
@@ -9,8 +9,8 @@ ghost use Rattle.bs_chip_forward.specs.Forward.{Extended, Holds, IsAim, IsForwar
 ghost use Rattle.bs_chip.specs.Lockstep.{IsSamePass};
 
 use crate::firsts::{Firsts, first_of, note_rows};
-use crate::flops::free_flops;
-use crate::groups::parity_print;
+use crate::flops::independent_flops;
+use crate::groups::parity_hash;
 use crate::held::Held;
 use crate::split::{Split, split_of};
 use bs_bits::{Bits, List, NoMemory};
@@ -19,27 +19,27 @@ use bs_net::Netlist;
 use std::alloc::Global;
 use std::marker::Model;
 
-/// The prints of a present state's bits that no data input but one moves: where this one is 0, and where it is 1.
+/// The hashes of a present state's bits that no data input but one moves: where this one is 0, and where it is 1.
 #[derive(Clone, Copy)]
 pub struct Aim {
     pub low: u64,
     pub high: u64,
 }
 
-/// The prints of where all runs lead from one cycle: where the data input is 0, and where it is 1.
+/// The hashes of where all runs lead from one cycle: where the data input is 0, and where it is 1.
 #[derive(Drop)]
-pub struct Row {
+pub struct NextStateHashes {
     pub low: List<u64>,
     pub high: List<u64>,
 }
 
-/// The flip-flops that are free where there is no data input.
+/// The flip-flops that are independent where there is no data input.
 fn unsplit(alloc: Global, net: &Netlist) -> Result<Split, NoMemory>
-    ensures low { IfOk result (λ split. IsFree (circuit net.now) split.input false split.low) }
-    ensures high { IfOk result (λ split. IsFree (circuit net.now) split.input true split.high) }
+    ensures low { IfOk result (λ split. IsIndependent (circuit net.now) split.input false split.low) }
+    ensures high { IfOk result (λ split. IsIndependent (circuit net.now) split.input true split.high) }
 {
-    let low = free_flops(alloc, net, 0, false)?;
-    let high = free_flops(alloc, net, 0, true)?;
+    let low = independent_flops(alloc, net, 0, false)?;
+    let high = independent_flops(alloc, net, 0, true)?;
     Ok(Split {
         input: 0,
         low,
@@ -48,9 +48,9 @@ fn unsplit(alloc: Global, net: &Netlist) -> Result<Split, NoMemory>
 }
 
 /// A data input, if there is one, and the flip-flops that no other one moves.
-fn freeing(alloc: Global, net: &Netlist) -> Result<Split, NoMemory>
-    ensures low { IfOk result (λ split. IsFree (circuit net.now) split.input false split.low) }
-    ensures high { IfOk result (λ split. IsFree (circuit net.now) split.input true split.high) }
+fn best_split(alloc: Global, net: &Netlist) -> Result<Split, NoMemory>
+    ensures low { IfOk result (λ split. IsIndependent (circuit net.now) split.input false split.low) }
+    ensures high { IfOk result (λ split. IsIndependent (circuit net.now) split.input true split.high) }
 {
     match split_of(alloc, net)? {
         Some(split) => Ok(split),
@@ -76,7 +76,7 @@ fn beside<'a>(
     requires wide { IsTrue (is_wide wide) }
     requires some { 1 ≤ wide }
     requires few { wide ≤ 4 }
-    requires free { IsFree (circuit net.now) split.now.input true split.now.high }
+    requires independent { IsIndependent (circuit net.now) split.now.input true split.now.high }
     ensures low { IfOk result (λ sides. sides.low ≡ low.entry) }
     ensures high { IfOk result (λ sides. Holds (circuit net.now) wide split.now.input true sides.high) }
 {
@@ -94,8 +94,8 @@ fn sides_of<'a>(
     requires wide { IsTrue (is_wide wide) }
     requires some { 1 ≤ wide }
     requires few { wide ≤ 4 }
-    requires low { IsFree (circuit net.now) split.now.input false split.now.low }
-    requires high { IsFree (circuit net.now) split.now.input true split.now.high }
+    requires low { IsIndependent (circuit net.now) split.now.input false split.now.low }
+    requires high { IsIndependent (circuit net.now) split.now.input true split.now.high }
     ensures low { IfOk result (λ sides. Holds (circuit net.now) wide split.now.input false sides.low) }
     ensures high { IfOk result (λ sides. Holds (circuit net.now) wide split.now.input true sides.high) }
 {
@@ -110,16 +110,16 @@ fn row_of(
     pass: &Pass<'_>,
     low: &mut Held<'_>,
     high: &mut Held<'_>,
-) -> Result<Row, NoMemory>
+) -> Result<NextStateHashes, NoMemory>
     requires low { IsSide pass.now low.old false }
     requires high { IsSide pass.now high.old true }
     ensures low { low.new ≡ low.old }
     ensures high { high.new ≡ high.old }
     ensures row { IfOk result (λ row. TellsRow pass.now low.old high.old row pass.now.cycle) }
 {
-    let lows = low.prints(alloc, pass.planes(), pass.count())?;
-    let highs = high.prints(alloc, pass.planes(), pass.count())?;
-    Ok(Row {
+    let lows = low.hashes(alloc, pass.planes(), pass.count())?;
+    let highs = high.hashes(alloc, pass.planes(), pass.count())?;
+    Ok(NextStateHashes {
         low: lows,
         high: highs,
     })
@@ -131,7 +131,7 @@ fn advance(
     pass: &mut Pass<'_>,
     low: &mut Held<'_>,
     high: &mut Held<'_>,
-    rows: &mut List<Row>,
+    rows: &mut List<NextStateHashes>,
 ) -> Result<(), NoMemory>
     requires ahead { IsForward pass.old low.old high.old rows.old }
     requires few { length rows.old ≤ MAX_CYCLES }
@@ -153,7 +153,7 @@ fn reach(
     pass: &mut Pass<'_>,
     low: &mut Held<'_>,
     high: &mut Held<'_>,
-    rows: &mut List<Row>,
+    rows: &mut List<NextStateHashes>,
     cycle: usize,
 ) -> Result<(), NoMemory>
     requires ahead { IsForward pass.old low.old high.old rows.old }
@@ -192,7 +192,7 @@ fn advance_by(
     pass: &mut Pass<'_>,
     low: &mut Held<'_>,
     high: &mut Held<'_>,
-    rows: &mut List<Row>,
+    rows: &mut List<NextStateHashes>,
 ) -> Result<(), NoMemory>
     requires circuit { pass.old.circuit ≡ chip.now.recording.circuit }
     requires runs { pass.old.runs ≡ chip.now.recording.runs }
@@ -216,7 +216,7 @@ fn reach_by(
     pass: &mut Pass<'_>,
     low: &mut Held<'_>,
     high: &mut Held<'_>,
-    rows: &mut List<Row>,
+    rows: &mut List<NextStateHashes>,
     cycle: usize,
 ) -> Result<(), NoMemory>
     requires circuit { pass.old.circuit ≡ chip.now.recording.circuit }
@@ -235,8 +235,8 @@ fn reach_by(
     Ok(())
 }
 
-/// Whether a lane has one of two prints.
-fn is_aimed(row: &Row, lane: usize, aim: Aim) -> bool
+/// Whether a lane has one of two hashes.
+fn is_aimed(row: &NextStateHashes, lane: usize, aim: Aim) -> bool
     requires low { lane < length row.now.low }
     requires high { lane < length row.now.high }
     ensures { result ≡ ((slice_index_or row.now.low lane 0 == aim.low) || (slice_index_or row.now.high lane 0 == aim.high)) }
@@ -254,7 +254,7 @@ pub struct Forward<'a> {
     pass: Pass<'a>,
     low: Held<'a>,
     high: Held<'a>,
-    rows: List<Row>,
+    rows: List<NextStateHashes>,
     firsts: Firsts,
 }
 
@@ -278,8 +278,8 @@ fn started<'a>(
 ) -> Result<Forward<'a>, NoMemory>
     requires net { circuit net.now ≡ pass.circuit }
     requires reset { pass.cycle ≡ 0 }
-    requires low { IsFree (circuit net.now) split.now.input false split.now.low }
-    requires high { IsFree (circuit net.now) split.now.input true split.now.high }
+    requires low { IsIndependent (circuit net.now) split.now.input false split.now.low }
+    requires high { IsIndependent (circuit net.now) split.now.input true split.now.high }
     ensures circuit { IfOk result (λ f. f.circuit ≡ pass.entry.circuit) }
     ensures runs { IfOk result (λ f. f.runs ≡ pass.entry.runs) }
 {
@@ -300,7 +300,7 @@ impl<'a> Forward<'a> {
         ensures runs { IfOk result (λ f. f.runs ≡ chip.now.recording.runs) }
     {
         let net = chip.net();
-        let split = freeing(alloc, net)?;
+        let split = best_split(alloc, net)?;
         let pass = chip.pass(alloc)?;
         let forward = started(alloc, net, &split, pass)?;
         Ok(forward)
@@ -311,8 +311,8 @@ impl<'a> Forward<'a> {
         requires { length present.now ≡ length self.now.circuit.flops }
         ensures { IsAim self.now present.now result }
     {
-        let low = parity_print(self.low.groups(), present);
-        let high = parity_print(self.high.groups(), present);
+        let low = parity_hash(self.low.groups(), present);
+        let high = parity_hash(self.high.groups(), present);
         Aim { low, high }
     }
 

@@ -1,13 +1,13 @@
-//! Groups of a state's bits. A state is told by the print of their parities, which all lanes give at once.
+//! Groups of a state's bits. A state is told by the hash of their parities, which all lanes give at once.
 ghost use Rattle.std.specs.Prelude.{◌≡◌, ◌<◌, ◌≤◌, ◌+◌, ◌*◌, true, false, length, slice_get, slice_index_or, All, IfOk, Some};
 ghost use Rattle.bs_lanes_planes.specs.Planes.{lane as lane_in};
 ghost use Rattle.bs_scan.specs.Signature.{parity_of};
 ghost use Rattle.bs_chip.specs.Parities.{HaveParities, IsParityWord};
-ghost use Rattle.bs_chip.specs.Prints.{print_of, ListsEach};
+ghost use Rattle.bs_chip.specs.Hashes.{hash_of, ListsEach};
 ghost use Rattle.bs_chip_forward.specs.Groups.{parities_of, IsPicked};
 
 use bs_bits::{Bits, List, NoMemory};
-use bs_chip::print_more;
+use bs_chip::hash_more;
 use bs_lanes_planes::lane_bit;
 use std::alloc::Global;
 
@@ -79,17 +79,17 @@ fn parity(group: &[u32], bits: &Bits) -> bool
     ones.count() % 2 == 1
 }
 
-/// The print of the groups' parities of a list of bits.
-pub fn parity_print(groups: &List<List<u32>>, bits: &Bits) -> u64
+/// The hash of the groups' parities of a list of bits.
+pub fn parity_hash(groups: &List<List<u32>>, bits: &Bits) -> u64
     requires { All (λ group. All (λ place. place < length bits.now) group) groups.now }
-    ensures { result ≡ print_of (parities_of groups.now bits.now) }
+    ensures { result ≡ hash_of (parities_of groups.now bits.now) }
 {
-    let mut print = 0;
+    let mut hash = 0;
     'groups: for i in 0..groups.len() {
         let group = group_at(groups, i, bits.len());
-        print = print_more(print, parity(group.slice(), bits));
+        hash = hash_more(hash, parity(group.slice(), bits));
     }
-    print
+    hash
 }
 
 /// Of 64 lanes, those in which an odd number of a group's places is 1.
@@ -126,21 +126,21 @@ fn put_parities(
     }
 }
 
-/// The print of a lane of so many planes.
-fn lane_print(planes: &[u64], wide: usize, lane: usize, count: usize) -> u64
+/// The hash of a lane of so many planes.
+fn lane_hash(planes: &[u64], wide: usize, lane: usize, count: usize) -> u64
     requires lane { lane < 64 * wide }
     requires size { length planes.now ≡ count * wide }
-    ensures { result ≡ print_of (lane_in wide count planes.now lane) }
+    ensures { result ≡ hash_of (lane_in wide count planes.now lane) }
 {
-    let mut print = 0;
+    let mut hash = 0;
     'places: for i in 0..count {
-        print = print_more(print, lane_bit(planes, wide, i, lane));
+        hash = hash_more(hash, lane_bit(planes, wide, i, lane));
     }
-    print
+    hash
 }
 
-/// The prints of so many lanes.
-fn lane_prints(
+/// The hashes of so many lanes.
+fn lane_hashes(
     alloc: Global,
     planes: &[u64],
     wide: usize,
@@ -149,13 +149,13 @@ fn lane_prints(
 ) -> Result<List<u64>, NoMemory>
     requires lanes { lanes ≤ 64 * wide }
     requires size { length planes.now ≡ count * wide }
-    ensures { IfOk result (λ prints. ListsEach (λ lane. print_of (lane_in wide count planes.now lane)) prints lanes) }
+    ensures { IfOk result (λ hashes. ListsEach (λ lane. hash_of (lane_in wide count planes.now lane)) hashes lanes) }
 {
-    let mut prints = List::new(alloc);
+    let mut hashes = List::new(alloc);
     'lanes: for lane in 0..lanes {
-        prints.push(lane_print(planes, wide, lane as usize, count))?;
+        hashes.push(lane_hash(planes, wide, lane as usize, count))?;
     }
-    Ok(prints)
+    Ok(hashes)
 }
 
 /// So many words of zeros.
@@ -176,8 +176,8 @@ fn zero_planes(alloc: Global, count: usize, wide: usize) -> Result<Vec<u64>, NoM
     }
 }
 
-/// The prints of the groups' parities of so many lanes of so many planes.
-pub fn parity_prints(
+/// The hashes of the groups' parities of so many lanes of so many planes.
+pub fn parity_hashes(
     alloc: Global,
     groups: &List<List<u32>>,
     planes: &[u64],
@@ -189,10 +189,10 @@ pub fn parity_prints(
     requires lanes { lanes ≤ 64 * wide }
     requires range { All (λ group. All (λ place. place < count) group) groups.now }
     requires size { length planes.now ≡ count * wide }
-    ensures { IfOk result (λ prints. ListsEach (λ lane. print_of (parities_of groups.now (lane_in wide count planes.now lane))) prints lanes) }
+    ensures { IfOk result (λ hashes. ListsEach (λ lane. hash_of (parities_of groups.now (lane_in wide count planes.now lane))) hashes lanes) }
 {
     let mut parities = zero_planes(alloc, groups.len(), wide)?;
     put_parities(groups, planes, count, wide, &mut parities);
-    let prints = lane_prints(alloc, parities.as_slice(), wide, groups.len(), lanes)?;
-    Ok(prints)
+    let hashes = lane_hashes(alloc, parities.as_slice(), wide, groups.len(), lanes)?;
+    Ok(hashes)
 }

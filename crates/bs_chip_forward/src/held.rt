@@ -1,12 +1,12 @@
 //! Where all lanes lead while one data input is held at a value.
 ghost use Rattle.std.specs.Prelude.{◌≡◌, ◌<◌, ◌≤◌, ◌+◌, ◌*◌, ◌^◌, length, All, IfOk, IsTrue};
 ghost use Rattle.bs_net.specs.Netlist.{circuit};
-ghost use Rattle.bs_chip_forward.specs.Free.{IsFree};
+ghost use Rattle.bs_chip_forward.specs.Independent.{IsIndependent};
 ghost use Rattle.bs_lanes.specs.Lanes.{is_wide};
 ghost use Rattle.bs_chip_forward.specs.Forward.{Holds, IsHeldIn, TellLeads};
-ghost use Rattle.bs_chip_forward.specs.Groups.{AreFree};
+ghost use Rattle.bs_chip_forward.specs.Groups.{AreIndependent};
 
-use crate::groups::{groups_of, parity_prints};
+use crate::groups::{groups_of, parity_hashes};
 use bs_bits::{Bits, List, NoMemory};
 use bs_lanes::Lanes;
 use bs_lanes_planes::Planes;
@@ -78,15 +78,15 @@ fn state_width(net: &Netlist) -> usize
 }
 
 /// Groups of the flagged flip-flops, which no input but one moves.
-fn free_groups(
+fn independent_groups(
     alloc: Global,
     net: &Netlist,
     input: usize,
     value: bool,
     flags: &Bits,
 ) -> Result<List<List<u32>>, NoMemory>
-    requires { IsFree (circuit net.now) input value flags.now }
-    ensures { IfOk result (AreFree (circuit net.now) input value) }
+    requires { IsIndependent (circuit net.now) input value flags.now }
+    ensures { IfOk result (AreIndependent (circuit net.now) input value) }
 {
     let groups = groups_of(alloc, flags)?;
     Ok(groups)
@@ -105,12 +105,12 @@ impl<'a> Held<'a> {
         requires wide { IsTrue (is_wide wide) }
         requires some { 1 ≤ wide }
         requires few { wide ≤ 4 }
-        requires free { IsFree (circuit net.now) input value flags.now }
+        requires independent { IsIndependent (circuit net.now) input value flags.now }
         ensures { IfOk result (Holds (circuit net.now) wide input value) }
     {
         let _raw = net.raw();
         let width = state_width(net);
-        let groups = free_groups(alloc, net, input, value, flags)?;
+        let groups = independent_groups(alloc, net, input, value, flags)?;
         let inputs = held_inputs(alloc, net.data_inputs().len(), wide, input, value)?;
         let lanes = Lanes::new(alloc, net, wide)?;
         Ok(Held {
@@ -131,8 +131,8 @@ impl<'a> Held<'a> {
         &self.groups
     }
 
-    /// The prints of where the states of so many lanes lead: of the groups' parities.
-    pub fn prints(
+    /// The hashes of where the states of so many lanes lead: of the groups' parities.
+    pub fn hashes(
         &mut self,
         alloc: Global,
         planes: &[u64],
@@ -141,13 +141,13 @@ impl<'a> Held<'a> {
         requires size { length planes.now ≡ length self.old.circuit.flops * self.old.wide }
         requires lanes { lanes ≤ 64 * self.old.wide }
         ensures kept { self.new ≡ self.old }
-        ensures prints { IfOk result (λ prints. TellLeads self.old planes.now prints lanes) }
+        ensures hashes { IfOk result (λ hashes. TellLeads self.old planes.now hashes lanes) }
     {
         self.lanes.load(planes);
         self.lanes.step(self.inputs.words());
         let wide = self.lanes.wide();
         let flops = self.lanes.flops();
-        let prints = parity_prints(alloc, &self.groups, flops, self.width, wide, lanes)?;
-        Ok(prints)
+        let hashes = parity_hashes(alloc, &self.groups, flops, self.width, wide, lanes)?;
+        Ok(hashes)
     }
 }

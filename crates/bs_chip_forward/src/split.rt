@@ -1,10 +1,10 @@
-//! The data input that frees most flip-flops.
+//! The data input of which most flip-flops become independent.
 ghost use Rattle.std.specs.Prelude.{◌≡◌, ◌<◌, ◌≤◌, ◌*◌, length, true, count_by, IfOk, MatchOption};
 ghost use Rattle.bs_net.specs.Gate.{is_one};
 ghost use Rattle.bs_net.specs.Netlist.{circuit};
-ghost use Rattle.bs_chip_forward.specs.Free.{IsSplit};
+ghost use Rattle.bs_chip_forward.specs.Independent.{IsSplit};
 
-use crate::flops::free_flops;
+use crate::flops::independent_flops;
 use bs_bits::{Bits, NoMemory};
 use bs_net::Netlist;
 use std::alloc::Global;
@@ -33,21 +33,21 @@ fn ones(bits: &Bits) -> usize
     count
 }
 
-/// The flip-flops that a data input frees.
+/// The flip-flops that become independent by a data input.
 fn split_by(alloc: Global, net: &Netlist, input: u32) -> Result<Split, NoMemory>
     requires { input < length (circuit net.now).inputs }
     ensures split { IfOk result (λ split. IsSplit (circuit net.now) split) }
     ensures input { IfOk result (λ split. split.input ≡ input) }
 {
-    let low = free_flops(alloc, net, input as usize, false)?;
-    let high = free_flops(alloc, net, input as usize, true)?;
+    let low = independent_flops(alloc, net, input as usize, false)?;
+    let high = independent_flops(alloc, net, input as usize, true)?;
     Ok(Split { input, low, high })
 }
 
 /// How many flip-flops a data input frees where it is 0, and how many where it is 1, both together.
-fn freed_by(alloc: Global, net: &Netlist, input: u32) -> Result<usize, NoMemory>
+fn independent_by(alloc: Global, net: &Netlist, input: u32) -> Result<usize, NoMemory>
     requires { input < length (circuit net.now).inputs }
-    ensures { IfOk result (λ freed. freed ≤ 2 * length (circuit net.now).flops) }
+    ensures { IfOk result (λ independent_count. independent_count ≤ 2 * length (circuit net.now).flops) }
 {
     let split = split_by(alloc, net, input)?;
     Ok(ones(&split.low) + ones(&split.high))
@@ -62,16 +62,16 @@ fn best_input(alloc: Global, net: &Netlist, tried: u32) -> Result<u32, NoMemory>
     let mut best = 0;
     let mut most = 0;
     'inputs: for input in 0..tried {
-        let freed = freed_by(alloc, net, input)?;
-        if freed > most {
+        let independent_count = independent_by(alloc, net, input)?;
+        if independent_count > most {
             best = input;
-            most = freed;
+            most = independent_count;
         }
     }
     Ok(best)
 }
 
-/// The data input that frees most flip-flops where it is 0 and where it is 1, both together: the first such one among the
+/// The data input of which most flip-flops become independent where it is 0 and where it is 1, both together: the first such one among the
 /// first `MAX_TRIED`. None where there is no data input.
 pub fn split_of(alloc: Global, net: &Netlist) -> Result<Option<Split>, NoMemory>
     ensures { IfOk result (λ found. MatchOption found (length (circuit net.now).inputs ≡ 0) (IsSplit (circuit net.now))) }

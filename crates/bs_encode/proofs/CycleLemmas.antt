@@ -1,4 +1,4 @@
--- One copy of the transition: the clauses are met exactly by what shows a state, an input, the next state and the signature.
+-- One time frame of the transition: the clauses are met exactly by what shows a state, an input, the next state and the signature.
 use Rattle.std.proofs.Common.{◌≡◌, ℕ, suc, ◌+◌, ◌*◌, ◌<◌, ◌^◌, Bool, true, false, List, [], ◌∷◌, map, length, refl, sym, ap, ◌∙◌, subst, zero-add}
 use Rattle.std.specs.Prelude.{slice_index_or}
 use Rattle.std.specs.List.{AllByRecursion, All, range_with_len}

@@ -53,7 +53,7 @@ toggle_block_of_0 = refl
 toggle_block_of_1 : (basis_of toggle (choice 1 1 []) []).block (true ∷ []) ≡ lit 3 false ∷ []
 toggle_block_of_1 = refl
 
--- with a signature of two cycles: the second copy has the variables 5 to 8, and 9 is the link
+-- with a signature of two cycles: the second time frame has the variables 5 to 8, and 9 is the link
 abbrev toggle_twice : Encoded
 toggle_twice = encoding_by toggle (choice 1 2 [])
 

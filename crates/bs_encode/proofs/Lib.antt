@@ -10,7 +10,7 @@ pub mod SignLemmas
 pub mod RangeLemmas
 pub mod DistinctLemmas
 pub mod LiteralLemmas
-pub mod CopyLemmas
+pub mod FrameLemmas
 pub mod CycleLemmas
 pub mod OlderLemmas
 pub mod MeaningLemmas

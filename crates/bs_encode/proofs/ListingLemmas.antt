@@ -1,4 +1,4 @@
--- What the lists of candidates need of the encoding of a checked netlist, of one copy or two.
+-- What the lists of candidates need of the encoding of a checked netlist, of one time frame or two.
 use Rattle.std.proofs.Common.{◌≡◌, ℕ, ◌+◌, ◌-◌, ◌*◌, ◌<◌, ◌≤◌, ◌^◌, ◌==◌, Bool, true, false, not, ◌&&◌, cond, List, [], ◌∷◌, ◌++◌, map, length}
 use Rattle.std.proofs.Common.{eqb, leb, refl, sym, ap, ◌∙◌, inl, inr, arith, subst, Option, None, Some}
 use Rattle.std.specs.Prelude.{slice_get, slice_index_or, unwrap_or, IsTrue}
@@ -12,7 +12,7 @@ use Rattle.bs_clause.specs.Literal.{Literal, Clause, negation, literal_value, Sa
 use Rattle.bs_clause.specs.Range.{IsWithin, HasVariables}
 use Rattle.bs_clause.proofs.Literals.{literal_value-negation}
 use Rattle.bs_clause.proofs.Values.{value_of_negated}
-use Rattle.bs_log.specs.History.{Problem, guard_of}
+use Rattle.bs_log.specs.History.{Problem, activation_of}
 use Rattle.bs_log.specs.Refusal.{has_distinct_variables, assumptions_of}
 use Rattle.bs_log.specs.Shown.{Shown}
 use Rattle.bs_net.specs.Circuit.{Circuit, next, reset_state, all_bits}
@@ -26,7 +26,7 @@ use Rattle.bs_scan.specs.Signature.{signature, may_hold, agrees, some_input_lead
 use Rattle.bs_scan.proofs.SignatureLemmas.{any_member, some_input}
 use Rattle.bs_encode.specs.Transition.{first_next, first_item, variables}
 use Rattle.bs_encode.specs.Encoded.{Encoded, encoding_of}
-use Rattle.bs_encode.specs.Copy.{raised_all, lowered}
+use Rattle.bs_encode.specs.Frame.{raised_all, lowered}
 use Rattle.bs_encode.specs.Assuming.{signed, before_assumed, older_assumed, assumptions_for, block_for}
 use Rattle.bs_encode.specs.Depth.{link_of, linked, encoding_by, IsLinkable}
 use Rattle.bs_encode.specs.Cycle.{bits_on, ShowsCycle, IsTransition}
@@ -37,43 +37,43 @@ use Rattle.bs_encode.proofs.DistinctLemmas.{left_all, right_all, apart_from_each
 use Rattle.bs_encode.proofs.DistinctLemmas.{above_numbers, below_numbers, above_items, items_distinct}
 use Rattle.bs_encode.proofs.LawLemmas.{states_in_place}
 use Rattle.bs_encode.proofs.LiteralLemmas.{AllTrue, signs_true, bits_shown, block_broken, met_or_not}
-use Rattle.bs_encode.proofs.CopyLemmas.{raised_bits, length-raised_all, length-bits_on, distinct_raised, signed_raised, IsIn, raised_in, raised_within, Agree}
-use Rattle.bs_encode.proofs.CopyLemmas.{still_met, same_bits}
+use Rattle.bs_encode.proofs.FrameLemmas.{raised_bits, length-raised_all, length-bits_on, distinct_raised, signed_raised, IsIn, raised_in, raised_within, Agree}
+use Rattle.bs_encode.proofs.FrameLemmas.{still_met, same_bits}
 use Rattle.bs_encode.proofs.OlderLemmas.{linked_range, linked_distinct, first_met, second_met, second_leads, both, both_met, first_is, second_is, link_is}
 use Rattle.bs_encode.proofs.CycleLemmas.{is_transition, is_linkable}
 
--- ---- what a step assumes besides its guard
+-- ---- what a step assumes besides its activation literal
 
 abbrev others : Encoded → Present → Clause
 others e q = signed e.next q.state ++ (signed e.signatures (slice_index_or q.stored 0 []) ++ older_assumed e e.link (slice_get q.stored 1))
 
-with_guard_ranged : (e : Encoded) (guard : Literal) (q : Present) → e.variables < guard.variable → Ranged e.variables (others e q) →
-    HasVariables guard.variable (assumptions_for e guard q)
-with_guard_ranged e guard q above within =
-    All-from_recursion (IsWithin guard.variable) (assumptions_for e guard q) (
+with_activation_ranged : (e : Encoded) (activation : Literal) (q : Present) → e.variables < activation.variable → Ranged e.variables (others e q) →
+    HasVariables activation.variable (assumptions_for e activation q)
+with_activation_ranged e activation q above within =
+    All-from_recursion (IsWithin activation.variable) (assumptions_for e activation q) (
       (omega (arith, above), omega arith),
-      weaken (IsWithin e.variables) (IsWithin guard.variable) (λ l w. (w.0, omega (arith, w.1, above))) (others e q) within,
+      weaken (IsWithin e.variables) (IsWithin activation.variable) (λ l w. (w.0, omega (arith, w.1, above))) (others e q) within,
     )
 
-with_guard_distinct : (e : Encoded) (guard : Literal) (q : Present) → e.variables < guard.variable → Ranged e.variables (others e q) →
-    has_distinct_variables (others e q) ≡ true → has_distinct_variables (assumptions_for e guard q) ≡ true
-with_guard_distinct e guard q above within distinct =
-    distinct_cons guard (others e q)
-    (apart_from_each guard.variable (others e q)
-    (weaken (IsWithin e.variables) (λ (m : Literal). m.variable ≡ guard.variable → ⊥) (λ l w same. omega (arith, w.1, above, same)) (others e q) within))
+with_activation_distinct : (e : Encoded) (activation : Literal) (q : Present) → e.variables < activation.variable → Ranged e.variables (others e q) →
+    has_distinct_variables (others e q) ≡ true → has_distinct_variables (assumptions_for e activation q) ≡ true
+with_activation_distinct e activation q above within distinct =
+    distinct_cons activation (others e q)
+    (apart_from_each activation.variable (others e q)
+    (weaken (IsWithin e.variables) (λ (m : Literal). m.variable ≡ activation.variable → ⊥) (λ l w same. omega (arith, w.1, above, same)) (others e q) within))
     distinct
 
--- ---- an assignment that a guard extends
+-- ---- an assignment that an activation literal extends
 
--- the assignment a on the variables 1 to n, and above them the guard's variable alone
-abbrev with_guard : (ℕ → Bool) → ℕ → ℕ → ℕ → Bool
-with_guard a n guard v = cond (leb v n) (a v) (eqb v guard)
+-- the assignment a on the variables 1 to n, and above them the activation literal's variable alone
+abbrev with_activation : (ℕ → Bool) → ℕ → ℕ → ℕ → Bool
+with_activation a n activation v = cond (leb v n) (a v) (eqb v activation)
 
-kept : (a : ℕ → Bool) (n guard : ℕ) → Agree n (with_guard a n guard) a
-kept a n guard v low le = ap (λ b. cond b (a v) (eqb v guard)) (le-leb v n le)
+kept : (a : ℕ → Bool) (n activation : ℕ) → Agree n (with_activation a n activation) a
+kept a n activation v low le = ap (λ b. cond b (a v) (eqb v activation)) (le-leb v n le)
 
-extended : (a : ℕ → Bool) (n guard v : ℕ) → n < v → with_guard a n guard v ≡ eqb v guard
-extended a n guard v lt = ap (λ b. cond b (a v) (eqb v guard)) (false_from_ne_true (leb v n) (λ le. omega (arith, leb-true v n le, lt)))
+extended : (a : ℕ → Bool) (n activation v : ℕ) → n < v → with_activation a n activation v ≡ eqb v activation
+extended a n activation v lt = ap (λ b. cond b (a v) (eqb v activation)) (false_from_ne_true (leb v n) (λ le. omega (arith, leb-true v n le, lt)))
 
 still_true : (n : ℕ) (a b : ℕ → Bool) → Agree n a b → (c : Clause) → Ranged n c → AllTrue b c → AllTrue a c
 still_true n a b same [] r h = tt
@@ -82,21 +82,21 @@ still_true n a b same (l ∷ c) r h = (ap (λ x. beq x l.positive) (same l.varia
 -- an assignment that meets the clauses and what a step assumes, and shows s, shows s in the step
 shown_by : (e : Encoded) (width : ℕ) → length e.states ≡ width → All (HasVariables e.variables) e.clauses → HasVariables e.variables e.states →
     (p : Problem) (i : ℕ) (q : Present) (s : List Bool) → p.vars ≡ e.variables → p.clauses ≡ e.clauses →
-    slice_get p.steps i ≡ Some (assumptions_for e (guard_of p (i + 1)) q) → Ranged e.variables (others e q) →
+    slice_get p.steps i ≡ Some (assumptions_for e (activation_of p (i + 1)) q) → Ranged e.variables (others e q) →
     (a : ℕ → Bool) → AllByRecursion (Satisfies a) e.clauses → bits_on a e.states ≡ s → AllTrue a (others e q) →
     Shown (record { problem = p; block = block_for e }) width (i + 1) s
 shown_by e width wide range states p i q s vars clauses step within a met shows holds =
     let n : ℕ = e.variables in
-    let guard : ℕ = p.vars + (i + 1) in
-    let above : n < guard = omega (arith, vars) in
-    let value : ℕ → Bool = with_guard a n guard in
-    let guard_is : value guard ≡ true = extended a n guard guard above ∙ eq-eqb guard guard refl in
-    let state_bits : bits_on value e.states ≡ s = same_bits n value a (kept a n guard) e.states (recursion_from_All (IsWithin n) e.states states) ∙ shows in
-    let assumed : Clause = assumptions_for e (guard_of p (i + 1)) q in
+    let activation : ℕ = p.vars + (i + 1) in
+    let above : n < activation = omega (arith, vars) in
+    let value : ℕ → Bool = with_activation a n activation in
+    let activation_is : value activation ≡ true = extended a n activation activation above ∙ eq-eqb activation activation refl in
+    let state_bits : bits_on value e.states ≡ s = same_bits n value a (kept a n activation) e.states (recursion_from_All (IsWithin n) e.states states) ∙ shows in
+    let assumed : Clause = assumptions_for e (activation_of p (i + 1)) q in
     let place : (i + 1) - 1 ≡ i = omega arith in
     let assumed_is : assumptions_of p (i + 1) ≡ assumed =
     ap (λ j. unwrap_or (slice_get p.steps j) []) place ∙ ap (λ o. unwrap_or o []) step in
-    let all_true : AllTrue value assumed = (ap (λ b. beq b true) guard_is, still_true n value a (kept a n guard) (others e q) within holds) in
+    let all_true : AllTrue value assumed = (ap (λ b. beq b true) activation_is, still_true n value a (kept a n activation) (others e q) within holds) in
     let C : List Clause → Type 0 = λ cs. All (Satisfies value) cs in
     let A : Clause → Type 0 = λ c. All (λ l. IsTrue (literal_value value l)) c in
     record {
@@ -104,15 +104,15 @@ shown_by e width wide range states p i q s vars clauses step within a met shows 
       clauses =
           subst C (sym clauses)
           (All-from_recursion (Satisfies value) e.clauses
-          (still_met n value a (kept a n guard) e.clauses (recursion_from_All (HasVariables n) e.clauses range) met));
+          (still_met n value a (kept a n activation) e.clauses (recursion_from_All (HasVariables n) e.clauses range) met));
       assumptions = subst A (sym assumed_is) (All-from_recursion (λ l. literal_value value l ≡ true) assumed all_true);
-      guard = guard_is;
-      other_guards =
+      activation = activation_is;
+      other_activations =
           λ other one few differ.
-          extended a n guard (p.vars + other) (omega (arith, vars, one)) ∙ ne_eqb (p.vars + other) guard (λ same. differ (omega (arith, same)));
+          extended a n activation (p.vars + other) (omega (arith, vars, one)) ∙ ne_eqb (p.vars + other) activation (λ same. differ (omega (arith, same)));
       blocks =
           λ t wide' differ.
-          or_right (literal_value value (negation (guard_of p (i + 1)))) (list_any (literal_value value) (block_for e t))
+          or_right (literal_value value (negation (activation_of p (i + 1)))) (list_any (literal_value value) (block_for e t))
           (met_or_not value (block_for e t) (λ broken. differ (sym (block_broken value e.states t (wide' ∙ sym wide) broken) ∙ state_bits)));
     }
 
@@ -196,7 +196,7 @@ stored_wide n [] older all is = cc
 stored_wide n (last ∷ []) older all is = cc
 stored_wide n (last ∷ first ∷ rest) older all is = let same : first ≡ older = cc in ap length (sym same) ∙ all 1 [] (omega arith)
 
--- ---- one copy
+-- ---- one time frame
 
 module _ (c : Circuit) (choice : Chosen) (checked : IsChecked c) (p : IsClosed c choice.items) where
   abbrev e : Encoded
@@ -280,18 +280,18 @@ module _ (c : Circuit) (choice : Chosen) (checked : IsChecked c) (p : IsClosed c
     next_range = t.next_range;
     signatures_range = t.signatures_range;
     inputs_range = t.inputs_range;
-    one_copy = λ _. refl;
-    two_copies = λ two. absurd (omega (arith, one, two));
+    one_frame = λ _. refl;
+    two_frames = λ two. absurd (omega (arith, one, two));
     older_signatures_width = λ two. absurd (omega (arith, one, two));
     older_states_width = λ two. absurd (omega (arith, one, two));
     older_inputs_width = λ two. absurd (omega (arith, one, two));
     link_range = All-from_recursion (IsWithin n) [] tt;
     older_states_range = All-from_recursion (IsWithin n) [] tt;
     older_inputs_range = All-from_recursion (IsWithin n) [] tt;
-    assumptions_range = λ guard q above. with_guard_ranged e guard q above (one_within q);
+    assumptions_range = λ activation q above. with_activation_ranged e activation q above (one_within q);
     block_range = λ state. All-from_recursion (IsWithin n) (block_for e state) (signed_within n e.states (map not state) t.states_range);
     clauses_distinct = t.clauses_distinct;
-    assumptions_distinct = λ guard q above. with_guard_distinct e guard q above (one_within q) (one_distinct q);
+    assumptions_distinct = λ activation q above. with_activation_distinct e activation q above (one_within q) (one_distinct q);
     block_distinct = λ state. t.states_distinct (map not state);
   }
 
@@ -308,7 +308,7 @@ module _ (c : Circuit) (choice : Chosen) (checked : IsChecked c) (p : IsClosed c
       (shows.signature ∙ last_stored c choice q.stored s ag))
       tt))
 
-  -- what the first copy shows, of an assignment that meets its clauses and the first assumptions
+  -- what the first time frame shows, of an assignment that meets its clauses and the first assumptions
   module _ (value : ℕ → Bool) (q : Present) (last : Clause) (wide : length q.state ≡ length c.flops)
       (signature_wide : length (slice_index_or q.stored 0 []) ≡ length choice.items) (met : All (Satisfies value) e.clauses)
       (holds : AllTrue value (signed e.next q.state ++ (signed e.signatures (slice_index_or q.stored 0 []) ++ last))) where
@@ -364,15 +364,15 @@ module _ (c : Circuit) (choice : Chosen) (checked : IsChecked c) (p : IsClosed c
         }
 
   pub one_leads : depth_of choice ≡ 1 → SolutionsArePredecessors c choice e
-  one_leads one value guard q wide some widths met assumed =
-      let holds = (recursion_from_All (λ l. literal_value value l ≡ true) (assumptions_for e guard q) assumed).1 in
+  one_leads one value activation q wide some widths met assumed =
+      let holds = (recursion_from_All (λ l. literal_value value l ≡ true) (assumptions_for e activation q) assumed).1 in
       let first_wide : length (slice_index_or q.stored 0 []) ≡ length choice.items = widths 0 [] some in
       first_is_predecessor value q [] wide first_wide met holds [] [] false
       (agrees_at_one c choice q.stored (bits_on value e.states) one some (signed_as value q [] wide first_wide met holds)) (λ _. refl)
       (λ two _. absurd (omega (arith, one, two)))
       (λ older two _. absurd (omega (arith, one, two)))
 
-  -- ---- two copies
+  -- ---- two time frames
 
   module _ (k : IsLinkable e) where
     abbrev E : Encoded
@@ -460,15 +460,15 @@ module _ (c : Circuit) (choice : Chosen) (checked : IsChecked c) (p : IsClosed c
       next_range = wide_range e.next t.next_range;
       signatures_range = wide_range e.signatures t.signatures_range;
       inputs_range = wide_range e.inputs t.inputs_range;
-      one_copy = λ one. absurd (omega (arith, one, two));
-      two_copies = λ _ none. some_is_none L none;
+      one_frame = λ one. absurd (omega (arith, one, two));
+      two_frames = λ _ none. some_is_none L none;
       older_signatures_width = λ _. length-raised_all n e.signatures ∙ t.signatures_width;
       older_states_width = λ _. length-raised_all n e.states ∙ t.states_width;
       older_inputs_width = λ _. length-raised_all n e.inputs ∙ t.inputs_width;
       link_range = All-from_recursion (IsWithin (2 * n + 1)) (L ∷ []) ((omega arith, omega arith), tt);
       older_states_range = high_range e.states t.states_range;
       older_inputs_range = high_range e.inputs t.inputs_range;
-      assumptions_range = λ guard q above. with_guard_ranged E guard q above (two_within q);
+      assumptions_range = λ activation q above. with_activation_ranged E activation q above (two_within q);
       block_range =
           λ state.
           All-from_recursion (IsWithin (2 * n + 1)) (block_for e state)
@@ -476,14 +476,14 @@ module _ (c : Circuit) (choice : Chosen) (checked : IsChecked c) (p : IsClosed c
       clauses_distinct =
           All-from_recursion (λ (d : Clause). has_distinct_variables d ≡ true) E.clauses
           (linked_distinct e k (recursion_from_All (λ (d : Clause). has_distinct_variables d ≡ true) e.clauses t.clauses_distinct));
-      assumptions_distinct = λ guard q above. with_guard_distinct E guard q above (two_within q) (two_distinct q);
+      assumptions_distinct = λ activation q above. with_activation_distinct E activation q above (two_within q) (two_distinct q);
       block_distinct = λ state. t.states_distinct (map not state);
     }
       where
         some_is_none : (l : Literal) → Some l ≡ None → ⊥
         some_is_none l h = cc
 
-    -- the assignment of two copies shows what that of the first shows
+    -- the assignment of two time frames shows what that of the first shows
     module _ (f g : ℕ → Bool) (b : Bool) where
       abbrev a : ℕ → Bool
       a = both e k f g b
@@ -495,9 +495,9 @@ module _ (c : Circuit) (choice : Chosen) (checked : IsChecked c) (p : IsClosed c
       second_bits ls h =
           raised_bits a n ls ∙ same_bits n (lowered a n) g (second_is e k f g b) ls (recursion_from_All (IsWithin n) ls h)
 
-    -- a state is shown by the assignment that shows it in the first copy, and g in the second, where the link suits
+    -- a state is shown by the assignment that shows it in the first time frame, and g in the second, where the link suits
     two_from : (r : Problem) (i : ℕ) (q : Present) (s x : List Bool) → r.vars ≡ E.variables → r.clauses ≡ E.clauses →
-        slice_get r.steps i ≡ Some (assumptions_for E (guard_of r (i + 1)) q) → (shows : ShowsCycle e s x q.state (signature choice s)) →
+        slice_get r.steps i ≡ Some (assumptions_for E (activation_of r (i + 1)) q) → (shows : ShowsCycle e s x q.state (signature choice s)) →
         agrees c choice q.stored s ≡ true → (g : ℕ → Bool) (b : Bool) → AllByRecursion (Satisfies g) e.clauses → (b ≡ true → bits_on g e.next ≡ s) →
         AllTrue (both e k shows.value g b) (before_assumed E L (slice_get q.stored 1)) →
         Shown (record { problem = r; block = block_for E }) (length c.flops) (i + 1) s
@@ -550,7 +550,7 @@ module _ (c : Circuit) (choice : Chosen) (checked : IsChecked c) (p : IsClosed c
               signs_true v E.older_signatures older (second_bits f g true e.signatures t.signatures_range ∙ (earlier.signature ∙ b.signature)),
             ))
 
-    -- what the second copy shows
+    -- what the second time frame shows
     module _ (value : ℕ → Bool) (q : Present) (widths : All (λ (z : List Bool). length z ≡ length choice.items) q.stored)
         (met : AllByRecursion (Satisfies value) E.clauses) (last : AllTrue value (before_assumed E L (slice_get q.stored 1))) where
       reset_is : slice_get q.stored 1 ≡ None → bits_on value e.states ≡ reset_state c
@@ -585,8 +585,8 @@ module _ (c : Circuit) (choice : Chosen) (checked : IsChecked c) (p : IsClosed c
           by (Some older) is = (bits_on value E.older_states, bits_on value E.older_inputs, before_is older is)
 
     pub two_lead : depth_of choice ≡ 2 → SolutionsArePredecessors c choice E
-    two_lead two value guard q wide some widths met assumed =
-        let holds = (recursion_from_All (λ l. literal_value value l ≡ true) (assumptions_for E guard q) assumed).1 in
+    two_lead two value activation q wide some widths met assumed =
+        let holds = (recursion_from_All (λ l. literal_value value l ≡ true) (assumptions_for E activation q) assumed).1 in
         let all_met : AllByRecursion (Satisfies value) E.clauses = recursion_from_All (Satisfies value) E.clauses met in
         let first : All (Satisfies value) e.clauses = All-from_recursion (Satisfies value) e.clauses (first_met e k value all_met) in
         let older : Clause = before_assumed E L (slice_get q.stored 1) in

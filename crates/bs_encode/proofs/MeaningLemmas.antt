@@ -1,4 +1,4 @@
--- The clauses of two copies and their link say exactly which two valuations fit.
+-- The clauses of two time frames and their link say exactly which two valuations fit.
 use Rattle.std.proofs.Common.{◌≡◌, ℕ, ◌+◌, Bool, true, List, [], ◌∷◌, map, length, refl, sym, ap, ◌∙◌, arith, subst}
 use Rattle.std.specs.List.{AllByRecursion, All, range_with_len}
 use Rattle.std.proofs.lemmas.List.Elements.{All-from_recursion, recursion_from_All}
@@ -10,13 +10,13 @@ use Rattle.bs_encode.specs.Transition.{variables, first_next, first_item, item_v
 use Rattle.bs_encode.specs.Encoded.{Encoded, encoding_of}
 use Rattle.bs_encode.specs.Depth.{IsLinkable, linked_clauses}
 use Rattle.bs_encode.specs.Cycle.{bits_on}
-use Rattle.bs_encode.specs.Meaning.{IsClosed, ShowsStep, ShowsSteps, CopiesEqualGates, nets_of, next_of, signature_of, before_of, link_value}
+use Rattle.bs_encode.specs.Meaning.{IsClosed, ShowsStep, ShowsSteps, FramesEqualGates, nets_of, next_of, signature_of, before_of, link_value}
 use Rattle.bs_encode.proofs.PartLemmas.{OnNets}
 use Rattle.bs_encode.proofs.LawLemmas.{fitting_extends, meeting_fits}
 use Rattle.bs_encode.proofs.RangeLemmas.{InRange, numbers_ranged, item_vars_ranged}
 use Rattle.bs_encode.proofs.DistinctLemmas.{weaken}
 use Rattle.bs_encode.proofs.CycleLemmas.{on_own_nets, states_on, next_on}
-use Rattle.bs_encode.proofs.CopyLemmas.{Agree}
+use Rattle.bs_encode.proofs.FrameLemmas.{Agree}
 use Rattle.bs_encode.proofs.OlderLemmas.{both, both_met, first_is, second_is, link_is, first_met, second_met, second_leads}
 
 same_over : (f g : ℕ → Bool) (vs : List ℕ) → AllByRecursion (λ v. f v ≡ g v) vs → map f vs ≡ map g vs
@@ -81,8 +81,8 @@ module _ (c : Circuit) (items : List (List ℕ)) (checked : IsChecked c) (p : Is
       sym shows.next ∙ (sym (next_on c items checked p low)
       ∙ (second_leads e k a met' on ∙ states_on c items checked p a (nets_of c a) (on_own_nets c a)))
 
-  pub copies_equal : CopiesEqualGates c items
-  copies_equal = record {
+  pub frames_equal : FramesEqualGates c items
+  frames_equal = record {
     extends = two_extend;
     fits =
         λ a met.

@@ -1,4 +1,4 @@
--- Two copies and their link: what an assignment that meets their clauses shows, and the assignments that do.
+-- Two time frames and their link: what an assignment that meets their clauses shows, and the assignments that do.
 use Rattle.std.proofs.Common.{◌≡◌, ℕ, ◌+◌, ◌-◌, ◌*◌, ◌<◌, ◌≤◌, Bool, true, false, not, ◌||◌, cond, leb, List, [], ◌∷◌, ◌++◌, map, length, take, get_or}
 use Rattle.std.proofs.Common.{refl, sym, ap, ◌∙◌, arith}
 use Rattle.std.specs.Bool.{beq}
@@ -12,13 +12,13 @@ use Rattle.bs_clause.specs.Range.{IsWithin, HasVariables}
 use Rattle.bs_clause.proofs.Literals.{literal_value-negation}
 use Rattle.bs_log.specs.Refusal.{has_distinct_variables}
 use Rattle.bs_encode.specs.Encoded.{Encoded}
-use Rattle.bs_encode.specs.Copy.{raised_all, HasRoom, HasRooms, link, links, under, lowered}
+use Rattle.bs_encode.specs.Frame.{raised_all, HasRoom, HasRooms, link, links, under, lowered}
 use Rattle.bs_encode.specs.Depth.{link_of, linked_clauses, IsLinkable}
 use Rattle.bs_encode.specs.Cycle.{bits_on}
 use Rattle.bs_encode.proofs.RangeLemmas.{join}
 use Rattle.bs_encode.proofs.DistinctLemmas.{left_all, right_all, weaken, distinct_cons, apart_from_each}
-use Rattle.bs_encode.proofs.CopyLemmas.{lowered_met, raised_met, raised_bits, length-raised_all, links_say, links_met, links_more, raised_within, raised_range}
-use Rattle.bs_encode.proofs.CopyLemmas.{raised_distinct, raised_in, IsIn, links_range, links_apart, overlay, inside, below, beyond, Agree, still_met, same_bits}
+use Rattle.bs_encode.proofs.FrameLemmas.{lowered_met, raised_met, raised_bits, length-raised_all, links_say, links_met, links_more, raised_within, raised_range}
+use Rattle.bs_encode.proofs.FrameLemmas.{raised_distinct, raised_in, IsIn, links_range, links_apart, overlay, inside, below, beyond, Agree, still_met, same_bits}
 
 -- ---- clauses under a literal
 
@@ -72,23 +72,23 @@ under_distinct n l (c ∷ cs) above r h = (
   under_distinct n l cs above r.1 h.1,
 )
 
--- ---- room for a second copy
+-- ---- room for a second time frame
 
-pub copy_room : (e : Encoded) (n : ℕ) (ls : List Literal) → IsLinkable e → n ≡ e.variables → HasVariables e.variables ls → HasRoom n ls
-copy_room e n ls k is h =
+pub frame_room : (e : Encoded) (n : ℕ) (ls : List Literal) → IsLinkable e → n ≡ e.variables → HasVariables e.variables ls → HasRoom n ls
+frame_room e n ls k is h =
     All-weaker (IsWithin e.variables) (λ (l : Literal). n + l.variable < VARIABLE_LIMIT) (λ l w. omega (arith, w.1, k.room, is)) ls h
 
-pub copies_room : (e : Encoded) (n : ℕ) → IsLinkable e → n ≡ e.variables → HasRooms n e.clauses
-copies_room e n k is = All-weaker (HasVariables e.variables) (HasRoom n) (λ c h. copy_room e n c k is h) e.clauses k.clauses
+pub frames_room : (e : Encoded) (n : ℕ) → IsLinkable e → n ≡ e.variables → HasRooms n e.clauses
+frames_room e n k is = All-weaker (HasVariables e.variables) (HasRoom n) (λ c h. frame_room e n c k is h) e.clauses k.clauses
 
--- ---- a second copy
+-- ---- a second time frame
 
 module _ (e : Encoded) (k : IsLinkable e) where
   abbrev n : ℕ
   n = e.variables
 
-  abbrev copies : List Clause
-  copies = map (raised_all n) e.clauses
+  abbrev frames : List Clause
+  frames = map (raised_all n) e.clauses
 
   abbrev joins : List Clause
   joins = links (raised_all n e.next) e.states
@@ -111,45 +111,45 @@ module _ (e : Encoded) (k : IsLinkable e) where
       (recursion_from_All (IsWithin n) e.states k.states))
       (raised_all n e.next) (raised_in n n (2 * n) e.next (recursion_from_All (IsWithin n) e.next k.next) (omega arith)))
 
-  -- the clauses of both copies are over their variables and the link
+  -- the clauses of both time frames are over their variables and the link
   pub linked_range : AllByRecursion (HasVariables (2 * n + 1)) (linked_clauses e)
   linked_range =
       let m : ℕ = 2 * n + 1 in
-      join (HasVariables m) e.clauses (copies ++ under (link_of e) joins)
+      join (HasVariables m) e.clauses (frames ++ under (link_of e) joins)
       (weaken (HasVariables n) (HasVariables m) (λ c h. All-from_recursion (IsWithin m) c (wider m (omega arith) c h)) e.clauses
       (recursion_from_All (HasVariables n) e.clauses k.clauses))
-      (join (HasVariables m) copies (under (link_of e) joins)
+      (join (HasVariables m) frames (under (link_of e) joins)
       (raised_range n n m e.clauses (recursion_from_All (HasVariables n) e.clauses k.clauses) (omega arith))
       (under_range (2 * n) m (link_of e) joins (omega arith, omega arith) (omega arith) joins_within))
 
   pub linked_distinct : AllByRecursion (λ (c : Clause). has_distinct_variables c ≡ true) e.clauses →
       AllByRecursion (λ (c : Clause). has_distinct_variables c ≡ true) (linked_clauses e)
   linked_distinct h =
-      join (λ (c : Clause). has_distinct_variables c ≡ true) e.clauses (copies ++ under (link_of e) joins) h
-      (join (λ (c : Clause). has_distinct_variables c ≡ true) copies (under (link_of e) joins) (raised_distinct n e.clauses h)
+      join (λ (c : Clause). has_distinct_variables c ≡ true) e.clauses (frames ++ under (link_of e) joins) h
+      (join (λ (c : Clause). has_distinct_variables c ≡ true) frames (under (link_of e) joins) (raised_distinct n e.clauses h)
       (under_distinct (2 * n) (link_of e) joins (omega arith) joins_within joins_distinct))
 
-  -- ---- every assignment that meets the clauses shows both copies, and under the link that the second leads to the first
+  -- ---- every assignment that meets the clauses shows both time frames, and under the link that the second leads to the first
 
   module _ (a : ℕ → Bool) (met : AllByRecursion (Satisfies a) (linked_clauses e)) where
     pub first_met : AllByRecursion (Satisfies a) e.clauses
-    first_met = left_all (Satisfies a) e.clauses (copies ++ under (link_of e) joins) met
+    first_met = left_all (Satisfies a) e.clauses (frames ++ under (link_of e) joins) met
 
-    others_met : AllByRecursion (Satisfies a) (copies ++ under (link_of e) joins)
-    others_met = right_all (Satisfies a) e.clauses (copies ++ under (link_of e) joins) met
+    others_met : AllByRecursion (Satisfies a) (frames ++ under (link_of e) joins)
+    others_met = right_all (Satisfies a) e.clauses (frames ++ under (link_of e) joins) met
 
     pub second_met : AllByRecursion (Satisfies (lowered a n)) e.clauses
-    second_met = lowered_met a n e.clauses (left_all (Satisfies a) copies (under (link_of e) joins) others_met)
+    second_met = lowered_met a n e.clauses (left_all (Satisfies a) frames (under (link_of e) joins) others_met)
 
     pub second_leads : literal_value a (link_of e) ≡ true → bits_on (lowered a n) e.next ≡ bits_on a e.states
     second_leads on =
         sym (raised_bits a n e.next)
         ∙ links_say a (raised_all n e.next) e.states (length-raised_all n e.next ∙ k.same_width)
-        (under_says a (link_of e) joins on (right_all (Satisfies a) copies (under (link_of e) joins) others_met))
+        (under_says a (link_of e) joins on (right_all (Satisfies a) frames (under (link_of e) joins) others_met))
 
-  -- ---- two assignments that meet the clauses of one copy give one that meets those of both
+  -- ---- two assignments that meet the clauses of one time frame give one that meets those of both
 
-  -- f on the first copy, g on the second, and b above
+  -- f on the first time frame, g on the second, and b above
   abbrev pub both : (ℕ → Bool) → (ℕ → Bool) → Bool → ℕ → Bool
   both f g b = overlay n n g (λ v. cond (leb v n) (f v) b)
 
@@ -175,8 +175,8 @@ module _ (e : Encoded) (k : IsLinkable e) where
     both_met mf mg leads =
         let a : ℕ → Bool = both f g b in
         let range : AllByRecursion (HasVariables n) e.clauses = recursion_from_All (HasVariables n) e.clauses k.clauses in
-        join (Satisfies a) e.clauses (copies ++ under (link_of e) joins) (still_met n a f first_is e.clauses range mf)
-        (join (Satisfies a) copies (under (link_of e) joins)
+        join (Satisfies a) e.clauses (frames ++ under (link_of e) joins) (still_met n a f first_is e.clauses range mf)
+        (join (Satisfies a) frames (under (link_of e) joins)
         (raised_met a n e.clauses (still_met n (lowered a n) g second_is e.clauses range mg))
         (by b refl))
       where

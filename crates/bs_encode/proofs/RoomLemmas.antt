@@ -64,10 +64,10 @@ items_few [] = omega arith
 items_few (item ∷ items) =
     omega (arith, items_few items, sum_by-cons (λ (i : List ℕ). item_helpers i + 1) item items, sum_by-cons (λ (i : List ℕ). length i) item items)
 
--- and there is room above those of two copies for the guards of a listing
-pub room_for_guards : (c : Circuit) (items : List (List ℕ)) → IsChecked c → IsBounded c → numbers_of items ≤ 1048576 → length items ≤ 256 →
+-- and there is room above those of two time frames for the activation literals of a listing
+pub room_for_activations : (c : Circuit) (items : List (List ℕ)) → IsChecked c → IsBounded c → numbers_of items ≤ 1048576 → length items ≤ 256 →
     2 * variables c items + 1 + 65536 < 2 ^ 30
-room_for_guards c items checked bounded numbers count =
+room_for_activations c items checked bounded numbers count =
     omega (
       arith,
       gates_few c checked,
@@ -81,7 +81,7 @@ room_for_guards c items checked bounded numbers count =
 
 pub few_variables : (c : Circuit) (items : List (List ℕ)) → IsChecked c → IsBounded c → numbers_of items ≤ 1048576 → length items ≤ 256 →
     variables c items < 2 ^ 30
-few_variables c items checked bounded numbers count = omega (arith, room_for_guards c items checked bounded numbers count)
+few_variables c items checked bounded numbers count = omega (arith, room_for_activations c items checked bounded numbers count)
 
 each_short : (items : List (List ℕ)) (n : ℕ) → numbers_of items ≤ n → AllByRecursion (λ (item : List ℕ). length item ≤ n) items
 each_short [] n le = tt

@@ -27,14 +27,14 @@ meets-without a l (m ∷ c) = by (same_literal l m) refl (meets-without a l c)
     skip false true z w h = refl
     skip false false z w h = h
 
-    drop_copy : (x z w : Bool) → (x || z) ≡ (x || w) → (x || z) ≡ (x || (x || w))
-    drop_copy true z w h = refl
-    drop_copy false z w h = h
+    drop_frame : (x z w : Bool) → (x || z) ≡ (x || w) → (x || z) ≡ (x || (x || w))
+    drop_frame true z w h = refl
+    drop_frame false z w h = h
 
     by : (b : Bool) → same_literal l m ≡ b → (literal_value a l || meets a (without l c)) ≡ (literal_value a l || meets a c) →
         (literal_value a l || meets a (cond (not b) (m ∷ without l c) (without l c))) ≡ (literal_value a l || (literal_value a m || meets a c))
     by true e rest =
-        drop_copy (literal_value a l) _ _ rest
+        drop_frame (literal_value a l) _ _ rest
         ∙ ap (λ k. literal_value a l || (literal_value a k || meets a c)) (same_literal-true l m e)
     by false e rest = skip (literal_value a l) (literal_value a m) _ _ rest
 

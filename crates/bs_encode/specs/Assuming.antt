@@ -21,28 +21,28 @@ asking present stored older = record { state = present; stored = stored ∷ opti
 abbrev pub AreWide : ℕ → Option (List Bool) → Type 0
 AreWide items signature = All (λ t. length t ≡ items) (option_to_list signature)
 
--- what is assumed of the cycle before, under a link: where an older signature is stored, that the other copy shows it and leads to
+-- what is assumed of the cycle before, under a link: where an older signature is stored, that the other time frame shows it and leads to
 -- the state, and otherwise that the state is the one at reset
 abbrev pub before_assumed : Encoded → Literal → Option (List Bool) → Clause
 before_assumed e l None = negation l ∷ e.at_reset
 before_assumed e l (Some older) = l ∷ signed e.older_signatures older
 
--- the same where there is a second copy
+-- the same where there is a second time frame
 abbrev pub older_assumed : Encoded → Option Literal → Option (List Bool) → Clause
 older_assumed e None older = []
 older_assumed e (Some l) older = before_assumed e l older
 
--- what a step assumes: its guard, that the next state is the present one, that the signature is the last one stored, and what
+-- what a step assumes: its activation literal, that the next state is the present one, that the signature is the last one stored, and what
 -- the older one says of the cycle before
 abbrev pub assumptions_for : Encoded → Literal → Present → Clause
-assumptions_for e guard q =
-    guard ∷ (signed e.next q.state ++ (signed e.signatures (slice_index_or q.stored 0 []) ++ older_assumed e e.link (slice_get q.stored 1)))
+assumptions_for e activation q =
+    activation ∷ (signed e.next q.state ++ (signed e.signatures (slice_index_or q.stored 0 []) ++ older_assumed e e.link (slice_get q.stored 1)))
 
 -- the state is another one
 abbrev pub block_for : Encoded → List Bool → Clause
 block_for e state = signed e.states (map not state)
 
--- the assumptions of the steps from number n on, whose guard is the variable of that number above the others
+-- the assumptions of the steps from number n on, whose activation literal is the variable of that number above the others
 abbrev pub steps_from : Encoded → ℕ → List Present → List Clause
 steps_from e n [] = []
 steps_from e n (q ∷ qs) = assumptions_for e (lit (e.variables + n) true) q ∷ steps_from e (n + 1) qs

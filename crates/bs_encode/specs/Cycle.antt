@@ -21,7 +21,7 @@ pub record ShowsCycle (e : Encoded) (s x p t : List Bool) : Type 0 where
   pub next : bits_on value e.next ≡ p
   pub signature : bits_on value e.signatures ≡ t
 
--- One copy of the transition: every assignment that meets the clauses shows a state, an input, the state to which this leads,
+-- One time frame of the transition: every assignment that meets the clauses shows a state, an input, the state to which this leads,
 -- and the state's signature, and each state is so shown with each input. All literals are over the encoding's variables, and no
 -- variable stands twice in a clause, in the state or in the next state.
 pub record IsTransition (c : Circuit) (items : List (List ℕ)) (e : Encoded) : Type 0 where

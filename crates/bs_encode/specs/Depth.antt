@@ -1,4 +1,4 @@
--- The encoding by a choice: a copy of the transition for each signature that the register keeps, and the link between them
+-- The encoding by a choice: a time frame of the transition for each signature that the register keeps, and the link between them
 -- (docs/FORMATS.md, "Clauses of the transition relation").
 use Rattle.std.specs.Prelude.{◌≡◌, ◌+◌, ◌*◌, ◌<◌, ◌==◌, Bool, true, List, ◌++◌, map, length, All, Some, if◌then◌else◌}
 use Rattle.bs_clause.specs.declared.literal.TheConstants.{VARIABLE_LIMIT}
@@ -9,23 +9,23 @@ use Rattle.bs_net.specs.Circuit.{Circuit, reset_state}
 use Rattle.bs_scan.specs.Choice.{Chosen, depth_of}
 use Rattle.bs_scan.specs.Present.{Present}
 use Rattle.bs_encode.specs.Tables.{lit}
-use Rattle.bs_encode.specs.Copy.{raised_all, links, under}
+use Rattle.bs_encode.specs.Frame.{raised_all, links, under}
 use Rattle.bs_encode.specs.Encoded.{Encoded, encoding_of}
 use Rattle.bs_encode.specs.Assuming.{signed, block_for, problem_of}
 
--- the variable that is true where the second copy leads to the first
+-- the variable that is true where the second time frame leads to the first
 abbrev pub link_of : Encoded → Literal
 link_of e = lit (2 * e.variables + 1) true
 
--- the clauses of the second copy, and that under the link its next state is the state of the first
+-- the clauses of the second time frame, and that under the link its next state is the state of the first
 abbrev pub older_clauses : Encoded → List Clause
 older_clauses e = map (raised_all e.variables) e.clauses ++ under (link_of e) (links (raised_all e.variables e.next) e.states)
 
--- the clauses of both copies
+-- the clauses of both time frames
 abbrev pub linked_clauses : Encoded → List Clause
 linked_clauses e = e.clauses ++ older_clauses e
 
--- with a second copy, for the cycle before, over the variables above; this is the state at reset
+-- with a second time frame, for the cycle before, over the variables above; this is the state at reset
 abbrev pub linked : List Bool → Encoded → Encoded
 linked reset e =
     record {
@@ -42,7 +42,7 @@ linked reset e =
       at_reset = signed e.states reset;
     }
 
--- a second copy has room above the first, and each flip-flop of the first a next variable
+-- a second time frame has room above the first, and each flip-flop of the first a next variable
 pub record IsLinkable (e : Encoded) : Type 0 where
   pub room : 2 * e.variables + 1 < VARIABLE_LIMIT
   pub same_width : length e.next ≡ length e.states
@@ -52,7 +52,7 @@ pub record IsLinkable (e : Encoded) : Type 0 where
   pub inputs : HasVariables e.variables e.inputs
   pub signatures : HasVariables e.variables e.signatures
 
--- one copy, or two where the register keeps two signatures
+-- one time frame, or two where the register keeps two signatures
 abbrev pub encoding_by : Circuit → Chosen → Encoded
 encoding_by c choice = if depth_of choice == 2 then linked (reset_state c) (encoding_of c choice.items) else encoding_of c choice.items
 

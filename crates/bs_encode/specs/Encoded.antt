@@ -7,7 +7,7 @@ use Rattle.bs_encode.specs.Tables.{lit}
 use Rattle.bs_encode.specs.Transition.{transition_clauses, variables, net_var, state_vars, first_next, first_item, item_vars}
 
 -- the clauses, the number of variables, and the literals of the state, the next state, the signature and the inputs; where there
--- is a second copy, for the cycle before, its link and its literals, and the state literals that are true at reset
+-- is a second time frame, for the cycle before, its link and its literals, and the state literals that are true at reset
 pub record Encoded : Type 0 where
   pub clauses : List Clause
   pub variables : ℕ
@@ -42,6 +42,6 @@ joined c clauses variables signatures =
       at_reset = [];
     }
 
--- one copy: the encoding of a circuit and of what a signature is taken of
+-- one time frame: the encoding of a circuit and of what a signature is taken of
 abbrev pub encoding_of : Circuit → List (List ℕ) → Encoded
 encoding_of c items = joined c (transition_clauses c items) (variables c items) (literals (item_vars (first_item c) items))

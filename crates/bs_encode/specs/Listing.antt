@@ -4,23 +4,23 @@ use Rattle.std.specs.Option.{option_to_list}
 use Rattle.bs_clause.specs.declared.literal.TheConstants.{VARIABLE_LIMIT}
 use Rattle.bs_clause.specs.Literal.{Literal, literal_value, Satisfies}
 use Rattle.bs_clause.specs.Range.{HasVariables}
-use Rattle.bs_log.specs.History.{Problem, guard_of}
+use Rattle.bs_log.specs.History.{Problem, activation_of}
 use Rattle.bs_log.specs.Refusal.{has_distinct_variables}
 use Rattle.bs_log.specs.Shown.{Shown}
 use Rattle.bs_net.specs.Circuit.{Circuit, Leads, next, reset_state}
 use Rattle.bs_scan.specs.Choice.{Chosen, depth_of}
 use Rattle.bs_scan.specs.Present.{Present}
 use Rattle.bs_scan.specs.Signature.{signature, agrees}
-use Rattle.bs_encode.specs.declared.encoding.TheConstants.{MAX_GUARDS}
+use Rattle.bs_encode.specs.declared.encoding.TheConstants.{MAX_ACTIVATIONS}
 use Rattle.bs_encode.specs.Encoded.{Encoded}
 use Rattle.bs_encode.specs.Assuming.{assumptions_for, block_for}
 use Rattle.bs_encode.specs.Cycle.{bits_on}
 
--- Every literal is one of the encoding's variables, above which there is room for the guards of `MAX_GUARDS` steps. No variable
--- stands twice in a clause, in what a step assumes under a guard above the variables, or in a block. There is a second copy where
+-- Every literal is one of the encoding's variables, above which there is room for the activation literals of `MAX_ACTIVATIONS` steps. No variable
+-- stands twice in a clause, in what a step assumes under an activation literal above the variables, or in a block. There is a second time frame where
 -- two signatures are kept, and then it has a literal for each bit.
 pub record IsTidy (c : Circuit) (choice : Chosen) (e : Encoded) : Type 0 where
-  pub room : e.variables + MAX_GUARDS < VARIABLE_LIMIT
+  pub room : e.variables + MAX_ACTIVATIONS < VARIABLE_LIMIT
   pub states_width : length e.states ≡ length c.flops
   pub next_width : length e.next ≡ length c.flops
   pub signatures_width : length e.signatures ≡ length choice.items
@@ -30,18 +30,18 @@ pub record IsTidy (c : Circuit) (choice : Chosen) (e : Encoded) : Type 0 where
   pub next_range : HasVariables e.variables e.next
   pub signatures_range : HasVariables e.variables e.signatures
   pub inputs_range : HasVariables e.variables e.inputs
-  pub one_copy : depth_of choice ≡ 1 → e.link ≡ None
-  pub two_copies : depth_of choice ≡ 2 → e.link ≢ None
+  pub one_frame : depth_of choice ≡ 1 → e.link ≡ None
+  pub two_frames : depth_of choice ≡ 2 → e.link ≢ None
   pub older_signatures_width : depth_of choice ≡ 2 → length e.older_signatures ≡ length choice.items
   pub older_states_width : depth_of choice ≡ 2 → length e.older_states ≡ length c.flops
   pub older_inputs_width : depth_of choice ≡ 2 → length e.older_inputs ≡ length c.inputs
   pub link_range : HasVariables e.variables (option_to_list e.link)
   pub older_states_range : HasVariables e.variables e.older_states
   pub older_inputs_range : HasVariables e.variables e.older_inputs
-  pub assumptions_range : (guard : Literal) (q : Present) → e.variables < guard.variable → HasVariables guard.variable (assumptions_for e guard q)
+  pub assumptions_range : (activation : Literal) (q : Present) → e.variables < activation.variable → HasVariables activation.variable (assumptions_for e activation q)
   pub block_range : (state : List Bool) → HasVariables e.variables (block_for e state)
   pub clauses_distinct : All (λ d. has_distinct_variables d ≡ true) e.clauses
-  pub assumptions_distinct : (guard : Literal) (q : Present) → e.variables < guard.variable → has_distinct_variables (assumptions_for e guard q) ≡ true
+  pub assumptions_distinct : (activation : Literal) (q : Present) → e.variables < activation.variable → has_distinct_variables (assumptions_for e activation q) ≡ true
   pub block_distinct : (state : List Bool) → has_distinct_variables (block_for e state) ≡ true
 
 -- In every problem over the encoding whose step number i, from 0, is that of a present, each state that agrees with what
@@ -49,7 +49,7 @@ pub record IsTidy (c : Circuit) (choice : Chosen) (e : Encoded) : Type 0 where
 abbrev pub PredecessorsAreShown : Circuit → Chosen → Encoded → Type 0
 PredecessorsAreShown c choice e =
     (p : Problem) (i : ℕ) (q : Present) (s x : List Bool) → p.vars ≡ e.variables → p.clauses ≡ e.clauses →
-    slice_get p.steps i ≡ Some (assumptions_for e (guard_of p (i + 1)) q) →
+    slice_get p.steps i ≡ Some (assumptions_for e (activation_of p (i + 1)) q) →
     length s ≡ length c.flops → length x ≡ length c.inputs → agrees c choice q.stored s ≡ true → next c s x ≡ q.state →
     Shown (record { problem = p; block = block_for e }) (length c.flops) (i + 1) s
 
@@ -60,13 +60,13 @@ pub record IsBefore (c : Circuit) (choice : Chosen) (older s u y : List Bool) : 
   pub signature : signature choice u ≡ older
   pub next : next c u y ≡ s
 
--- whether an assignment shows on its link that the second copy leads to the first
+-- whether an assignment shows on its link that the second time frame leads to the first
 abbrev pub joins : (ℕ → Bool) → Option Literal → Bool
 joins value None = false
 joins value (Some l) = literal_value value l
 
 -- The state agrees with what the register holds at the present and leads to it under the input. Where two signatures are kept and
--- the register holds one, it is the state at reset and the copies are not joined; where it holds two, they are, and the other
+-- the register holds one, it is the state at reset and the time frames are not joined; where it holds two, they are, and the other
 -- state, which has the older signature, leads to it.
 pub record IsPredecessor (c : Circuit) (choice : Chosen) (q : Present) (s x u y : List Bool) (joined : Bool) : Type 0 where
   pub state_width : length s ≡ length c.flops
@@ -80,11 +80,11 @@ pub record IsPredecessor (c : Circuit) (choice : Chosen) (q : Present) (s x u y 
   pub later : (older : List Bool) → depth_of choice ≡ 2 → slice_get q.stored 1 ≡ Some older → (joined ≡ true) × IsBefore c choice older s u y
 
 -- Every assignment that meets the clauses and what a step assumes of a present shows such a state and such an input, and in the
--- second copy such ones of the cycle before.
+-- second time frame such ones of the cycle before.
 abbrev pub SolutionsArePredecessors : Circuit → Chosen → Encoded → Type 0
 SolutionsArePredecessors c choice e =
-    (value : ℕ → Bool) (guard : Literal) (q : Present) → length q.state ≡ length c.flops → 0 < length q.stored →
+    (value : ℕ → Bool) (activation : Literal) (q : Present) → length q.state ≡ length c.flops → 0 < length q.stored →
     All (λ t. length t ≡ length choice.items) q.stored →
-    All (Satisfies value) e.clauses → All (λ l. IsTrue (literal_value value l)) (assumptions_for e guard q) →
+    All (Satisfies value) e.clauses → All (λ l. IsTrue (literal_value value l)) (assumptions_for e activation q) →
     IsPredecessor c choice q (bits_on value e.states) (bits_on value e.inputs) (bits_on value e.older_states) (bits_on value e.older_inputs)
     (joins value e.link)

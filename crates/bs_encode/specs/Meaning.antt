@@ -7,7 +7,7 @@ use Rattle.bs_net.specs.Parts.{IsFlopPlaced}
 use Rattle.bs_scan.specs.Signature.{parity_of}
 use Rattle.bs_encode.specs.Transition.{transition_clauses, variables, first_next, first_item, item_vars}
 use Rattle.bs_encode.specs.Encoded.{encoding_of}
-use Rattle.bs_encode.specs.Copy.{lowered}
+use Rattle.bs_encode.specs.Frame.{lowered}
 use Rattle.bs_encode.specs.Depth.{link_of, linked_clauses}
 
 -- every net of the circuit, and every flip-flop of the items, is there
@@ -43,25 +43,25 @@ pub record ClausesEqualGates (c : Circuit) (items : List (List ℕ)) : Type 0 wh
   pub fits : (a : ℕ → Bool) → All (Satisfies a) (transition_clauses c items) →
       ShowsStep c items (shown (nets_of c a) (state_nets c)) (shown (nets_of c a) c.inputs) (nets_of c a) a
 
--- ---- two copies
+-- ---- two time frames
 
--- what an assignment gives to the second copy, and to the link
+-- what an assignment gives to the second time frame, and to the link
 abbrev pub before_of : Circuit → List (List ℕ) → (ℕ → Bool) → ℕ → Bool
 before_of c items a = lowered a (variables c items)
 
 abbrev pub link_value : Circuit → List (List ℕ) → (ℕ → Bool) → Bool
 link_value c items a = literal_value a (link_of (encoding_of c items))
 
--- The assignment shows one step, and in the second copy another one, and this on the link.
+-- The assignment shows one step, and in the second time frame another one, and this on the link.
 pub record ShowsSteps (c : Circuit) (items : List (List ℕ)) (s x v u y w : List Bool) (joined : Bool) (a : ℕ → Bool) : Type 0 where
   pub last : ShowsStep c items s x v a
   pub before : ShowsStep c items u y w (before_of c items a)
   pub link : link_value c items a ≡ joined
 
--- The same of two copies and their link: two valuations that fit extend to an assignment that meets the clauses with the link
+-- The same of two time frames and their link: two valuations that fit extend to an assignment that meets the clauses with the link
 -- false, and also with the link true where the second one's next state is the first one's state; and every assignment that meets
 -- them shows two valuations that fit, and under the link the second one's next state is the first one's state.
-pub record CopiesEqualGates (c : Circuit) (items : List (List ℕ)) : Type 0 where
+pub record FramesEqualGates (c : Circuit) (items : List (List ℕ)) : Type 0 where
   pub extends : (s x v u y w : List Bool) (joined : Bool) → Fits c s x v → Fits c u y w → (joined ≡ true → next_state c w ≡ s) →
       (a : ℕ → Bool) × All (Satisfies a) (linked_clauses (encoding_of c items)) × ShowsSteps c items s x v u y w joined a
   pub fits : (a : ℕ → Bool) → All (Satisfies a) (linked_clauses (encoding_of c items)) →

@@ -24,8 +24,8 @@ use bs_scan::Choice;
 use std::alloc::Global;
 use std::marker::Model;
 
-/// The guards of so many steps fit above the variables of an encoding.
-pub const MAX_GUARDS: u32 = 65_536;
+/// The activation literals of so many steps fit above the variables of an encoding.
+pub const MAX_ACTIVATIONS: u32 = 65_536;
 
 /// The variables that show the state.
 fn state_variables(alloc: Global, flops: &[Flop]) -> Result<Vec<u32>, NoMemory>
@@ -42,14 +42,14 @@ fn state_variables(alloc: Global, flops: &[Flop]) -> Result<Vec<u32>, NoMemory>
 
 /// The clauses as the tables give them, the first next variable, and the first variable after all.
 #[derive(Drop)]
-struct Laid {
+struct PartialEncoding {
     clauses: Clauses,
     next: u32,
     end: u32,
 }
 
 /// The clauses of the gates, of the constants and the zero nets, and of the flip-flops.
-fn lay_cycle(alloc: Global, net: &Netlist) -> Result<Laid, NoMemory>
+fn encode_cycle(alloc: Global, net: &Netlist) -> Result<PartialEncoding, NoMemory>
     requires { first_item (circuit net.now) ≤ VARIABLE_LIMIT }
     ensures clauses { IfOk result (λ l. l.clauses ≡ cycle_clauses (circuit net.now)) }
     ensures next { IfOk result (λ l. l.next ≡ first_next (circuit net.now)) }
@@ -63,7 +63,7 @@ fn lay_cycle(alloc: Global, net: &Netlist) -> Result<Laid, NoMemory>
     let next = add_gates(alloc, &mut into, raw.names.len() + 1, raw.gates.slice())?;
     add_units(alloc, &mut into, zero.as_slice(), values.as_slice())?;
     add_next(alloc, &mut into, next, raw.flops.slice())?;
-    Ok(Laid {
+    Ok(PartialEncoding {
         clauses: into,
         next,
         end: next + raw.flops.len() as u32,
@@ -71,13 +71,13 @@ fn lay_cycle(alloc: Global, net: &Netlist) -> Result<Laid, NoMemory>
 }
 
 /// The same with the clauses of the items; the literals of the items go into `own`.
-fn lay(
+fn encode_parts(
     alloc: Global,
     net: &Netlist,
     states: &[u32],
     choice: &Choice,
     own: &mut Lits,
-) -> Result<Laid, NoMemory>
+) -> Result<PartialEncoding, NoMemory>
     requires states { states.now ≡ state_vars (circuit net.now) }
     requires range { All IsVariable states.now }
     requires width { choice.now.width ≡ length states.now }
@@ -88,12 +88,12 @@ fn lay(
     ensures end { IfOk result (λ l. l.end ≡ variables (circuit net.now) choice.now.items + 1) }
     ensures own { OnOk result (own.new ≡ own.old ++ map (λ u. lit u true) (item_vars (first_item (circuit net.now)) choice.now.items)) }
 {
-    let laid = lay_cycle(alloc, net)?;
-    let mut into = laid.clauses;
-    let end = add_items(alloc, &mut into, own, states, laid.end, choice)?;
-    Ok(Laid {
+    let partial = encode_cycle(alloc, net)?;
+    let mut into = partial.clauses;
+    let end = add_items(alloc, &mut into, own, states, partial.end, choice)?;
+    Ok(PartialEncoding {
         clauses: into,
-        next: laid.next,
+        next: partial.next,
         end,
     })
 }
@@ -135,7 +135,7 @@ fn net_literals(alloc: Global, nets: &[NetId]) -> Result<Lits, NoMemory>
 }
 
 /// The transition relation of a netlist as clauses, with the literals of its state, its next state,
-/// its inputs and its signature; where two signatures are kept, with a second copy of all, for the cycle before.
+/// its inputs and its signature; where two signatures are kept, with a second time frame of all, for the cycle before.
 #[derive(Drop)]
 pub struct Encoding {
     clauses: Clauses,
@@ -160,24 +160,24 @@ fn join(
     alloc: Global,
     net: &Netlist,
     states: &[u32],
-    laid: &Laid,
+    partial: &PartialEncoding,
     signatures: Lits,
 ) -> Result<Encoding, NoMemory>
     requires states { states.now ≡ state_vars (circuit net.now) }
     requires range { All IsVariable states.now }
-    requires next { laid.now.next ≡ first_next (circuit net.now) }
+    requires next { partial.now.next ≡ first_next (circuit net.now) }
     requires room { first_item (circuit net.now) ≤ VARIABLE_LIMIT }
-    requires end { 1 ≤ laid.now.end }
-    ensures { IfOk result (λ e. e ≡ joined (circuit net.now) (tidied laid.now.clauses) (laid.now.end - 1) signatures) }
+    requires end { 1 ≤ partial.now.end }
+    ensures { IfOk result (λ e. e ≡ joined (circuit net.now) (tidied partial.now.clauses) (partial.now.end - 1) signatures) }
 {
     let raw = net.raw();
-    let clauses = tidy(alloc, &laid.clauses)?;
-    let next = literals_from(alloc, laid.next, raw.flops.len())?;
+    let clauses = tidy(alloc, &partial.clauses)?;
+    let next = literals_from(alloc, partial.next, raw.flops.len())?;
     let inputs = net_literals(alloc, net.data_inputs().slice())?;
     let states = literals_of(alloc, states)?;
     Ok(Encoding {
         clauses,
-        variables: laid.end - 1,
+        variables: partial.end - 1,
         states,
         next,
         signatures,
@@ -186,8 +186,8 @@ fn join(
     })
 }
 
-/// One copy of the transition, and the signature.
-fn one_copy(alloc: Global, net: &Netlist, choice: &Choice) -> Result<Encoding, NoMemory>
+/// One time frame of the transition, and the signature.
+fn one_frame(alloc: Global, net: &Netlist, choice: &Choice) -> Result<Encoding, NoMemory>
     requires { choice.now.width ≡ length (circuit net.now).flops }
     ensures { IfOk result (λ e. e ≡ encoding_of (circuit net.now) choice.now.items) }
 {
@@ -195,12 +195,12 @@ fn one_copy(alloc: Global, net: &Netlist, choice: &Choice) -> Result<Encoding, N
     let _items = choice.items();
     let states = state_variables(alloc, raw.flops.slice())?;
     let mut signatures = Lits::new(alloc);
-    let laid = lay(alloc, net, states.as_slice(), choice, &mut signatures)?;
-    let encoding = join(alloc, net, states.as_slice(), &laid, signatures)?;
+    let partial = encode_parts(alloc, net, states.as_slice(), choice, &mut signatures)?;
+    let encoding = join(alloc, net, states.as_slice(), &partial, signatures)?;
     Ok(encoding)
 }
 
-/// Gives an encoding of one copy a second one, for the cycle before.
+/// Gives an encoding of one time frame a second one, for the cycle before.
 fn link_older(alloc: Global, one: &mut Encoding, reset: &Bits) -> Result<(), NoMemory>
     requires linkable { IsLinkable one.old }
     requires width { length one.old.states ≡ length reset.now }
@@ -216,14 +216,14 @@ fn link_older(alloc: Global, one: &mut Encoding, reset: &Bits) -> Result<(), NoM
 }
 
 impl Encoding {
-    /// The encoding of a netlist by a choice: one copy of the transition, and a second one where two signatures are kept
+    /// The encoding of a netlist by a choice: one time frame of the transition, and a second one where two signatures are kept
     /// (docs/FORMATS.md, "Clauses of the transition relation").
     pub fn new(alloc: Global, net: &Netlist, choice: &Choice) -> Result<Encoding, NoMemory>
         requires { choice.now.width ≡ length (circuit net.now).flops }
         ensures { IfOk result (λ e. e ≡ encoding_by (circuit net.now) choice.now) }
     {
         encodings_are_linkable(net, choice);
-        let mut encoding = one_copy(alloc, net, choice)?;
+        let mut encoding = one_frame(alloc, net, choice)?;
         if choice.depth() == 2 {
             link_older(alloc, &mut encoding, net.reset())?;
         }
@@ -236,8 +236,8 @@ impl Encoding {
     {
         let raw = net.raw();
         let states = state_variables(alloc, raw.flops.slice())?;
-        let laid = lay_cycle(alloc, net)?;
-        let encoding = join(alloc, net, states.as_slice(), &laid, Lits::new(alloc))?;
+        let partial = encode_cycle(alloc, net)?;
+        let encoding = join(alloc, net, states.as_slice(), &partial, Lits::new(alloc))?;
         Ok(encoding)
     }
 
@@ -323,14 +323,14 @@ impl Encoding {
         *self.inputs.get(i)
     }
 
-    /// The link, where there is a second copy.
+    /// The link, where there is a second time frame.
     pub fn link(&self) -> Option<Lit>
         ensures { result ≡ self.now.link }
     {
         self.older.link
     }
 
-    /// The link, which is true where the second copy leads to the first.
+    /// The link, which is true where the second time frame leads to the first.
     pub fn link_lit(&self) -> Lit
         requires { self.now.link ≢ None }
         ensures { self.now.link ≡ Some result }
@@ -338,14 +338,14 @@ impl Encoding {
         self.older.link.unwrap()
     }
 
-    /// The literals of the state before, in the order of the flip-flops; none where there is one copy.
+    /// The literals of the state before, in the order of the flip-flops; none where there is one time frame.
     pub fn older_states(&self) -> &[Lit]
         ensures { result.now ≡ self.now.older_states }
     {
         self.older.states.slice()
     }
 
-    /// The literals of the data inputs in the cycle before, in their order; none where there is one copy.
+    /// The literals of the data inputs in the cycle before, in their order; none where there is one time frame.
     pub fn older_inputs(&self) -> &[Lit]
         ensures { result.now ≡ self.now.older_inputs }
     {
@@ -393,13 +393,13 @@ impl Encoding {
         }
     }
 
-    /// What a step assumes: its guard, the next literals with the signs of the present state, and the signature literals
-    /// with the signs of the stored signature. Where there is a second copy, also what it says of the cycle before: the link
+    /// What a step assumes: its activation literal, the next literals with the signs of the present state, and the signature literals
+    /// with the signs of the stored signature. Where there is a second time frame, also what it says of the cycle before: the link
     /// and the older signature, or the reset state and no link.
     pub fn assumptions(
         &self,
         alloc: Global,
-        guard: Lit,
+        activation: Lit,
         present: &Bits,
         stored: &Bits,
         older: Option<&Bits>,
@@ -407,10 +407,10 @@ impl Encoding {
         requires state { length present.now ≡ length self.now.next }
         requires signature { length stored.now ≡ length self.now.signatures }
         requires older { AreWide (length self.now.older_signatures) (option_map (λ bits. bits.now) older) }
-        ensures { IfOk result (λ l. l ≡ assumptions_for self.now guard (asking present.now stored.now (option_map (λ bits. bits.now) older.entry))) }
+        ensures { IfOk result (λ l. l ≡ assumptions_for self.now activation (asking present.now stored.now (option_map (λ bits. bits.now) older.entry))) }
     {
         let mut all = Lits::new(alloc);
-        all.push(guard)?;
+        all.push(activation)?;
         push_signed(&mut all, self.next.slice(), present)?;
         push_signed(&mut all, self.signatures.slice(), stored)?;
         if let Some(l) = self.older.link {

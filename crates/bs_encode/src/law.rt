@@ -6,7 +6,7 @@ ghost use Rattle.bs_encode.specs.Cycle.{EncodesCycles};
 ghost use Rattle.bs_encode.specs.Encoded.{encoding_of};
 ghost use Rattle.bs_encode.specs.Listing.{IsTidy, PredecessorsAreShown, SolutionsArePredecessors};
 ghost use Rattle.bs_encode.specs.Depth.{IsLinkable, encoding_by};
-ghost use Rattle.bs_encode.specs.Meaning.{ClausesEqualGates, CopiesEqualGates};
+ghost use Rattle.bs_encode.specs.Meaning.{ClausesEqualGates, FramesEqualGates};
 
 use bs_net::Netlist;
 use bs_scan::Choice;
@@ -21,17 +21,17 @@ pub fn clauses_equal_gates(net: &Netlist, choice: &Choice)
     let _raw = net.raw();
 }
 
-/// The clauses of two copies and their link say what the gates do in two cycles: two valuations that fit, where under the link
+/// The clauses of two time frames and their link say what the gates do in two cycles: two valuations that fit, where under the link
 /// the second one's next state is the first one's state, and nothing else.
-pub fn copies_equal_gates(net: &Netlist, choice: &Choice)
+pub fn frames_equal_gates(net: &Netlist, choice: &Choice)
     requires { choice.now.width ≡ length (circuit net.now).flops }
-    ensures { CopiesEqualGates (circuit net.now) choice.now.items }
+    ensures { FramesEqualGates (circuit net.now) choice.now.items }
 {
     let _items = choice.items();
     let _raw = net.raw();
 }
 
-/// One copy has room for a second one above it.
+/// One time frame has room for a second one above it.
 pub(crate) fn encodings_are_linkable(net: &Netlist, choice: &Choice)
     requires { choice.now.width ≡ length (circuit net.now).flops }
     ensures linkable { IsLinkable (encoding_of (circuit net.now) choice.now.items) }
@@ -49,7 +49,7 @@ pub fn encodings_are_cycles(net: &Netlist)
     let _raw = net.raw();
 }
 
-/// An encoding has room for the guards of a listing. Its literals are its own variables, and no variable stands twice in a
+/// An encoding has room for the activation literals of a listing. Its literals are its own variables, and no variable stands twice in a
 /// clause, in what a step assumes, or in a block.
 pub fn encodings_are_tidy(net: &Netlist, choice: &Choice)
     requires { choice.now.width ≡ length (circuit net.now).flops }
@@ -70,7 +70,7 @@ pub fn predecessors_are_shown(net: &Netlist, choice: &Choice)
 }
 
 /// An assignment that meets the clauses and what a step assumes shows a state that agrees with the stored signatures, and
-/// an input under which it leads to the present state; and in the second copy such ones of the cycle before.
+/// an input under which it leads to the present state; and in the second time frame such ones of the cycle before.
 pub fn solutions_are_predecessors(net: &Netlist, choice: &Choice)
     requires { choice.now.width ≡ length (circuit net.now).flops }
     ensures { SolutionsArePredecessors (circuit net.now) choice.now (encoding_by (circuit net.now) choice.now) }

@@ -1,12 +1,12 @@
-//! The second copy, for the cycle before, and its link to the first.
+//! The second time frame, for the cycle before, and its link to the first.
 ghost use Rattle.std.specs.Prelude.{◌≡◌, ◌++◌, [], length, IfOk, OnOk, None, Some};
 ghost use Rattle.bs_clause.specs.Literal.{IsVariable};
 ghost use Rattle.bs_clause.specs.Range.{HasVariables};
 ghost use Rattle.bs_encode.specs.Assuming.{signed};
-ghost use Rattle.bs_encode.specs.Copy.{raised_all, link, links, under};
+ghost use Rattle.bs_encode.specs.Frame.{raised_all, link, links, under};
 ghost use Rattle.bs_encode.specs.Depth.{IsLinkable, link_of, older_clauses};
 
-use crate::copies::{add_copy, raise_all};
+use crate::frames::{add_frame, raise_all};
 use crate::encoding::Encoding;
 use crate::signs::push_signed;
 use crate::table::add_triple;
@@ -42,8 +42,8 @@ fn add_links(
     Ok(())
 }
 
-/// The literals of the variables of the second copy.
-fn raise_copy(alloc: Global, one: &Encoding, literals: &[Lit]) -> Result<Lits, NoMemory>
+/// The literals of the variables of the second time frame.
+fn raise_frame(alloc: Global, one: &Encoding, literals: &[Lit]) -> Result<Lits, NoMemory>
     requires linkable { IsLinkable one.now }
     requires range { HasVariables one.now.variables literals.now }
     ensures { IfOk result (λ all. all ≡ raised_all one.now.variables literals.now) }
@@ -52,8 +52,8 @@ fn raise_copy(alloc: Global, one: &Encoding, literals: &[Lit]) -> Result<Lits, N
     Ok(all)
 }
 
-/// The link of a second copy and its literals, and those of the first that are true at reset; no link and none where there is
-/// one copy.
+/// The link of a second time frame and its literals, and those of the first that are true at reset; no link and none where there is
+/// one time frame.
 #[derive(Drop)]
 pub(crate) struct Older {
     pub(crate) link: Option<Lit>,
@@ -63,7 +63,7 @@ pub(crate) struct Older {
     pub(crate) at_reset: Lits,
 }
 
-/// There is no second copy.
+/// There is no second time frame.
 pub(crate) fn no_older(alloc: Global) -> Older
     ensures link { result.link ≡ None }
     ensures states { result.states ≡ [] }
@@ -80,7 +80,7 @@ pub(crate) fn no_older(alloc: Global) -> Older
     }
 }
 
-/// The literal that links the copies.
+/// The literal that links the time frames.
 fn link_lit(one: &Encoding) -> Lit
     requires { IsLinkable one.now }
     ensures { result ≡ link_of one.now }
@@ -88,7 +88,7 @@ fn link_lit(one: &Encoding) -> Lit
     Lit::new(Var(2 * one.vars() + 1), true)
 }
 
-/// The link and the literals of a second copy.
+/// The link and the literals of a second time frame.
 pub(crate) fn older_literals(alloc: Global, one: &Encoding, reset: &Bits) -> Result<Older, NoMemory>
     requires linkable { IsLinkable one.now }
     requires width { length one.now.states ≡ length reset.now }
@@ -99,9 +99,9 @@ pub(crate) fn older_literals(alloc: Global, one: &Encoding, reset: &Bits) -> Res
     ensures at_reset { IfOk result (λ o. o.at_reset ≡ signed one.now.states reset.now) }
 {
     let link = Some(link_lit(one));
-    let states = raise_copy(alloc, one, one.states())?;
-    let inputs = raise_copy(alloc, one, one.inputs())?;
-    let signatures = raise_copy(alloc, one, one.signatures())?;
+    let states = raise_frame(alloc, one, one.states())?;
+    let inputs = raise_frame(alloc, one, one.inputs())?;
+    let signatures = raise_frame(alloc, one, one.signatures())?;
     let mut at_reset = Lits::new(alloc);
     push_signed(&mut at_reset, one.states(), reset)?;
     Ok(Older {
@@ -113,14 +113,14 @@ pub(crate) fn older_literals(alloc: Global, one: &Encoding, reset: &Bits) -> Res
     })
 }
 
-/// The clauses of the second copy, and of its link to the first.
+/// The clauses of the second time frame, and of its link to the first.
 pub(crate) fn older_clauses(alloc: Global, one: &Encoding) -> Result<Clauses, NoMemory>
     requires { IsLinkable one.now }
     ensures { IfOk result (λ all. all ≡ older_clauses one.now) }
 {
-    let next = raise_copy(alloc, one, one.next())?;
+    let next = raise_frame(alloc, one, one.next())?;
     let mut all = Clauses::new(alloc);
-    add_copy(alloc, &mut all, one.clauses().slice(), one.vars())?;
+    add_frame(alloc, &mut all, one.clauses().slice(), one.vars())?;
     add_links(alloc, &mut all, link_lit(one), next.slice(), one.states())?;
     Ok(all)
 }

@@ -4,7 +4,7 @@ use Rattle.std.specs.Prelude.{All, Contains, slice_get, Bool}
 use Rattle.std.proofs.lemmas.List.Elements.{All-contains, All-weaker}
 use Rattle.std.proofs.lemmas.Option.{slice_get_within}
 use Rattle.bs_clause.specs.Literal.{Literal, Clause, negation}
-use Rattle.bs_log.specs.History.{Problem, History, guard_of}
+use Rattle.bs_log.specs.History.{Problem, History, activation_of}
 use Rattle.bs_log.specs.Refutation.{blocks_of}
 use Rattle.bs_log.specs.Shown.{Basis, Shown}
 use Rattle.bs_log_dimacs.specs.Law.{BlocksOther}
@@ -28,12 +28,12 @@ unlisted c choice shows presents step q h states s x low at wide blocks other ws
     let turned : 1 + (step - 1) ≡ step - 1 + 1 = omega arith in
     let many = length_steps_from e 1 presents in
     let within = slice_get_within presents (step - 1) q at in
-    let steps : slice_get p.steps (step - 1) ≡ Some (assumptions_for e (guard_of p (step - 1 + 1)) q) =
+    let steps : slice_get p.steps (step - 1) ≡ Some (assumptions_for e (activation_of p (step - 1 + 1)) q) =
     assumptions_at e 1 presents (step - 1) q at ∙ ap (λ (k : ℕ). Some (assumptions_for e (lit (e.variables + k) true) q)) turned in
     let here : Shown basis (length c.flops) step s =
     subst (λ (k : ℕ). Shown basis (length c.flops) k s) same (shows p (step - 1) q s x refl refl steps ws wx agree next) in
     unlisted_meets basis (length c.flops) step s h low (omega (arith, many, within)) here
-    (All-weaker (IsListedBlock (guard_of p step) (block_for e) states) (BlocksOther basis (length c.flops) step s)
+    (All-weaker (IsListedBlock (activation_of p step) (block_for e) states) (BlocksOther basis (length c.flops) step s)
     (λ clause b.
     record {
       state = b.state;

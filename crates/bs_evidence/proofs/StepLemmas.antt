@@ -9,12 +9,12 @@ use Rattle.bs_encode.proofs.AssumingLemmas.{steps_from_more}
 use Rattle.bs_report.specs.declared.report.Step.{Step}
 use Rattle.bs_report_good.specs.Chain.{present_of}
 
-pub assumptions_more : (e : Encoded) (steps : List Step) (i : ℕ) (step : Step) (all new : List Clause) (own : Clause) (guard : Literal) →
+pub assumptions_more : (e : Encoded) (steps : List Step) (i : ℕ) (step : Step) (all new : List Clause) (own : Clause) (activation : Literal) →
     i < length steps → step ≡ get_or steps i step →
-    all ≡ steps_from e 1 (map present_of (take i steps)) → guard ≡ lit (e.variables + (i + 1)) true →
-    own ≡ assumptions_for e guard (present_of step) → new ≡ all ++ own ∷ [] →
+    all ≡ steps_from e 1 (map present_of (take i steps)) → activation ≡ lit (e.variables + (i + 1)) true →
+    own ≡ assumptions_for e activation (present_of step) → new ≡ all ++ own ∷ [] →
     new ≡ steps_from e 1 (map present_of (take (i + 1) steps))
-assumptions_more e steps i step all new own guard lt is a g o n =
+assumptions_more e steps i step all new own activation lt is a g o n =
     let more : map present_of (take (i + 1) steps) ≡ map present_of (take i steps) ++ present_of step ∷ [] =
     map_more present_of steps i step lt ∙ ap (λ (s : Step). map present_of (take i steps) ++ present_of s ∷ []) (sym is) in
     let long : i + 1 ≡ 1 + length (map present_of (take i steps)) =

@@ -8,7 +8,7 @@ use Rattle.bs_scan.specs.Present.{Present}
 use Rattle.bs_scan.specs.Signature.{agrees}
 use Rattle.bs_log.specs.declared.line.Line.{Line}
 use Rattle.bs_log.specs.FirstRefused.{first_refused}
-use Rattle.bs_log.specs.History.{Problem, History, guard_of}
+use Rattle.bs_log.specs.History.{Problem, History, activation_of}
 use Rattle.bs_log.specs.Refusal.{IsAccepted, history_of, assumptions_of}
 use Rattle.bs_log.specs.Refutation.{blocks_of}
 use Rattle.bs_log_dimacs.specs.Cnf.{cnf_of, cnf_text}
@@ -132,10 +132,10 @@ IsEvidence kind c choice r step (Flawed flaw) = IsFlawed c choice r step flaw
 -- ---- the law
 
 -- the clause is the block of one of these states
-pub record IsListedBlock (guard : Literal) (block : List Bool → Clause) (states : List (List Bool)) (c : Clause) : Type 0 where
+pub record IsListedBlock (activation : Literal) (block : List Bool → Clause) (states : List (List Bool)) (c : Clause) : Type 0 where
   pub state : List Bool
   pub listed : Contains states state
-  pub is : c ≡ negation guard ∷ block state
+  pub is : c ≡ negation activation ∷ block state
 
 -- Where each block of a step is that of a listed state, a state that is not listed, agrees with the stored signatures and leads to
 -- the present one gives an assignment that meets the step's clauses: who refutes them has shown that the list is complete.
@@ -143,6 +143,6 @@ abbrev pub UnlistedAreShown : Circuit → Chosen → Type 0
 UnlistedAreShown c choice =
     (presents : List Present) (step : ℕ) (q : Present) (h : History) (states : List (List Bool)) (s x : List Bool) →
     1 ≤ step → slice_get presents (step - 1) ≡ Some q → All (λ t. length t ≡ length c.flops) states →
-    All (IsListedBlock (guard_of (basis_of c choice presents).problem step) (block_for (encoding_by c choice)) states) (blocks_of h step) →
+    All (IsListedBlock (activation_of (basis_of c choice presents).problem step) (block_for (encoding_by c choice)) states) (blocks_of h step) →
     ¬ Contains states s → length s ≡ length c.flops → length x ≡ length c.inputs → agrees c choice q.stored s ≡ true → next c s x ≡ q.state →
     (v : ℕ → Bool) × All (Satisfies v) (cnf_of (basis_of c choice presents).problem h step)

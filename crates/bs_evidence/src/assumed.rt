@@ -27,7 +27,7 @@ pub fn encoding(alloc: Global, net: &Netlist, choice: &Choice) -> Result<Encodin
 }
 
 /// The activation literal of a step, counted from 0.
-fn guard_of(encoding: &Encoding, i: usize) -> Lit
+fn activation_of(encoding: &Encoding, i: usize) -> Lit
     requires { encoding.now.variables + (i + 1) < 2 ^ 30 }
     ensures { result ≡ lit (encoding.now.variables + (i + 1)) true }
 {
@@ -45,14 +45,14 @@ fn lent(signature: &Option<Bits>) -> Option<&Bits>
 }
 
 /// What a step assumes.
-fn assumed(alloc: Global, encoding: &Encoding, guard: Lit, step: &Step) -> Result<Lits, NoMemory>
+fn assumed(alloc: Global, encoding: &Encoding, activation: Lit, step: &Step) -> Result<Lits, NoMemory>
     requires present { length step.now.present ≡ length encoding.now.next }
     requires stored { length step.now.stored ≡ length encoding.now.signatures }
     requires older { AreWide (length encoding.now.older_signatures) step.now.older }
-    ensures { IfOk result (λ l. l ≡ assumptions_for encoding.now guard (present_of step.now)) }
+    ensures { IfOk result (λ l. l ≡ assumptions_for encoding.now activation (present_of step.now)) }
 {
     let older = lent(&step.older);
-    encoding.assumptions(alloc, guard, &step.present, &step.stored, older)
+    encoding.assumptions(alloc, activation, &step.present, &step.stored, older)
 }
 
 /// What each step assumes.
@@ -67,8 +67,8 @@ pub fn assumptions(
 {
     let mut all = List::new(alloc);
     'steps: for i in 0..steps.len() {
-        let guard = guard_of(encoding, i);
-        all.push(assumed(alloc, encoding, guard, &steps[i])?)?;
+        let activation = activation_of(encoding, i);
+        all.push(assumed(alloc, encoding, activation, &steps[i])?)?;
     }
     Ok(all)
 }

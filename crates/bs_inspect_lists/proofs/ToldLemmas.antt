@@ -24,7 +24,7 @@ use Rattle.bs_report.specs.declared.report.ListEnd.{ListEnd}
 use Rattle.bs_report.specs.declared.report.ListEnd.TheVariants.{Finished, Candidates, Conflicts}
 use Rattle.bs_report_good.specs.Step.{IsRightEnd}
 use Rattle.bs_preimage.specs.Listed.{HasListed}
-use Rattle.bs_preimage.specs.Preimage.{PreimageState, next_guard}
+use Rattle.bs_preimage.specs.Preimage.{PreimageState, next_activation}
 use Rattle.bs_preimage.specs.declared.listing.Listing.{Listing}
 use Rattle.bs_inspect_lists.specs.Spread.{count_taken, later_moments, moment_taken}
 use Rattle.bs_inspect_lists.specs.Told.{AreTold, Counts, IsCountOf, IsTold, counted_as, room_of, weight_of, weights_of}
@@ -64,7 +64,7 @@ is_count old new present stored listing count h e =
       spent = λ n spent. record {
         held = stored;
         is = refl;
-        hard = record { guard = next_guard old.problem; many = h.bound (ends_spent listing.cands listing.end n spent) };
+        hard = record { activation = next_activation old.problem; many = h.bound (ends_spent listing.cands listing.end n spent) };
       };
     })
 

@@ -38,8 +38,8 @@ Counts asked cands (Spent n) = (n ≡ length cands) × (length cands ≤ MAX_LIS
 -- `MAX_LEMMAS` may be too few for a solve: the variables that a unit run over the clauses and what a step assumes leaves open have more
 -- values than that, whatever unit run it is
 pub record IsHard (e : Encoded) (asked : Present) : Type 0 where
-  pub guard : Literal
-  pub many : (run : List Literal) → HasVariables e.variables run → IsUnitRun e.clauses (assumptions_for e guard asked) run →
+  pub activation : Literal
+  pub many : (run : List Literal) → HasVariables e.variables run → IsUnitRun e.clauses (assumptions_for e activation asked) run →
       MAX_LEMMAS < 2 ^ (e.variables - length run)
 
 -- one signature is stored, and the search for what agrees with it is hard

@@ -1,7 +1,7 @@
 //! How many members a list of predecessors has.
 ghost use Rattle.std.specs.Prelude.{◌≡◌, ◌≢◌, ◌<◌, ◌≤◌, ◌+◌, ◌^◌, [], ◌∷◌, None, length, IfOk, IfSome};
 ghost use Rattle.std.specs.Option.{option_to_list};
-ghost use Rattle.bs_encode.specs.declared.encoding.TheConstants.{MAX_GUARDS};
+ghost use Rattle.bs_encode.specs.declared.encoding.TheConstants.{MAX_ACTIVATIONS};
 ghost use Rattle.bs_inspect_lists.specs.declared.counting.TheConstants.{MAX_LISTED};
 ghost use Rattle.bs_inspect_lists.specs.Told.{IsCountOf, counted_as, is_cut, number_of, weight_of};
 
@@ -50,7 +50,7 @@ fn count_in(
 ) -> Result<Count, NoMemory>
     requires state { length present.now ≡ length preimage.old.circuit.flops }
     requires signature { length stored.now ≡ length preimage.old.choice.items }
-    requires calls { preimage.old.calls < MAX_GUARDS }
+    requires calls { preimage.old.calls < MAX_ACTIVATIONS }
     ensures count { IfOk result (IsCountOf preimage.old.circuit preimage.old.choice present.now (stored.now ∷ [])) }
     ensures circuit { preimage.new.circuit ≡ preimage.old.circuit }
     ensures choice { preimage.new.choice ≡ preimage.old.choice }
@@ -73,7 +73,7 @@ fn count_of_dump(alloc: Global, preimage: &mut Preimage<'_>, dump: &Dump) -> Res
     requires held { dump.now.stored ≢ None }
     requires state { length dump.now.state ≡ length preimage.old.circuit.flops }
     requires signature { IfSome dump.now.stored (λ stored. length stored ≡ length preimage.old.choice.items) }
-    requires calls { preimage.old.calls < MAX_GUARDS }
+    requires calls { preimage.old.calls < MAX_ACTIVATIONS }
     ensures count { IfOk result (IsCountOf preimage.old.circuit preimage.old.choice dump.now.state (option_to_list dump.now.stored)) }
     ensures circuit { preimage.new.circuit ≡ preimage.old.circuit }
     ensures choice { preimage.new.choice ≡ preimage.old.choice }
@@ -94,7 +94,7 @@ pub(crate) fn count_dump(
     requires held { dump.stored ≢ None }
     requires state { length dump.state ≡ length preimage.old.circuit.flops }
     requires signature { IfSome dump.stored (λ stored. length stored ≡ length preimage.old.choice.items) }
-    requires calls { preimage.old.calls < MAX_GUARDS }
+    requires calls { preimage.old.calls < MAX_ACTIVATIONS }
     ensures count { IfOk result (IsCountOf preimage.old.circuit preimage.old.choice dump.state (option_to_list dump.stored)) }
     ensures circuit { preimage.new.circuit ≡ preimage.old.circuit }
     ensures choice { preimage.new.choice ≡ preimage.old.choice }

@@ -1,7 +1,7 @@
 //! The lists of predecessors at some moments, by one signature.
 ghost use Rattle.std.specs.Prelude.{◌≡◌, ◌<◌, ◌≤◌, ◌+◌, length, IfOk};
 ghost use Rattle.bs_net.specs.Netlist.{circuit};
-ghost use Rattle.bs_encode.specs.declared.encoding.TheConstants.{MAX_GUARDS};
+ghost use Rattle.bs_encode.specs.declared.encoding.TheConstants.{MAX_ACTIVATIONS};
 ghost use Rattle.bs_stim.specs.Runs.{inputs_of};
 ghost use Rattle.bs_scan.specs.Choice.{depth_of};
 ghost use Rattle.bs_scan.specs.Crash.{recording_of};
@@ -48,7 +48,7 @@ fn told_at(
     requires recording { chip.old.recording ≡ recording_of net.now.raw choice.now runs.now }
     requires circuit { preimage.old.circuit ≡ circuit net.now }
     requires choice { preimage.old.choice ≡ choice.now }
-    requires calls { preimage.old.calls < MAX_GUARDS }
+    requires calls { preimage.old.calls < MAX_ACTIVATIONS }
     requires depth { depth_of choice.now ≡ 1 }
     requires moment { IsMoment (inputs_of runs.now) moment }
     requires later { 1 ≤ moment.cycle }

@@ -39,8 +39,8 @@ one_step_is_accepted = refl
 finish_names_a_block : first_refused problem (log block_line lemma_line (Finish 6)) ≡ Some (5, NoClause)
 finish_names_a_block = refl
 
-block_without_guard_first : first_refused problem (log (Block 6 (yes 3 ∷ non 5 ∷ [])) lemma_line (Finish 7)) ≡ Some (2, BadBlock)
-block_without_guard_first = refl
+block_without_activation_first : first_refused problem (log (Block 6 (yes 3 ∷ non 5 ∷ [])) lemma_line (Finish 7)) ≡ Some (2, BadBlock)
+block_without_activation_first = refl
 
 hint_is_not_unit : first_refused problem (log block_line (Lemma 7 (non 5 ∷ non 4 ∷ []) (1 ∷ 6 ∷ [])) (Finish 7)) ≡ Some (4, NotUnit)
 hint_is_not_unit = refl

@@ -7,7 +7,7 @@ use Rattle.std.proofs.lemmas.List.Elements.{filter-append}
 use Rattle.bs_clause.specs.Literal.{Clause, negation}
 use Rattle.bs_log.specs.declared.line.Line.{Line}
 use Rattle.bs_log.specs.declared.line.Line.TheVariants.{Solve, Lemma, Block, Finish, Retire, Delete}
-use Rattle.bs_log.specs.History.{Problem, History, Entry, axioms_from, step_of, guard_of, added, live, is_deleted, last_id, state_of, phase_of}
+use Rattle.bs_log.specs.History.{Problem, History, Entry, axioms_from, step_of, activation_of, added, live, is_deleted, last_id, state_of, phase_of}
 use Rattle.bs_log.specs.Refusal.{NoneRefused, passes, entry_of, is_lemma_or_block, is_between_steps, in_solve, is_after_block}
 use Rattle.bs_log.specs.declared.phase.Phase.{Phase}
 use Rattle.bs_log.specs.declared.phase.Phase.TheVariants.{BetweenSteps, InSolve, AfterBlock, AfterFinish, AfterRetire}
@@ -217,7 +217,7 @@ same_added p member (Delete ids ∷ h) = same_added p member h
 same_added p member (Lemma id lits hints ∷ h) = ap (λ es. es ++ record { id = id; origin = Learnt; literals = lits } ∷ []) (same_added p member h)
 same_added p member (Block id lits ∷ h) = ap (λ es. es ++ record { id = id; origin = Blocked; literals = lits } ∷ []) (same_added p member h)
 same_added p member (Retire id ∷ h) =
-    ap (λ es. es ++ record { id = id; origin = Retired; literals = negation (guard_of p (step_of h)) ∷ [] } ∷ []) (same_added p member h)
+    ap (λ es. es ++ record { id = id; origin = Retired; literals = negation (activation_of p (step_of h)) ∷ [] } ∷ []) (same_added p member h)
 
 pub same_live : (p : Problem) (member : Clause) (h : History) → live (with_step p member) h ≡ live p h
 same_live p member h = ap (filter (λ (e : Entry). not (is_deleted h e.id))) (same_added p member h)

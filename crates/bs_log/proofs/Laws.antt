@@ -10,7 +10,7 @@ use Rattle.bs_clause.specs.Literal.{Clause, negation, same_literal, literal_valu
 use Rattle.bs_clause.proofs.Literals.{same_literal-true, literal_value-negation}
 use Rattle.bs_log.specs.declared.line.Line.{Line}
 use Rattle.bs_log.specs.declared.line.Line.TheVariants.{Solve, Lemma, Block, Finish, Retire, Delete}
-use Rattle.bs_log.specs.History.{Problem, History, Entry, axioms_from, step_of, guard_of, added, live, is_deleted, state_of}
+use Rattle.bs_log.specs.History.{Problem, History, Entry, axioms_from, step_of, activation_of, added, live, is_deleted, state_of}
 use Rattle.bs_log.specs.Refusal.{NoneRefused, IsAccepted, history_of, entry_of, clauses_of, passes, denies, assumptions_of, is_block_of}
 use Rattle.bs_log.specs.Refutation.{Suits, blocks_of, AddedClausesHold, FinishedStepsAreRefuted}
 use Rattle.bs_clause.proofs.Values.{AllTrue, denied}
@@ -44,33 +44,33 @@ step_of-positive (Block id lits ∷ h) = step_of-positive h
 step_of-positive (Finish id ∷ h) = step_of-positive h
 step_of-positive (Delete ids ∷ h) = step_of-positive h
 
--- what an assignment keeps of the guards
+-- what an assignment keeps of the activation literals
 push_holds : {X : Type 0} (P : X → Type 0) (xs : List X) (x : X) → AllByRecursion P xs → P x → AllByRecursion P (xs ++ x ∷ [])
 push_holds P [] x all h = (h, tt)
 push_holds P (y ∷ ys) x all h = (all.0, push_holds P ys x all.1 h)
 
-record Guards (p : Problem) (step : ℕ) (v : ℕ → Bool) : Type 0 where
+record Activations (p : Problem) (step : ℕ) (v : ℕ → Bool) : Type 0 where
   in_range : step ≤ length p.steps
   others : (other : ℕ) → 1 ≤ other → other ≤ length p.steps → other ≢ step → v (p.vars + other) ≡ false
 
--- the negation of an earlier guard is true
-retired_is_true : (p : Problem) (step : ℕ) (v : ℕ → Bool) (h : History) → Guards p step v → step_of h ≤ step → step_of h ≢ step →
-    literal_value v (negation (guard_of p (step_of h))) ≡ true
+-- the negation of an earlier activation literal is true
+retired_is_true : (p : Problem) (step : ℕ) (v : ℕ → Bool) (h : History) → Activations p step v → step_of h ≤ step → step_of h ≢ step →
+    literal_value v (negation (activation_of p (step_of h))) ≡ true
 retired_is_true p step v h g before other =
     let lost : v (p.vars + step_of h) ≡ false = g.others (step_of h) (step_of-positive h) (omega (arith, g.in_range)) other in
-    literal_value-negation v (guard_of p (step_of h)) ∙
+    literal_value-negation v (activation_of p (step_of h)) ∙
     elim (v (p.vars + step_of h)) as
-    (λ b. b ≡ false → not (literal_value (λ _. b) (guard_of p (step_of h))) ≡ true) [ true ↦ λ e. sym e | false ↦ λ _. refl ] lost
+    (λ b. b ≡ false → not (literal_value (λ _. b) (activation_of p (step_of h))) ≡ true) [ true ↦ λ e. sym e | false ↦ λ _. refl ] lost
 
-block_holds : (p : Problem) (step : ℕ) (v : ℕ → Bool) (h : History) (lits : Clause) → Guards p step v → step_of h ≤ step → step_of h ≢ step →
+block_holds : (p : Problem) (step : ℕ) (v : ℕ → Bool) (h : History) (lits : Clause) → Activations p step v → step_of h ≤ step → step_of h ≢ step →
     is_block_of p (step_of h) lits ≡ true → Satisfies v lits
 block_holds p step v h [] g before other fits = absurd (false≢true fits)
 block_holds p step v h (first ∷ rest) g before other fits =
-    let parts = and_parts (same_literal first (negation (guard_of p (step_of h)))) (list_all (λ l. nat_le l.variable p.vars) rest) fits in
+    let parts = and_parts (same_literal first (negation (activation_of p (step_of h)))) (list_all (λ l. nat_le l.variable p.vars) rest) fits in
     or_left (literal_value v first) (list_any (literal_value v) rest)
-    (ap (literal_value v) (same_literal-true first (negation (guard_of p (step_of h))) parts.0) ∙ retired_is_true p step v h g before other)
+    (ap (literal_value v) (same_literal-true first (negation (activation_of p (step_of h))) parts.0) ∙ retired_is_true p step v h g before other)
 
-added_holds : (p : Problem) (step : ℕ) (v : ℕ → Bool) (h : History) → NoneRefused p h → step_of h ≤ step → Guards p step v →
+added_holds : (p : Problem) (step : ℕ) (v : ℕ → Bool) (h : History) → NoneRefused p h → step_of h ≤ step → Activations p step v →
     AllByRecursion (Satisfies v) p.clauses → AllByRecursion (Satisfies v) (blocks_of h step) → AllByRecursion (Holds v) (added p h)
 added_holds p step v [] right before g axioms blocks = axioms_hold v 1 p.clauses axioms
 added_holds p step v (Solve ∷ h) right before g axioms blocks = added_holds p step v h right.1 before g axioms blocks
@@ -102,7 +102,7 @@ added_holds p step v (Retire id ∷ h) right before g axioms blocks =
     let earlier : step_of h ≤ step = omega arith in
     let other : step_of h ≢ step = λ e. omega arith in
     push_holds (Holds v) (added p h) _ (added_holds p step v h right.1 earlier g axioms blocks)
-    (or_left (literal_value v (negation (guard_of p (step_of h)))) false (retired_is_true p step v h g earlier other))
+    (or_left (literal_value v (negation (activation_of p (step_of h)))) false (retired_is_true p step v h g earlier other))
 
 pub NoneRefused-tail : (p : Problem) (xs ys : History) → NoneRefused p (xs ++ ys) → NoneRefused p ys
 NoneRefused-tail p [] ys h = h
@@ -114,13 +114,13 @@ front_is_right p log before after ok e =
     NoneRefused-tail p (reverse after) (reverse before)
     (subst (NoneRefused p) (ap reverse e ∙ reverse-append before after) ok.lines)
 
-guards_of : (p : Problem) (h : History) (step : ℕ) (v : ℕ → Bool) → Suits p h step v → Guards p step v
-guards_of p h step v s = record { in_range = s.in_range; others = s.other_guards }
+activations_of : (p : Problem) (h : History) (step : ℕ) (v : ℕ → Bool) → Suits p h step v → Activations p step v
+activations_of p h step v s = record { in_range = s.in_range; others = s.other_activations }
 
 pub added_clauses_hold : AddedClausesHold
 added_clauses_hold p log before after step v ok e early s =
     All-from_recursion (Holds v) (added p (history_of before))
-    (added_holds p step v (history_of before) (front_is_right p log before after ok e) early (guards_of p (history_of before) step v s)
+    (added_holds p step v (history_of before) (front_is_right p log before after ok e) early (activations_of p (history_of before) step v s)
     (recursion_from_All (Satisfies v) p.clauses s.clauses) (recursion_from_All (Satisfies v) (blocks_of (history_of before) step) s.blocks))
 
 -- no assignment makes all assumptions true where it meets a named clause that denies them
@@ -141,7 +141,7 @@ finished_steps_are_refuted p log before after id v ok e s true_ones =
     let h : History = history_of before in
     let all_hold : AllByRecursion (Holds v) (live p h) =
     AllByRecursion-filter (Holds v) (λ x. not (is_deleted h x.id)) (added p h)
-    (added_holds p (step_of h) v h right.1 (omega arith) (guards_of p h (step_of h) v s)
+    (added_holds p (step_of h) v h right.1 (omega arith) (activations_of p h (step_of h) v s)
     (recursion_from_All (Satisfies v) p.clauses s.clauses) (recursion_from_All (Satisfies v) (blocks_of h (step_of h)) s.blocks)) in
     named_denied v (assumptions_of p (step_of h)) (live p h) id is_right.finish all_hold
     (recursion_from_All (λ l. literal_value v l ≡ true) (assumptions_of p (step_of h)) true_ones)

@@ -30,9 +30,9 @@ step_of [] = 1
 step_of (Retire id ∷ earlier) = step_of earlier + 1
 step_of (line ∷ earlier) = step_of earlier
 
--- a step's guard is the variable of its number above the clauses' own
-abbrev pub guard_of : Problem → ℕ → Literal
-guard_of p step = record { variable = p.vars + step; positive = true }
+-- a step's activation literal is the variable of its number above the clauses' own
+abbrev pub activation_of : Problem → ℕ → Literal
+activation_of p step = record { variable = p.vars + step; positive = true }
 
 -- the clauses under the ids 1, 2, 3 and so on
 abbrev pub axioms_from : ℕ → List Clause → List Entry
@@ -40,13 +40,13 @@ axioms_from n [] = []
 axioms_from n (c ∷ cs) = record { id = n; origin = Axiom; literals = c } ∷ axioms_from (n + 1) cs
 
 -- the clauses that were added, in the order of their ids: a lemma and a block add theirs, and a retire line the negation
--- of its step's guard
+-- of its step's activation literal
 abbrev pub added : Problem → History → List Entry
 added p [] = axioms_from 1 p.clauses
 added p (Lemma id lits hints ∷ earlier) = added p earlier ++ record { id = id; origin = Learnt; literals = lits } ∷ []
 added p (Block id lits ∷ earlier) = added p earlier ++ record { id = id; origin = Blocked; literals = lits } ∷ []
 added p (Retire id ∷ earlier) =
-    added p earlier ++ record { id = id; origin = Retired; literals = negation (guard_of p (step_of earlier)) ∷ [] } ∷ []
+    added p earlier ++ record { id = id; origin = Retired; literals = negation (activation_of p (step_of earlier)) ∷ [] } ∷ []
 added p (line ∷ earlier) = added p earlier
 
 -- whether a line takes the clause of this id away

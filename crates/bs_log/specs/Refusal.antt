@@ -10,7 +10,7 @@ use Rattle.bs_log.specs.declared.why.Why.TheVariants.{Order, NoClause, Duplicate
 use Rattle.bs_log.specs.declared.origin.Origin.TheVariants.{Learnt, Blocked}
 use Rattle.bs_log.specs.declared.phase.Phase.{Phase}
 use Rattle.bs_log.specs.declared.phase.Phase.TheVariants.{BetweenSteps, InSolve, AfterBlock, AfterRetire}
-use Rattle.bs_log.specs.History.{Problem, History, Entry, State, state_of, guard_of}
+use Rattle.bs_log.specs.History.{Problem, History, Entry, State, state_of, activation_of}
 use Rattle.bs_log.specs.Propagation.{hints_are_unit, last_is_false}
 
 -- ---- the order of lines
@@ -90,11 +90,11 @@ names_no_variable_twice (Lemma id lits hints) = has_distinct_variables lits
 names_no_variable_twice (Block id lits) = has_distinct_variables lits
 names_no_variable_twice _ = true
 
--- the negation of the guard, and then literals of the clauses' own variables
+-- the negation of the activation literal, and then literals of the clauses' own variables
 abbrev pub is_block_of : Problem → ℕ → Clause → Bool
 is_block_of p step [] = false
 is_block_of p step (first ∷ rest) =
-    same_literal first (negation (guard_of p step)) && list_all (λ l. nat_le l.variable p.vars) rest
+    same_literal first (negation (activation_of p step)) && list_all (λ l. nat_le l.variable p.vars) rest
 
 abbrev pub block_fits : Problem → State → Line → Bool
 block_fits p s (Block id lits) = is_block_of p s.step lits

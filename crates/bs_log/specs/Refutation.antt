@@ -12,13 +12,13 @@ blocks_of [] step = []
 blocks_of (Block id lits ∷ earlier) step = cond (step_of earlier == step) (lits ∷ blocks_of earlier step) (blocks_of earlier step)
 blocks_of (line ∷ earlier) step = blocks_of earlier step
 
--- The assignment meets the clauses and the blocks of the step so far, and of all guards the step's alone is true.
+-- The assignment meets the clauses and the blocks of the step so far, and of all activation literals the step's alone is true.
 pub record Suits (p : Problem) (history : History) (step : ℕ) (v : ℕ → Bool) : Type 0 where
   pub in_range : step ≤ length p.steps
   pub clauses : All (Satisfies v) p.clauses
   pub blocks : All (Satisfies v) (blocks_of history step)
-  pub guard : v (p.vars + step) ≡ true
-  pub other_guards : (other : ℕ) → 1 ≤ other → other ≤ length p.steps → other ≢ step → v (p.vars + other) ≡ false
+  pub activation : v (p.vars + step) ≡ true
+  pub other_activations : (other : ℕ) → 1 ≤ other → other ≤ length p.steps → other ≢ step → v (p.vars + other) ≡ false
 
 -- Such an assignment meets every clause that an accepted log adds before the step's retire line.
 abbrev pub AddedClausesHold : Type 0

@@ -4,7 +4,7 @@ ghost use Rattle.bs_log.specs.LineForms.{LinesReadBack, TextsAreLines};
 ghost use Rattle.bs_log.specs.FirstRefused.{NoneIsRefusedInAccepted, TheFirstIsRefused};
 
 /// An accepted log refutes what is not listed, over every list of clauses and steps. Take an assignment that meets the
-/// clauses, breaks no block of a step, and makes this step's guard true and every other guard false. It meets every clause
+/// clauses, breaks no block of a step, and makes this step's activation literal true and every other activation literal false. It meets every clause
 /// that the log adds before the step's retire line. So it does not meet the step's assumptions, if the log finishes the step.
 pub fn accepted_logs_refute()
     ensures added { AddedClausesHold }

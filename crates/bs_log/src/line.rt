@@ -14,7 +14,7 @@ pub enum Line {
         lits: Lits,
         hints: List<u64>,
     },
-    /// A clause that keeps a solution from coming again in its step: the negation of the step's guard comes first.
+    /// A clause that keeps a solution from coming again in its step: the negation of the step's activation literal comes first.
     Block {
         id: u64,
         lits: Lits,
@@ -23,7 +23,7 @@ pub enum Line {
     Finish {
         id: u64,
     },
-    /// The step ends, and the unit of its negated guard is added under this id.
+    /// The step ends, and the unit of its negated activation literal is added under this id.
     Retire {
         id: u64,
     },

@@ -15,7 +15,7 @@ pub enum Why {
     NotUnit,
     /// The last hint has a literal that is not false.
     NotFalse,
-    /// The block does not begin with its step's negated guard, or has a variable above the clauses' own behind it.
+    /// The block does not begin with its step's negated activation literal, or has a variable above the clauses' own behind it.
     BadBlock,
     /// The lemma holds a literal that is no negation of one of its step's assumptions.
     BadEnd,

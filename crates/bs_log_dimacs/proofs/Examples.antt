@@ -60,7 +60,7 @@ second_clauses : cnf_text problem second 2 ≡
 unfolding digits
 second_clauses = refl
 
--- the first step's block and its retired guard follow from the clause that turns the step off
+-- the first step's block and its retired activation literal follow from the clause that turns the step off
 second_proof : lrat_text problem second 2 12 ≡
     codes "15 -8 -3 -4 0 13 0\n16 -8 -7 -6 0 4 6 15 0\n17 -8 0 13 0\n17 d 15 16 0\n18 -9 -3 4 0 12 0\n19 -9 7 -6 0 4 7 18 0\n20 0 8 11 10 19 0\n"
 unfolding digits

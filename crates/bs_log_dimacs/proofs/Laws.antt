@@ -10,7 +10,7 @@ use Rattle.std.proofs.lemmas.List.Elements.{recursion_from_All, All-from_recursi
 use Rattle.bs_clause.specs.Literal.{Literal, Clause, literal_value, Satisfies}
 use Rattle.bs_log.specs.declared.line.Line.{Line}
 use Rattle.bs_log.specs.declared.line.Line.TheVariants.{Finish}
-use Rattle.bs_log.specs.History.{Problem, History, Entry, step_of, guard_of, added, live, state_of, is_deleted, last_id}
+use Rattle.bs_log.specs.History.{Problem, History, Entry, step_of, activation_of, added, live, state_of, is_deleted, last_id}
 use Rattle.bs_log.specs.Propagation.{hints_are_unit, last_is_false}
 use Rattle.bs_log.specs.Refusal.{NoneRefused, IsAccepted, history_of, assumptions_of, passes, is_lemma, entry_of, denies, has_distinct_variables}
 use Rattle.bs_log.specs.Refutation.{blocks_of}
@@ -88,8 +88,8 @@ off_is_off v p step = by (v (p.vars + step))
     by true e = absurd (false≢true e)
     by false e = refl
 
-guard_is_on : (v : ℕ → Bool) (p : Problem) (step : ℕ) → literal_value v (guard_of p step) ≡ true → v (p.vars + step) ≡ true
-guard_is_on v p step = by (v (p.vars + step))
+activation_is_on : (v : ℕ → Bool) (p : Problem) (step : ℕ) → literal_value v (activation_of p step) ≡ true → v (p.vars + step) ≡ true
+activation_is_on v p step = by (v (p.vars + step))
   where
     by : (b : Bool) → beq b true ≡ true → b ≡ true
     by true e = refl
@@ -137,9 +137,9 @@ unlisted_meets basis width step s h low high shown all = (
         each_map (λ j. v (p.vars + j) ≡ false) (Satisfies v) (closed p) (others (length p.steps) step) (λ j e. off_is_true v p j e)
         (each_append (λ j. v (p.vars + j) ≡ false) (range_with_len 1 (step - 1)) (range_with_len (step + 1) (length p.steps - step))
         (each_range (λ j. v (p.vars + j) ≡ false) 1 (step - 1)
-        (λ j first less. shown.other_guards j first (omega (arith, less, high)) (λ e. omega (arith, less, e, low))))
+        (λ j first less. shown.other_activations j first (omega (arith, less, high)) (λ e. omega (arith, less, e, low))))
         (each_range (λ j. v (p.vars + j) ≡ false) (step + 1) (length p.steps - step)
-        (λ j first less. shown.other_guards j (omega (arith, first)) (omega (arith, less, first)) (λ e. omega (arith, first, e)))))
+        (λ j first less. shown.other_activations j (omega (arith, first)) (omega (arith, less, first)) (λ e. omega (arith, first, e)))))
 
 -- ---- a finished step
 
@@ -153,8 +153,8 @@ module _ (p : Problem) (log : List Line) (place id : ℕ) (ok : IsAccepted p log
   pub inside : step_of h ≤ length p.steps
   inside = finish_is_inside p log (take place log) (drop (suc place) log) id ok parts
 
-  unmet_here : (v : ℕ → Bool) → Contains (assumptions_of p (step_of h)) (guard_of p (step_of h)) → All (Satisfies v) (cnf_of p h (step_of h)) → ⊥
-  unmet_here v guard all =
+  unmet_here : (v : ℕ → Bool) → Contains (assumptions_of p (step_of h)) (activation_of p (step_of h)) → All (Satisfies v) (cnf_of p h (step_of h)) → ⊥
+  unmet_here v activation all =
       finished_steps_are_refuted p log (take place log) (drop (suc place) log) id v ok parts
       (record {
         in_range = inside;
@@ -163,8 +163,8 @@ module _ (p : Problem) (log : List Line) (place id : ℕ) (ok : IsAccepted p log
             All-from_recursion (Satisfies v) (blocks_of h step)
             (subst (λ (cs : List Clause). AllByRecursion (Satisfies v) cs) (reverse-reverse (blocks_of h step))
             (each_reverse (Satisfies v) (reverse (blocks_of h step)) (each_front (Satisfies v) (reverse (blocks_of h step)) (map (closed p) (others (length p.steps) step)) later)));
-        guard = guard_is_on v p step (All-contains (λ (l : Literal). literal_value v l ≡ true) (assumptions_of p step) (guard_of p step) assumed guard);
-        other_guards = other;
+        activation = activation_is_on v p step (All-contains (λ (l : Literal). literal_value v l ≡ true) (assumptions_of p step) (activation_of p step) assumed activation);
+        other_activations = other;
       })
       assumed
     where
@@ -259,9 +259,9 @@ proof_is_right p h id right inside =
         (sym (ap (passes (λ e. denies (assumptions_of p step) e.literals)) found) ∙ is_right.finish)
 
 pub finished_is_unmet : FinishedIsUnmet
-finished_is_unmet p log step place id v ok fin guard all =
+finished_is_unmet p log step place id v ok fin activation all =
     unmet_here p log place id ok fin.line v
-    (subst (λ n. Contains (assumptions_of p n) (guard_of p n)) (sym fin.step_is) guard)
+    (subst (λ n. Contains (assumptions_of p n) (activation_of p n)) (sym fin.step_is) activation)
     (subst (λ n. All (Satisfies v) (cnf_of p (history_of (take place log)) n)) (sym fin.step_is) all)
 
 pub proofs_are_right : ProofsAreRight

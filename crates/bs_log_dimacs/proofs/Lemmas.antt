@@ -6,7 +6,7 @@ use Rattle.std.proofs.lemmas.Bool.{eqb-true, false≢true}
 use Rattle.bs_clause.specs.Literal.{Clause, negation}
 use Rattle.bs_log.specs.declared.line.Line.TheVariants.{Solve, Lemma, Block, Finish, Retire, Delete}
 use Rattle.bs_log.specs.declared.origin.Origin.TheVariants.{Learnt, Blocked, Retired}
-use Rattle.bs_log.specs.History.{Problem, History, Entry, axioms_from, step_of, guard_of, added, last_id, state_of, phase_of}
+use Rattle.bs_log.specs.History.{Problem, History, Entry, axioms_from, step_of, activation_of, added, last_id, state_of, phase_of}
 use Rattle.bs_log.specs.Refusal.{NoneRefused, entry_of, is_lemma, in_solve, has_distinct_variables}
 use Rattle.bs_log.proofs.Elements.{AllByRecursion-find}
 use Rattle.bs_log.proofs.Tests.{right_from_none}
@@ -49,7 +49,7 @@ lemma_found p (Block other lits ∷ h) id e right one found =
 lemma_found p (Retire other ∷ h) id e right one found =
     let r =
     lemma_found p h id e right.1 one
-    (not_last (added p h) (record { id = other; origin = Retired; literals = negation (guard_of p (step_of h)) ∷ [] }) e id refl one found) in
+    (not_last (added p h) (record { id = other; origin = Retired; literals = negation (activation_of p (step_of h)) ∷ [] }) e id refl one found) in
     record { is = r.is; distinct = r.distinct }
 lemma_found p (Lemma other lits hints ∷ h) id e right one found = by (eqb other id) refl (λ there. lemma_found p h id e right.1 one there)
   where

@@ -11,7 +11,7 @@ use Rattle.bs_clause.specs.Literal.{Literal, Clause, negation, same_literal, has
 use Rattle.bs_clause.proofs.Literals.{same_literal-true}
 use Rattle.bs_log.specs.declared.line.Line.TheVariants.{Solve, Lemma, Block, Finish, Retire, Delete}
 use Rattle.bs_log.specs.declared.origin.Origin.TheVariants.{Axiom}
-use Rattle.bs_log.specs.History.{Problem, History, Entry, step_of, guard_of, live, last_id, state_of, phase_of}
+use Rattle.bs_log.specs.History.{Problem, History, Entry, step_of, activation_of, live, last_id, state_of, phase_of}
 use Rattle.bs_log.specs.Propagation.{hints_are_unit, last_is_false}
 use Rattle.bs_log.specs.Refusal.{NoneRefused, entry_of, clauses_of, denies, assumptions_of, is_block_of, in_solve, is_between_steps}
 use Rattle.bs_log.specs.Refutation.{blocks_of}
@@ -198,8 +198,8 @@ module _ (p : Problem) (top : History) (step : ℕ) (low : 1 ≤ step) (high : s
       other : (c : Clause) → step_of h < step → is_block_of p (step_of h) c ≡ true → last_is_false c (closed p (step_of h) ∷ []) ≡ true
       other [] less lost = absurd (false≢true lost)
       other (first ∷ rest) less fit =
-          let parts = and_parts (same_literal first (negation (guard_of p (step_of h)))) _ fit in
-          ap (λ (l : Literal). last_is_false (first ∷ rest) ((l ∷ []) ∷ [])) (sym (same_literal-true first (negation (guard_of p (step_of h))) parts.0))
+          let parts = and_parts (same_literal first (negation (activation_of p (step_of h)))) _ fit in
+          ap (λ (l : Literal). last_is_false (first ∷ rest) ((l ∷ []) ∷ [])) (sym (same_literal-true first (negation (activation_of p (step_of h))) parts.0))
           ∙ follows_from_first first rest
 
       by : (b : Bool) → eqb (step_of h) step ≡ b → blocks_of top step ≡ more ++ cond b (lits ∷ blocks_of h step) (blocks_of h step) →

@@ -195,8 +195,8 @@ module _ (r : Refuted) (ok : IsProvable r) where
         closed = omega (arith, all, all_many, step, low, last, vars, clauses, assumed, short);
       }
 
-  pub guard_at : (q : Problem) (i : ℕ) (at : At) → IsAt f p q (history_of (take i lines)) at → IsVariable (r.vars + at.step)
-  guard_at q i at is =
+  pub activation_at : (q : Problem) (i : ℕ) (at : At) → IsAt f p q (history_of (take i lines)) at → IsVariable (r.vars + at.step)
+  activation_at q i at is =
       let step = is.step_is in
       let low = front_step i in
       let first = step_of-positive (history_of (take i lines)) in
@@ -252,8 +252,8 @@ module _ (r : Refuted) (ok : IsProvable r) (g : Frame) (same : g ≡ frame_of (p
   pub room_for : (q : Problem) (i : ℕ) (at : At) → IsAt g (problem_in r) q (history_of (take i r.lines.now)) at → HasRoom g at
   room_for q i at is = subst (λ (g : Frame). HasRoom g at) (sym same) (room_at r ok q i at (here q i at is))
 
-  pub guard_for : (q : Problem) (i : ℕ) (at : At) → IsAt g (problem_in r) q (history_of (take i r.lines.now)) at → IsVariable (r.vars + at.step)
-  guard_for q i at is = guard_at r ok q i at (here q i at is)
+  pub activation_for : (q : Problem) (i : ℕ) (at : At) → IsAt g (problem_in r) q (history_of (take i r.lines.now)) at → IsVariable (r.vars + at.step)
+  activation_for q i at is = activation_at r ok q i at (here q i at is)
 
   pub step_for : (q : Problem) (i : ℕ) (at : At) → IsAt g (problem_in r) q (history_of (take i r.lines.now)) at → at.step + 1 < 2 ^ 64
   step_for q i at is = step_at r ok q i at (here q i at is)

@@ -3,7 +3,7 @@ use Rattle.std.specs.Prelude.{ℕ, ◌+◌, ◌-◌, List, [], ◌∷◌, ◌++�
 use Rattle.std.specs.List.{flat_map, range_with_len}
 use Rattle.bs_bits.specs.Lines.{line}
 use Rattle.bs_clause.specs.Literal.{Clause, negation}
-use Rattle.bs_log.specs.History.{Problem, History, guard_of}
+use Rattle.bs_log.specs.History.{Problem, History, activation_of}
 use Rattle.bs_log.specs.LineText.{literal_text}
 use Rattle.bs_log.specs.Refusal.{assumptions_of}
 use Rattle.bs_log.specs.Refutation.{blocks_of}
@@ -18,7 +18,7 @@ others count step = range_with_len 1 (step - 1) ++ range_with_len (step + 1) (co
 
 -- the clause that turns a step's clauses off
 abbrev pub closed : Problem → ℕ → Clause
-closed p step = negation (guard_of p step) ∷ []
+closed p step = negation (activation_of p step) ∷ []
 
 -- what stands behind the clauses: what the step assumes, its blocks in the order of the log, and that no other step is under way
 abbrev pub behind : Problem → History → ℕ → List Clause

@@ -3,7 +3,7 @@ use Rattle.std.specs.Prelude.{◌≡◌, ◌≢◌, ◌≤◌, ℕ, Bool, List, 
 use Rattle.bs_clause.specs.Literal.{Clause, negation, Satisfies}
 use Rattle.bs_log.specs.declared.line.Line.{Line}
 use Rattle.bs_log.specs.declared.line.Line.TheVariants.{Finish}
-use Rattle.bs_log.specs.History.{Problem, History, step_of, guard_of}
+use Rattle.bs_log.specs.History.{Problem, History, step_of, activation_of}
 use Rattle.bs_log.specs.Refusal.{IsAccepted, history_of, assumptions_of}
 use Rattle.bs_log.specs.Refutation.{blocks_of}
 use Rattle.bs_log.specs.Shown.{Basis, Shown}
@@ -24,7 +24,7 @@ pub record BlocksOther (basis : Basis) (width step : ℕ) (s : List Bool) (c : C
   pub state : List Bool
   pub wide : length state ≡ width
   pub other : state ≢ s
-  pub is : c ≡ negation (guard_of basis.problem step) ∷ basis.block state
+  pub is : c ≡ negation (activation_of basis.problem step) ∷ basis.block state
 
 -- A state that is shown in the step, and whose block the step has not, gives an assignment that meets the step's clauses.
 abbrev pub UnlistedMeets : Type 0
@@ -33,11 +33,11 @@ UnlistedMeets =
     Shown basis width step s → All (BlocksOther basis width step s) (blocks_of h step) →
     (v : ℕ → Bool) × All (Satisfies v) (cnf_of basis.problem h step)
 
--- Nothing meets the clauses of a step that an accepted log finishes, where the step assumes its guard.
+-- Nothing meets the clauses of a step that an accepted log finishes, where the step assumes its activation literal.
 abbrev pub FinishedIsUnmet : Type 0
 FinishedIsUnmet =
     (p : Problem) (log : List Line) (step place id : ℕ) (v : ℕ → Bool) → IsAccepted p log → IsFinishAt log step place id →
-    Contains (assumptions_of p step) (guard_of p step) → All (Satisfies v) (cnf_of p (history_of (take place log)) step) → ⊥
+    Contains (assumptions_of p step) (activation_of p step) → All (Satisfies v) (cnf_of p (history_of (take place log)) step) → ⊥
 
 -- And the proof of such a step is right over these clauses, line by line up to the empty clause.
 abbrev pub ProofsAreRight : Type 0

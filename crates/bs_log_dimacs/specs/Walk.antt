@@ -34,7 +34,7 @@ pub record IsSmall (r : Refuted) : Type 0 where
   pub assumptions : length (assumptions_of (problem_in r) r.step) < FEW
   pub lines : length r.lines.now < FEW
 
--- one of the steps, whose guards are variables
+-- one of the steps, whose activation literals are variables
 pub record IsAsked (r : Refuted) : Type 0 where
   pub one : IsOneOf (length r.steps.now) r.step
   pub room : r.vars + length r.steps.now < VARIABLE_LIMIT
@@ -93,7 +93,7 @@ LineFits f (Retire id) = IdFits f id
 LineFits f (Delete ids) = All (IdFits f) ids
 LineFits f line = Unit {0}
 
--- the ids of the clauses that blocks and retired guards follow from
+-- the ids of the clauses that blocks and retired activation literals follow from
 pub record HasRoom (f : Frame) (at : At) : Type 0 where
   pub own : f.own + at.blocks + 1 < 2 ^ 64
   pub closed : f.closed + at.step < 2 ^ 64

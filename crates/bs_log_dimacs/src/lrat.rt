@@ -20,11 +20,11 @@ use bs_clause::{Lit, is_same};
 use bs_log::Line;
 
 /// The place of the literal that denies another, counted from 0.
-fn denial_place(assumptions: &[Lit], l: Lit) -> Option<usize>
+fn failed_assumption_place(assumptions: &[Lit], l: Lit) -> Option<usize>
     ensures { result ≡ position (λ m. same_literal (negation l) m) assumptions.now }
 {
-    let denial = l.negate();
-    assumptions.iter().position(|m| is_same(denial, *m))
+    let failed_assumption = l.negate();
+    assumptions.iter().position(|m| is_same(failed_assumption, *m))
 }
 
 /// The id of the clause of an assumption that denies a literal.
@@ -32,7 +32,7 @@ fn unit_id(front: u64, assumptions: &[Lit], l: Lit) -> u64
     requires { front + length assumptions.now + 1 < 2 ^ 64 }
     ensures { result ≡ unit_id front assumptions.now l }
 {
-    match denial_place(assumptions, l) {
+    match failed_assumption_place(assumptions, l) {
         Some(place) => front + place as u64 + 1,
         None => front + 1,
     }

@@ -107,7 +107,7 @@ pub fn push_shown(
 ) -> Result<(), NoMemory>
     requires fits { LineFits f.now line.now }
     requires room { HasRoom f.now at.now }
-    requires guard { IsVariable (vars + at.now.step) }
+    requires activation { IsVariable (vars + at.now.step) }
     ensures { OnOk result (text.new.items ≡ text.old.items ++ lines_text at.now.last (shown_at f.now vars at.now line.now)) }
 {
     match line {

@@ -30,7 +30,7 @@ use Rattle.bs_report_good.specs.Stop.{StopsFor}
 use Rattle.bs_report_good.specs.Good.{IsGood}
 use Rattle.bs_report_good.specs.Valid.{finishes_in, is_right_finish, IsLogged, IsValid}
 use Rattle.bs_preimage.specs.Preimage.{PreimageState}
-use Rattle.bs_loop.specs.Made.{encoding_in, guard_at, IsLoggedStep}
+use Rattle.bs_loop.specs.Made.{encoding_in, activation_at, IsLoggedStep}
 use Rattle.bs_loop.specs.Bound.{HasBound}
 use Rattle.bs_solve.specs.Budget.{HasFewLemmas}
 use Rattle.bs_scan.specs.Crash.{IsCrash}
@@ -86,7 +86,7 @@ is_good crash budgets s r of =
     }
 
 assumed : (crash : Crash) (steps : List Step) (i : ℕ) (step : Step) → slice_get steps i ≡ Some step →
-    assumptions_for (encoding_in crash) (guard_at crash i) (present_of step) ≡ assumptions_of (problem_of (encoding_in crash) (map present_of steps)) (i + 1)
+    assumptions_for (encoding_in crash) (activation_at crash i) (present_of step) ≡ assumptions_of (problem_of (encoding_in crash) (map present_of steps)) (i + 1)
 assumed crash steps i step is =
     let e = encoding_in crash in
     let qs : List Present = map present_of steps in

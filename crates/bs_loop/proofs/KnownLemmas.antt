@@ -30,10 +30,10 @@ use Rattle.bs_preimage_recorded.specs.Finder.{IsAsking}
 use Rattle.bs_preimage_recorded.specs.Search.{asked_in, IsCutAt, SoughtSooner, SoughtOfAll, SoughtWithin}
 use Rattle.bs_loop.specs.Recorded.{cand_at, known_before, StandsIn}
 use Rattle.bs_loop.proofs.MeetLemmas.{IsHeld, held_wide}
-use Rattle.bs_loop.specs.declared.known.Answer.{Answer}
+use Rattle.bs_loop.specs.declared.known.SearchAnswer.{SearchAnswer}
 use Rattle.bs_loop.specs.declared.known.Reach.{Reach}
 use Rattle.bs_loop.specs.declared.known.Reach.TheVariants.{Whole, Limited, Unanswered}
-use Rattle.bs_loop.specs.Known.{floor_of, known_by, seen_at, seen_by, sight_by, IsOfFirst, IsOfNone, HasSooner, IsKnown, IsAsked, IsAnswered, Reaches, Sees}
+use Rattle.bs_loop.specs.KnownCand.{floor_of, known_by, seen_at, seen_by, sight_by, IsOfFirst, IsOfNone, HasSooner, IsKnown, IsAsked, IsAnswered, Reaches, Sees}
 use Rattle.bs_loop.proofs.RecordedLemmas.{earlier_moment, known_is_right, known_is}
 
 -- what has been found is of the first moment
@@ -347,7 +347,7 @@ seen_whole r now stored known cands first Whole h met = (
 seen_whole r now stored known cands first (Limited m) h met = tt
 seen_whole r now stored known cands first (Unanswered m) h met = tt
 
-seen_given : (r : Recording) (now : Dump) (stored : List Bool) (known : Option Cand) (answer : Answer) (old new : PreimageState) (k b : ℕ)
+seen_given : (r : Recording) (now : Dump) (stored : List Bool) (known : Option Cand) (answer : SearchAnswer) (old new : PreimageState) (k b : ℕ)
     (listing : Listing) → old.circuit ≡ r.circuit → old.choice ≡ r.choice →
     Reaches r (asked_in r now.state stored now.older) known answer.first answer.reach →
     HasListed old new now.state stored now.older known k b listing → (end : ListEnd) → listing.end ≡ end →
@@ -360,19 +360,19 @@ seen_given r now stored known answer old new k b listing circuits choices h l Ca
     (λ whole. met_counted r now stored known answer.first old new k b listing circuits choices whole l e)
 seen_given r now stored known answer old new k b listing circuits choices h l Conflicts e = tt
 
-seen : (r : Recording) (now : Dump) (stored : List Bool) (at : Option Moment) (known : Option Cand) (answer : Option Answer)
+seen : (r : Recording) (now : Dump) (stored : List Bool) (at : Option Moment) (known : Option Cand) (answer : Option SearchAnswer)
     (old new : PreimageState) (k b : ℕ) (listing : Listing) → old.circuit ≡ r.circuit → old.choice ≡ r.choice →
     HasListed old new now.state stored now.older known k b listing → IsAnswered r now stored at listing.end known answer →
     Sees r listing.cands (seen_by answer listing.end)
 seen r now stored at known answer old new k b listing circuits choices l answered = by answered.either
   where
     by : ((answer ≡ None) × (listing.end ≢ Candidates)) ⊎ IsAsked r now stored at known answer → Sees r listing.cands (seen_by answer listing.end)
-    by (inl none) = subst (λ (o : Option Answer). Sees r listing.cands (seen_by o listing.end)) (sym none.0) tt
+    by (inl none) = subst (λ (o : Option SearchAnswer). Sees r listing.cands (seen_by o listing.end)) (sym none.0) tt
     by (inr asked) =
-        subst (λ (o : Option Answer). Sees r listing.cands (seen_by o listing.end)) (sym asked.is)
+        subst (λ (o : Option SearchAnswer). Sees r listing.cands (seen_by o listing.end)) (sym asked.is)
         (seen_given r now stored known asked.given old new k b listing circuits choices asked.known_is.reach l listing.end refl)
 
-pub sees : (r : Recording) (now : Dump) (stored : List Bool) (at : Option Moment) (known : Option Cand) (answer : Option Answer)
+pub sees : (r : Recording) (now : Dump) (stored : List Bool) (at : Option Moment) (known : Option Cand) (answer : Option SearchAnswer)
     (old new : PreimageState) (k b : ℕ) (listing : Listing) → old.circuit ≡ r.circuit → old.choice ≡ r.choice →
     HasListed old new now.state stored now.older known k b listing → IsAnswered r now stored at listing.end known answer →
     Sees r listing.cands (sight_by at answer listing.end)

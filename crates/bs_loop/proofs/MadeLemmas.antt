@@ -33,13 +33,13 @@ use Rattle.bs_report_good.specs.Valid.{HaveBefores, blocks_due, are_right_blocks
 use Rattle.bs_report_good.specs.Progress.{ListsBefore}
 use Rattle.bs_report_good.proofs.LoopLemmas.{follow_more, before_more}
 use Rattle.bs_preimage.specs.declared.listing.Listing.{Listing}
-use Rattle.bs_preimage.specs.Preimage.{PreimageState, next_guard}
+use Rattle.bs_preimage.specs.Preimage.{PreimageState, next_activation}
 use Rattle.bs_preimage.specs.Listed.{HasListed}
-use Rattle.bs_loop.specs.Made.{encoding_in, guard_at, IsLoggedStep, state_after, HasMade, StandsAt}
+use Rattle.bs_loop.specs.Made.{encoding_in, activation_at, IsLoggedStep, state_after, HasMade, StandsAt}
 use Rattle.bs_loop.specs.Recorded.{last_moment}
-use Rattle.bs_loop.specs.declared.known.Answer.{Answer}
+use Rattle.bs_loop.specs.declared.known.SearchAnswer.{SearchAnswer}
 use Rattle.bs_loop.specs.declared.known.Reach.{Reach}
-use Rattle.bs_loop.specs.Known.{HasSooner, IsAnswered, IsAsked}
+use Rattle.bs_loop.specs.KnownCand.{HasSooner, IsAnswered, IsAsked}
 use Rattle.bs_loop.specs.Turn.{step_of, HasLookedBack, HasLookedFrom, IsStepBack}
 
 -- ---- the lines of the steps
@@ -57,14 +57,14 @@ at_more P (t ∷ ts) step (k ∷ ks) l e h p (suc i) s is =
 
 -- ---- one more step
 
-guard_next : (crash : Crash) (steps : List Step) → next_guard (problem_of (encoding_in crash) (map present_of steps)) ≡ guard_at crash (length steps)
-guard_next crash steps =
+activation_next : (crash : Crash) (steps : List Step) → next_activation (problem_of (encoding_in crash) (map present_of steps)) ≡ activation_at crash (length steps)
+activation_next crash steps =
     ap (λ (n : ℕ). lit ((encoding_in crash).variables + (n + 1)) true)
     (length_steps_from (encoding_in crash) 1 (map present_of steps) ∙ length-map steps present_of)
 
 problem_more : (crash : Crash) (steps : List Step) (step : Step) →
     steps_from (encoding_in crash) 1 (map present_of steps) ++ assumptions_for (encoding_in crash)
-    (next_guard (problem_of (encoding_in crash) (map present_of steps))) (present_of step) ∷ []
+    (next_activation (problem_of (encoding_in crash) (map present_of steps))) (present_of step) ∷ []
     ≡ steps_from (encoding_in crash) 1 (map present_of (steps ++ step ∷ []))
 problem_more crash steps step =
     let e = encoding_in crash in
@@ -76,7 +76,7 @@ problem_more crash steps step =
     ∙ ap (steps_from e 1) (sym (map-append present_of steps (step ∷ [])))
 
 -- where a list ended by its count, something was asked
-known_there : (r : Recording) (now : Dump) (stored : List Bool) (at : Option Moment) (known : Option Cand) (answer : Option Answer) (listing : Listing) →
+known_there : (r : Recording) (now : Dump) (stored : List Bool) (at : Option Moment) (known : Option Cand) (answer : Option SearchAnswer) (listing : Listing) →
     IsAnswered r now stored at listing.end known answer → listing.end ≡ Candidates → (m : Moment) → at ≡ Some m → 1 ≤ m.cycle → HasSooner r known m
 known_there r now stored at known answer listing answered ended m here low = by answered.either
   where
@@ -86,7 +86,7 @@ known_there r now stored at known answer listing answered ended m here low = by 
 
 -- where the last hit is above cycle 0, a candidate of an earlier moment is known, and so a list that ends by its count has it
 lists_before : (r : Recording) (dump : Dump) (steps : List Step) (old new : PreimageState) (now : Dump) (at : Option Moment) (stored : List Bool)
-    (known : Option Cand) (answer : Option Answer) (k b : ℕ) (listing : Listing) (hit : Option Hit) → at ≡ last_moment steps →
+    (known : Option Cand) (answer : Option SearchAnswer) (k b : ℕ) (listing : Listing) (hit : Option Hit) → at ≡ last_moment steps →
     IsAnswered r now stored at listing.end known answer →
     HasListed old new now.state stored now.older known k b listing → (earlier : Step) → last_or None steps ≡ Some earlier →
     listing.end ≡ Candidates → ListsBefore (crash_of r dump) earlier (step_of now stored listing hit)
@@ -131,14 +131,14 @@ step_made r dump budgets steps old new now at stored listing hit reach made stan
       ends = l.ends;
       blocks =
           subst (λ (g : Literal). are_right_blocks (blocks_due g (block_for (encoding_in crash)) listing.cands) (blocks_in l.lines) ≡ true)
-          (guard_next crash steps) l.blocks;
+          (activation_next crash steps) l.blocks;
       finish =
           subst (λ (g : Literal). is_right_finish budgets.conflicts (assumptions_for (encoding_in crash) g (present_of step)) l.lines listing.end
           (finishes_in l.lines) ≡ true)
-          (guard_next crash steps) l.finish;
+          (activation_next crash steps) l.finish;
       bound = subst (λ (g : Literal). listing.end ≡ Conflicts → (run : List Literal) → HasVariables (encoding_in crash).variables run →
           IsUnitRun (encoding_in crash).clauses (assumptions_for (encoding_in crash) g (present_of step)) run →
-          budgets.conflicts < 2 ^ ((encoding_in crash).variables - length run)) (guard_next crash steps) l.bound;
+          budgets.conflicts < 2 ^ ((encoding_in crash).variables - length run)) (activation_next crash steps) l.bound;
     } in
     record {
       state = λ i. record {

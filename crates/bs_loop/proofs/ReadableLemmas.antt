@@ -35,7 +35,7 @@ use Rattle.bs_report_good.specs.Valid.{is_right_before, HaveBefores, finishes_in
 use Rattle.bs_report_good.proofs.ProgressLemmas.{hit_at, all_at}
 use Rattle.bs_preimage.specs.Preimage.{PreimageState}
 use Rattle.bs_loop.specs.Budget.{IsBudget}
-use Rattle.bs_loop.specs.Made.{encoding_in, guard_at}
+use Rattle.bs_loop.specs.Made.{encoding_in, activation_at}
 use Rattle.bs_loop.proofs.GoodLemmas.{IsReportOf, logged_in, is_good}
 use Rattle.bs_loop.proofs.TraceLemmas.{input_behind, one_state_more}
 
@@ -134,7 +134,7 @@ step_text chip dump budgets s r sound of texts i step is =
       befores = unnamed crash step r.depth (λ one. older (sym of.depth ∙ one)) befores;
       list =
           end_text r.budgets.conflicts
-          (assumptions_for (encoding_in (crash_of chip dump)) (guard_at (crash_of chip dump) i) (present_of step)) lines step.end (step_texts r.log texts i)
+          (assumptions_for (encoding_in (crash_of chip dump)) (activation_at (crash_of chip dump) i) (present_of step)) lines step.end (step_texts r.log texts i)
           (logged_in (crash_of chip dump) budgets s r of i step is).finish;
       hit = hit_text chip dump step sound (all_at (IsRightStep (crash_of chip dump)) r.steps i step of.ended.made.right is);
     }

@@ -17,10 +17,10 @@ use Rattle.bs_preimage.specs.declared.listing.Listing.{Listing}
 use Rattle.bs_preimage.specs.Preimage.{PreimageState}
 use Rattle.bs_preimage.specs.Listed.{HasListed}
 use Rattle.bs_preimage_recorded.specs.Search.{asked_in}
-use Rattle.bs_loop.specs.declared.known.Answer.{Answer}
+use Rattle.bs_loop.specs.declared.known.SearchAnswer.{SearchAnswer}
 use Rattle.bs_loop.specs.declared.known.Reach.{Reach}
 use Rattle.bs_loop.specs.declared.known.Reach.TheVariants.{Whole, Limited, Unanswered}
-use Rattle.bs_loop.specs.Known.{reach_by, IsAsked, Reaches}
+use Rattle.bs_loop.specs.KnownCand.{reach_by, IsAsked, Reaches}
 use Rattle.bs_loop.specs.Searched.{HitsBy, HitsFirst, AreSearched, IsOneSearched, IsTurnSearched}
 use Rattle.bs_loop.specs.Turn.{step_of, HasLookedFrom}
 use Rattle.bs_loop.proofs.KnownLemmas.{met_finished, met_counted}
@@ -51,7 +51,7 @@ asked_met r now stored known first old new k b listing circuits choices h l Cand
 asked_met r now stored known first old new k b listing circuits choices h l Conflicts e spent = absurd (spent refl)
 
 given_hits : (r : Recording) (budgets : Budgets) (old new : PreimageState) (now : Dump) (stored : List Bool) (at : Option Moment) (listing : Listing)
-    (hit : Option Hit) (reach : Reach) (answer : Answer) (given_reach : Reach) → old.circuit ≡ r.circuit → old.choice ≡ r.choice →
+    (hit : Option Hit) (reach : Reach) (answer : SearchAnswer) (given_reach : Reach) → old.circuit ≡ r.circuit → old.choice ≡ r.choice →
     (from : HasLookedFrom r budgets old new now stored at listing hit reach) →
     Reaches r (asked_in r now.state stored now.older) from.known answer.first given_reach → HitsBy r (step_of now stored listing hit) given_reach
 given_hits r budgets old new now stored at listing hit reach answer Whole circuits choices from h =

@@ -4,7 +4,7 @@ pub mod Bound
 pub mod Searched
 -- what inner functions promise each other
 pub mod Recorded
-pub mod Known
+pub mod KnownCand
 pub mod Lookout
 pub mod Made
 pub mod Turn

@@ -4,7 +4,7 @@ use Rattle.std.specs.Option.{option_to_list}
 use Rattle.bs_scan.specs.Crash.{DumpFits}
 use Rattle.bs_scan.specs.Dump.{signatures_of}
 use Rattle.bs_report.specs.declared.report.Cand.{Cand}
-use Rattle.bs_loop.specs.Known.{IsAsked}
+use Rattle.bs_loop.specs.KnownCand.{IsAsked}
 use Rattle.bs_loop.specs.Recorded.{StandsIn}
 use Rattle.bs_loop.specs.declared.lookout.Lookout.{Lookout}
 

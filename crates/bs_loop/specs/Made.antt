@@ -29,18 +29,18 @@ use Rattle.bs_preimage.specs.Preimage.{PreimageState}
 abbrev pub encoding_in : Crash → Encoded
 encoding_in crash = encoding_by crash.circuit crash.choice
 
--- the guard of a step, counted from 0
-abbrev pub guard_at : Crash → ℕ → Literal
-guard_at crash i = lit ((encoding_in crash).variables + (i + 1)) true
+-- the activation literal of a step, counted from 0
+abbrev pub activation_at : Crash → ℕ → Literal
+activation_at crash i = lit ((encoding_in crash).variables + (i + 1)) true
 
 -- the lines of a step, counted from 0, say what its list says
 pub record IsLoggedStep (crash : Crash) (budgets : Budgets) (i : ℕ) (lines : List Line) (step : Step) : Type 0 where
   pub ends : IsRightEnd (asked_of crash step) budgets.candidates budgets.conflicts lines step.cands step.end
-  pub blocks : are_right_blocks (blocks_due (guard_at crash i) (block_for (encoding_in crash)) step.cands) (blocks_in lines) ≡ true
-  pub finish : is_right_finish budgets.conflicts (assumptions_for (encoding_in crash) (guard_at crash i) (present_of step)) lines step.end
+  pub blocks : are_right_blocks (blocks_due (activation_at crash i) (block_for (encoding_in crash)) step.cands) (blocks_in lines) ≡ true
+  pub finish : is_right_finish budgets.conflicts (assumptions_for (encoding_in crash) (activation_at crash i) (present_of step)) lines step.end
       (finishes_in lines) ≡ true
   pub bound : step.end ≡ Conflicts → (run : List Literal) → HasVariables (encoding_in crash).variables run →
-      IsUnitRun (encoding_in crash).clauses (assumptions_for (encoding_in crash) (guard_at crash i) (present_of step)) run →
+      IsUnitRun (encoding_in crash).clauses (assumptions_for (encoding_in crash) (activation_at crash i) (present_of step)) run →
       budgets.conflicts < 2 ^ ((encoding_in crash).variables - length run)
 
 -- where the search is after these steps, whose lines are these, the newest first

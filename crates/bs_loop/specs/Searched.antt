@@ -8,7 +8,7 @@ use Rattle.bs_report.specs.declared.report.ListEnd.TheVariants.{Conflicts}
 use Rattle.bs_report.specs.declared.report.Step.{Step}
 use Rattle.bs_report_good.specs.Step.{stored_of}
 use Rattle.bs_preimage_recorded.specs.Search.{NoneSooner}
-use Rattle.bs_loop.specs.Known.{IsCutFar}
+use Rattle.bs_loop.specs.KnownCand.{IsCutFar}
 use Rattle.bs_loop.specs.declared.known.Reach.{Reach}
 use Rattle.bs_loop.specs.declared.known.Reach.TheVariants.{Whole, Limited, Unanswered}
 

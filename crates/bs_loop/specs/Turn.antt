@@ -17,8 +17,8 @@ use Rattle.bs_report_good.specs.Valid.{cause_of_end}
 use Rattle.bs_preimage.specs.declared.listing.Listing.{Listing}
 use Rattle.bs_preimage.specs.Preimage.{PreimageState}
 use Rattle.bs_preimage.specs.Listed.{HasListed}
-use Rattle.bs_loop.specs.Known.{reach_by, IsAnswered}
-use Rattle.bs_loop.specs.declared.known.Answer.{Answer}
+use Rattle.bs_loop.specs.KnownCand.{reach_by, IsAnswered}
+use Rattle.bs_loop.specs.declared.known.SearchAnswer.{SearchAnswer}
 use Rattle.bs_loop.specs.declared.known.Reach.{Reach}
 
 -- the hit line of a hit
@@ -44,7 +44,7 @@ step_of now stored listing hit =
 
 -- a list for a present and its stored signatures, and what was answered for it
 pub record HasListedFrom (r : Recording) (budgets : Budgets) (old new : PreimageState) (now : Dump) (stored : List Bool) (at : Option Moment)
-    (listing : Listing) (answer : Option Answer) : Type 0 where
+    (listing : Listing) (answer : Option SearchAnswer) : Type 0 where
   pub known : Option Cand
   pub listed : HasListed old new now.state stored now.older known budgets.candidates budgets.conflicts listing
   pub calls : new.calls ≡ old.calls + 1
@@ -54,7 +54,7 @@ pub record HasListedFrom (r : Recording) (budgets : Budgets) (old new : Preimage
 pub record HasLookedFrom (r : Recording) (budgets : Budgets) (old new : PreimageState) (now : Dump) (stored : List Bool) (at : Option Moment)
     (listing : Listing) (hit : Option Hit) (reach : Reach) : Type 0 where
   pub known : Option Cand
-  pub answer : Option Answer
+  pub answer : Option SearchAnswer
   pub answered : IsAnswered r now stored at listing.end known answer
   pub reach_is : reach ≡ reach_by answer
   pub back : HasLookedBack r budgets old new now stored known listing hit

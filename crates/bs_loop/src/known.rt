@@ -9,7 +9,7 @@ ghost use Rattle.bs_scan.specs.Moments.{moment, IsMoment};
 ghost use Rattle.bs_preimage_recorded.specs.Search.{IsCutAt, SoughtWithin};
 ghost use Rattle.bs_preimage_recorded.specs.declared.search.TheConstants.{MAX_ASKS};
 ghost use Rattle.bs_loop.specs.declared.known.Reach.TheVariants.{Whole};
-ghost use Rattle.bs_loop.specs.Known.{floor_of, known_by, reach_by, seen_at, seen_by, sight_by, IsKnown};
+ghost use Rattle.bs_loop.specs.KnownCand.{floor_of, known_by, reach_by, seen_at, seen_by, sight_by, IsKnown};
 ghost use Rattle.bs_loop.specs.Recorded.{known_before, StandsIn};
 
 use crate::recorded::known_before;
@@ -34,16 +34,16 @@ pub enum Reach {
 
 /// What a search says: the first moment in a predecessor, where it is whole.
 #[derive(Clone, Copy)]
-pub struct Answer {
+pub struct SearchAnswer {
     pub first: Option<Moment>,
     pub reach: Reach,
 }
 
 /// A candidate that is known, and what the search for it says.
 #[derive(Drop)]
-pub struct Known {
+pub struct KnownCand {
     pub cand: Option<Cand>,
-    pub answer: Answer,
+    pub answer: SearchAnswer,
 }
 
 /// Whether the first moment in a listed state is known.
@@ -56,10 +56,10 @@ pub enum Sight {
 }
 
 /// What a search says, from its parts.
-fn answer_of(first: Option<Moment>, reach: Reach) -> Answer
+fn answer_of(first: Option<Moment>, reach: Reach) -> SearchAnswer
     ensures { result ≡ record { first = first; reach = reach } }
 {
-    Answer { first, reach }
+    SearchAnswer { first, reach }
 }
 
 /// The moment before a moment above cycle 0.
@@ -117,27 +117,27 @@ fn floor_known(
     chip: &mut Chip<'_>,
     at: Option<Moment>,
     depth: u8,
-    answer: Answer,
-) -> Result<Known, NoMemory>
+    answer: SearchAnswer,
+) -> Result<KnownCand, NoMemory>
     requires at { IfSome at (IsMoment chip.old.recording.runs) }
     requires depth { depth ≡ depth_of chip.old.recording.choice }
     ensures known { IfOk result (λ known. known ≡ record { cand = known_before chip.old.recording at; answer = answer }) }
     ensures chip { chip.new ≡ chip.old }
 {
     let cand = known_before(alloc, chip, at, depth)?;
-    Ok(Known { cand, answer })
+    Ok(KnownCand { cand, answer })
 }
 
 /// What is known where a moment was found.
-fn found_known(found: Recorded) -> Known
+fn found_known(found: Recorded) -> KnownCand
     ensures { result ≡ record { cand = Some found.cand; answer = record { first = Some (moment found.run found.cycle); reach = Whole } } }
 {
     let Recorded { run, cycle, cand } = found;
     let first = Some(Moment { run, cycle });
     let reach = Reach::Whole;
-    Known {
+    KnownCand {
         cand: Some(cand),
-        answer: Answer { first, reach },
+        answer: SearchAnswer { first, reach },
     }
 }
 
@@ -148,7 +148,7 @@ fn known_of(
     at: Option<Moment>,
     depth: u8,
     sought: Sought,
-) -> Result<Known, NoMemory>
+) -> Result<KnownCand, NoMemory>
     requires at { IfSome at (IsMoment chip.old.recording.runs) }
     requires depth { depth ≡ depth_of chip.old.recording.choice }
     ensures known { IfOk result (λ known. known ≡ known_by sought (floor_of at) (known_before chip.old.recording at)) }
@@ -180,7 +180,7 @@ pub fn known_for<'a>(
     at: Option<Moment>,
     stored: &Bits,
     b: u64,
-) -> Result<Known, NoMemory>
+) -> Result<KnownCand, NoMemory>
     requires finder { finder.old.recording ≡ chip.old.recording }
     requires dump { DumpFits chip.old.recording.circuit chip.old.recording.choice now.now }
     requires at { IfSome at (StandsIn chip.old.recording now.now) }
@@ -197,7 +197,7 @@ pub fn known_for<'a>(
 }
 
 /// How far the search came for a list: where nothing was asked, what leads to the present is all in the list.
-pub fn reach_of(answer: Option<Answer>) -> Reach
+pub fn reach_of(answer: Option<SearchAnswer>) -> Reach
     ensures { result ≡ reach_by answer }
 {
     match answer {
@@ -218,7 +218,7 @@ fn seen_at(first: Option<Moment>, reach: Reach) -> Sight
 }
 
 /// What is seen of a list that has ended so.
-fn seen_by(answer: Option<Answer>, end: &ListEnd) -> Sight
+fn seen_by(answer: Option<SearchAnswer>, end: &ListEnd) -> Sight
     ensures { result ≡ seen_by answer end.now }
 {
     match answer {
@@ -233,7 +233,7 @@ fn seen_by(answer: Option<Answer>, end: &ListEnd) -> Sight
 
 /// Whether the first moment in a state of a list that has ended is known. Where the present is at no moment the runs are looked
 /// through, so that the chip keeps their states.
-pub fn sight_of(at: Option<Moment>, answer: Option<Answer>, end: &ListEnd) -> Sight
+pub fn sight_of(at: Option<Moment>, answer: Option<SearchAnswer>, end: &ListEnd) -> Sight
     ensures { result ≡ sight_by at answer end.now }
 {
     match at {

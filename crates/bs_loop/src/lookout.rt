@@ -1,6 +1,6 @@
 //! What a list asks where it is about to be cut: the search among the recorded moments.
 
-use crate::known::{Answer, Known, known_for};
+use crate::known::{SearchAnswer, KnownCand, known_for};
 use bs_bits::{Bits, NoMemory};
 use bs_chip::Chip;
 use bs_preimage::Source;
@@ -19,7 +19,7 @@ pub struct Lookout<'s, 'a, 'p> {
     pub stored: &'s Bits,
     pub at: Option<Moment>,
     pub b: u64,
-    pub answer: Option<Answer>,
+    pub answer: Option<SearchAnswer>,
 }
 
 impl<'s, 'a, 'p> Source for Lookout<'s, 'a, 'p> {
@@ -32,7 +32,7 @@ impl<'s, 'a, 'p> Source for Lookout<'s, 'a, 'p> {
     ghost stays = { λ old new. IsSameLookout old new };
 
     fn known(&mut self, alloc: Global) -> Result<Option<Cand>, NoMemory> {
-        let Known { cand, answer } = known_for(
+        let KnownCand { cand, answer } = known_for(
             alloc,
             self.chip,
             self.finder,

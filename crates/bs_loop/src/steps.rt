@@ -9,12 +9,12 @@ ghost use Rattle.bs_scan.specs.Moments.{first_moment, IsMoment};
 ghost use Rattle.bs_report_good.specs.Step.{listed};
 ghost use Rattle.bs_report_good.specs.Valid.{cause_of_end};
 ghost use Rattle.bs_loop.specs.Budget.{IsBudget};
-ghost use Rattle.bs_loop.specs.Known.{Sees};
+ghost use Rattle.bs_loop.specs.KnownCand.{Sees};
 ghost use Rattle.bs_loop.specs.Recorded.{StandsIn};
 ghost use Rattle.bs_loop.specs.Searched.{IsTurnSearched};
 ghost use Rattle.bs_loop.specs.Turn.{line_of, step_of, HasListedFrom, HasLookedFrom, HasStepped, HasStopped};
 
-use crate::known::{Answer, Reach, Sight, reach_of, sight_of};
+use crate::known::{SearchAnswer, Reach, Sight, reach_of, sight_of};
 use crate::lookout::Lookout;
 use crate::stop::cause_after;
 use bs_bits::{Bits, List, NoMemory};
@@ -29,7 +29,7 @@ use std::alloc::Global;
 #[derive(Drop)]
 struct Listed {
     listing: Listing,
-    answer: Option<Answer>,
+    answer: Option<SearchAnswer>,
 }
 
 /// A list of states, the first moment of a run in one of them, and how far the recorded moments were searched.

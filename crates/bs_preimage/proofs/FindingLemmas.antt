@@ -22,7 +22,7 @@ use Rattle.bs_scan.proofs.SignatureLemmas.{bits_same, bits_same_is}
 use Rattle.bs_scan.proofs.MomentLemmas.{each_append}
 use Rattle.bs_solve_recording.specs.declared.stage.Stage.{Stage}
 use Rattle.bs_solve_recording.specs.declared.stage.Stage.TheVariants.{Begun, Blocked}
-use Rattle.bs_solve_recording.specs.Book.{Book, standing}
+use Rattle.bs_solve_recording.specs.ProofLog.{ProofLog, standing}
 use Rattle.bs_solve_recording.specs.Ending.{is_open_lemma}
 use Rattle.bs_solve_recording.specs.Stages.{is_begun}
 use Rattle.bs_solve_recording.specs.Solver.{SolverState, MaySolve}
@@ -36,20 +36,20 @@ use Rattle.bs_report_good.specs.Valid.{blocks_due}
 use Rattle.bs_solve.specs.Budget.{last_lemmas, HasFewLemmas}
 use Rattle.bs_preimage.specs.declared.turn.TurnEnd.TheVariants.{Listed, Refuted, Spent}
 use Rattle.bs_preimage.specs.Asking.{HasAsked, IsTold}
-use Rattle.bs_preimage.specs.Turn.{Extends, Keeps, HasSearched, MayTurn, TurnsTo, HasNext, HasRefutedAll, HasSpent, IsOneOf, block_in, guard_in, steps_after}
+use Rattle.bs_preimage.specs.Turn.{Extends, Keeps, HasSearched, MayTurn, TurnsTo, HasNext, HasRefutedAll, HasSpent, IsOneOf, block_in, activation_in, steps_after}
 use Rattle.bs_preimage.specs.Finding.{is_inner, HasLogged, IsAgain, IsUnderWay, HasKnown, KeepsLimit, HasEndedSearch, IsSearching, HasComeTo, HasFilled}
 use Rattle.bs_solve_recording.proofs.CallerLemmas.{runs_over}
 use Rattle.bs_preimage.proofs.TurnLemmas.{extends_then, extends_from, none_is_known, no_known}
 use Rattle.bs_preimage.proofs.InnerLemmas.{lemmas_inner, inner_step}
 
--- ---- the guard of the step
+-- ---- the activation literal of the step
 
-same_guard : (from to : Book) → to.problem.vars ≡ from.problem.vars → step_of to.history ≡ step_of from.history → guard_in to ≡ guard_in from
-same_guard from to v n = λ i. record { variable = v i + n i; positive = true }
+same_activation : (from to : ProofLog) → to.problem.vars ≡ from.problem.vars → step_of to.history ≡ step_of from.history → activation_in to ≡ activation_in from
+same_activation from to v n = λ i. record { variable = v i + n i; positive = true }
 
-guard_kept : (e : Encoded) (start s : SolverState) (found : List Cand) → HasLogged e start s found → guard_in s.book ≡ guard_in start.book
-guard_kept e start s found h =
-    same_guard start.book s.book h.vars (ap step_of h.history ∙ inner_step h.lines start.book.history h.inner)
+activation_kept : (e : Encoded) (start s : SolverState) (found : List Cand) → HasLogged e start s found → activation_in s.proof ≡ activation_in start.proof
+activation_kept e start s found h =
+    same_activation start.proof s.proof h.vars (ap step_of h.history ∙ inner_step h.lines start.proof.history h.inner)
 
 -- ---- the lines of a search behind those of the step
 
@@ -69,11 +69,11 @@ searched_logs : (e : Encoded) (a : Clause) (start s s2 : SolverState) (found : L
     HasSearched s s2 a lemmas → HasLogged e start s2 found
 searched_logs e a start s s2 found lemmas h r =
     record {
-      guards = r.guards ∙ h.guards;
+      activations = r.activations ∙ h.activations;
       vars = r.vars ∙ h.vars;
       clauses = r.clauses ∙ h.clauses;
       lines = lemmas ++ Solve ∷ h.lines;
-      history = r.history ∙ (ap (λ (h : History). lemmas ++ Solve ∷ h) h.history ∙ sym (append_assoc lemmas (Solve ∷ h.lines) start.book.history));
+      history = r.history ∙ (ap (λ (h : History). lemmas ++ Solve ∷ h) h.history ∙ sym (append_assoc lemmas (Solve ∷ h.lines) start.proof.history));
       inner = each_append (λ line. is_inner line ≡ true) lemmas (Solve ∷ h.lines) (lemmas_inner lemmas r.are_lemmas) (refl, h.inner);
       blocks = no_blocks lemmas (Solve ∷ h.lines) r.are_lemmas ∙ h.blocks;
       stand = λ c there. r.stand c (h.stand c there);
@@ -86,26 +86,26 @@ begun_stage s start b e = ap (λ (s : SolverState). s.stage) e ∙ b
 
 steps_now : (e : Encoded) (a : Clause) (known : Option Cand) (start s s2 : SolverState) (found : List Cand) (lemmas : List Line) →
     start.stage ≡ Begun → IsUnderWay e a known start s found → HasSearched s s2 a lemmas →
-    s2.book.problem.steps ≡ start.book.problem.steps ++ a ∷ []
+    s2.proof.problem.steps ≡ start.proof.problem.steps ++ a ∷ []
 steps_now e a known start s s2 found lemmas b u r = by u.stage
   where
-    by : ((s ≡ start) × (found ≡ [])) ⊎ IsAgain e a start s → s2.book.problem.steps ≡ start.book.problem.steps ++ a ∷ []
+    by : ((s ≡ start) × (found ≡ [])) ⊎ IsAgain e a start s → s2.proof.problem.steps ≡ start.proof.problem.steps ++ a ∷ []
     by (inl first) =
-        r.steps ∙ (ap (λ (t : Stage). steps_after (is_begun t) s.book.problem.steps a) (begun_stage s start b first.0)
-        ∙ ap (λ (s : SolverState). s.book.problem.steps ++ a ∷ []) first.0)
-    by (inr again) = r.steps ∙ (ap (λ (t : Stage). steps_after (is_begun t) s.book.problem.steps a) again.stage ∙ again.steps)
+        r.steps ∙ (ap (λ (t : Stage). steps_after (is_begun t) s.proof.problem.steps a) (begun_stage s start b first.0)
+        ∙ ap (λ (s : SolverState). s.proof.problem.steps ++ a ∷ []) first.0)
+    by (inr again) = r.steps ∙ (ap (λ (t : Stage). steps_after (is_begun t) s.proof.problem.steps a) again.stage ∙ again.steps)
 
 -- ---- a candidate more
 
 block_of_middle : (e : Encoded) (start s middle : SolverState) (found : List Cand) → HasLogged e start s found → HasLogged e start middle found →
     (state : List Bool) →
-    negation (guard_in middle.book) ∷ block_for e state ≡ block_in e start.book state
-block_of_middle e start s middle found h m state = ap (λ (g : Literal). negation g ∷ block_for e state) (guard_kept e start middle found m)
+    negation (activation_in middle.proof) ∷ block_for e state ≡ block_in e start.proof state
+block_of_middle e start s middle found h m state = ap (λ (g : Literal). negation g ∷ block_for e state) (activation_kept e start middle found m)
 
 -- each state found before is another one
 others : (e : Encoded) (start s : SolverState) (found cands : List Cand) (cand : Cand) → HasLogged e start s found →
-    ((t : List Bool) → Contains (standing s.book) (block_in e s.book t) → cand.state ≢ t) →
-    Each (λ c. Contains (standing s.book) (block_in e start.book c.state)) cands → Each (λ t. bits_eq cand.state t ≡ false) (listed cands)
+    ((t : List Bool) → Contains (standing s.proof) (block_in e s.proof t) → cand.state ≢ t) →
+    Each (λ c. Contains (standing s.proof) (block_in e start.proof c.state)) cands → Each (λ t. bits_eq cand.state t ≡ false) (listed cands)
 others e start s found [] cand logged apart all = tt
 others e start s found (c ∷ cands) cand logged apart all =
     (by (bits_eq cand.state c.state) refl, others e start s found cands cand logged apart all.1)
@@ -114,8 +114,8 @@ others e start s found (c ∷ cands) cand logged apart all =
     by false e2 = e2
     by true e2 =
         absurd
-        (apart c.state (subst (λ (g : Literal). Contains (standing s.book) (negation g ∷ block_for e c.state))
-        (sym (guard_kept e start s found logged)) all.0)
+        (apart c.state (subst (λ (g : Literal). Contains (standing s.proof) (negation g ∷ block_for e c.state))
+        (sym (activation_kept e start s found logged)) all.0)
         (bits_same_is cand.state c.state e2))
 
 -- what is not listed is another state than each listed one
@@ -133,11 +133,11 @@ other_states : (e : Encoded) (a : Clause) (limit : ℕ) (known : Option Cand) (s
     IsUnderWay e a known start s found → HasNext e a limit found known s s2 cand → Each (λ t. bits_eq cand.state t ≡ false) (listed found)
 other_states e a limit known start s s2 found cand u one = by one.apart
   where
-    by : ((t : List Bool) → Contains (standing s.book) (block_in e s.book t) → cand.state ≢ t) ⊎ (is_listed (listed found) cand.state ≡ false) →
+    by : ((t : List Bool) → Contains (standing s.proof) (block_in e s.proof t) → cand.state ≢ t) ⊎ (is_listed (listed found) cand.state ≡ false) →
         Each (λ t. bits_eq cand.state t ≡ false) (listed found)
     by (inl apart) =
         others e start s found found cand u.logged apart
-        (recursion_from_All (λ (c : Cand). Contains (standing s.book) (block_in e start.book c.state)) found u.blocked)
+        (recursion_from_All (λ (c : Cand). Contains (standing s.proof) (block_in e start.proof c.state)) found u.blocked)
     by (inr out) = none_listed (listed found) cand.state out
 
 pub flips : (x y : List Bool) → bits_eq x y ≡ bits_eq y x
@@ -159,24 +159,24 @@ pub one_more_cand : (e : Encoded) (a : Clause) (limit : ℕ) (known : Option Can
     IsUnderWay e a known start s2 (found ++ cand ∷ [])
 one_more_cand e a limit known start s s2 found cand b u one =
     let m : HasLogged e start one.middle found = searched_logs e a start s one.middle found one.lemmas u.logged one.searched in
-    let block : Clause = negation (guard_in one.middle.book) ∷ block_for e cand.state in
-    let same : block ≡ block_in e start.book cand.state = block_of_middle e start s one.middle found u.logged m cand.state in
-    let there : Contains (standing s2.book) (block_in e start.book cand.state) =
-    subst (λ (cs : List Clause). Contains cs (block_in e start.book cand.state)) (sym one.blocked.stands)
-    (subst (Contains (standing one.middle.book ++ block ∷ [])) same (Contains-push (standing one.middle.book) block)) in
-    let keeps : Keeps one.middle.book s2.book = λ c there.
-    subst (λ (cs : List Clause). Contains cs c) (sym one.blocked.stands) (Contains-append_left (standing one.middle.book) (block ∷ []) c there) in
+    let block : Clause = negation (activation_in one.middle.proof) ∷ block_for e cand.state in
+    let same : block ≡ block_in e start.proof cand.state = block_of_middle e start s one.middle found u.logged m cand.state in
+    let there : Contains (standing s2.proof) (block_in e start.proof cand.state) =
+    subst (λ (cs : List Clause). Contains cs (block_in e start.proof cand.state)) (sym one.blocked.stands)
+    (subst (Contains (standing one.middle.proof ++ block ∷ [])) same (Contains-push (standing one.middle.proof) block)) in
+    let keeps : Keeps one.middle.proof s2.proof = λ c there.
+    subst (λ (cs : List Clause). Contains cs c) (sym one.blocked.stands) (Contains-append_left (standing one.middle.proof) (block ∷ []) c there) in
     record {
       logged = record {
-        guards = one.blocked.vars ∙ m.guards;
-        vars = ap (λ (b : Book). b.problem.vars) one.blocked.book ∙ m.vars;
-        clauses = ap (λ (b : Book). b.problem.clauses) one.blocked.book ∙ m.clauses;
+        activations = one.blocked.vars ∙ m.activations;
+        vars = ap (λ (b : ProofLog). b.problem.vars) one.blocked.proof ∙ m.vars;
+        clauses = ap (λ (b : ProofLog). b.problem.clauses) one.blocked.proof ∙ m.clauses;
         lines = Block one.id block ∷ m.lines;
-        history = ap (λ (b : Book). b.history) one.blocked.book ∙ ap (λ (h : History). Block one.id block ∷ h) m.history;
+        history = ap (λ (b : ProofLog). b.history) one.blocked.proof ∙ ap (λ (h : History). Block one.id block ∷ h) m.history;
         inner = (refl, m.inner);
         blocks =
             (λ i. same i ∷ m.blocks i)
-            ∙ ap (λ (cs : List Cand). blocks_due (guard_in start.book) (block_for e) cs) (sym (reverse-append found (cand ∷ [])));
+            ∙ ap (λ (cs : List Cand). blocks_due (activation_in start.proof) (block_for e) cs) (sym (reverse-append found (cand ∷ [])));
         stand = λ c there. keeps c (m.stand c there);
       };
       cands = record {
@@ -184,13 +184,13 @@ one_more_cand e a limit known start s s2 found cand b u one =
         apart = subst (IsDistinct bits_eq) (sym (map-append (λ (c : Cand). c.state) found (cand ∷ [])))
             (distinct_push (listed found) cand.state u.cands.apart (other_states e a limit known start s s2 found cand u one));
       };
-      blocked = All-push (λ (c : Cand). Contains (standing s2.book) (block_in e start.book c.state)) found cand
-          (All-weaker (λ (c : Cand). Contains (standing s.book) (block_in e start.book c.state))
-          (λ (c : Cand). Contains (standing s2.book) (block_in e start.book c.state))
-          (λ c there. keeps (block_in e start.book c.state) (one.searched.stand (block_in e start.book c.state) there)) found u.blocked) there;
+      blocked = All-push (λ (c : Cand). Contains (standing s2.proof) (block_in e start.proof c.state)) found cand
+          (All-weaker (λ (c : Cand). Contains (standing s.proof) (block_in e start.proof c.state))
+          (λ (c : Cand). Contains (standing s2.proof) (block_in e start.proof c.state))
+          (λ c there. keeps (block_in e start.proof c.state) (one.searched.stand (block_in e start.proof c.state) there)) found u.blocked) there;
       stage = inr (record {
         stage = one.blocked.stage;
-        steps = ap (λ (b : Book). b.problem.steps) one.blocked.book ∙ steps_now e a known start s one.middle found one.lemmas b u one.searched;
+        steps = ap (λ (b : ProofLog). b.problem.steps) one.blocked.proof ∙ steps_now e a known start s one.middle found one.lemmas b u one.searched;
         assumed_is = one.blocked.step ∙ one.searched.assumed_is;
       });
     }
@@ -205,11 +205,11 @@ pub may_turn_again : (e : Encoded) (a : Clause) (known : Option Cand) (start s :
 may_turn_again e a known start s found b may u =
     record {
       may = by u.stage;
-      range = subst (λ (n : ℕ). HasVariables n a) (sym u.logged.guards) may.range;
+      range = subst (λ (n : ℕ). HasVariables n a) (sym u.logged.activations) may.range;
       distinct = may.distinct;
-      guard = subst (Contains a) (sym (guard_kept e start s found u.logged)) may.guard;
+      activation = subst (Contains a) (sym (activation_kept e start s found u.logged)) may.activation;
       vars = u.logged.vars ∙ may.vars;
-      guards = subst (λ (n : ℕ). e.variables ≤ n) (sym u.logged.guards) may.guards;
+      activations = subst (λ (n : ℕ). e.variables ≤ n) (sym u.logged.activations) may.activations;
       clauses = u.logged.clauses ∙ may.clauses;
       stand = λ c there. u.logged.stand c (may.stand c (subst (λ (cs : List Clause). Contains cs c) u.logged.clauses there));
     }
@@ -227,9 +227,9 @@ none_distinct = tt
 pub under_way_at_first : (e : Encoded) (a : Clause) (known : Option Cand) (start : SolverState) → IsUnderWay e a known start start []
 under_way_at_first e a known start =
     record {
-      logged = record { guards = refl; vars = refl; clauses = refl; lines = []; history = refl; inner = tt; blocks = refl; stand = λ c there. there };
+      logged = record { activations = refl; vars = refl; clauses = refl; lines = []; history = refl; inner = tt; blocks = refl; stand = λ c there. there };
       cands = record { shown = All-nil (IsOneOf e a known); apart = none_distinct };
-      blocked = All-nil (λ (c : Cand). Contains (standing start.book) (block_in e start.book c.state));
+      blocked = All-nil (λ (c : Cand). Contains (standing start.proof) (block_in e start.proof c.state));
       stage = inl (refl, refl);
     }
 
@@ -259,16 +259,16 @@ few_lemmas limit (Delete ids ∷ lemmas) h all n few = absurd (false≢true all.
 searched_few : (a : Clause) (limit : ℕ) (start s s2 : SolverState) (lemmas : List Line) → KeepsLimit limit start s → HasSearched s s2 a lemmas →
     length lemmas ≤ limit → KeepsLimit limit start s2
 searched_few a limit start s s2 lemmas k r n =
-    record { few = λ f. subst (HasFewLemmas limit) (sym r.history) (few_lemmas limit lemmas s.book.history r.are_lemmas n (k.few f)) }
+    record { few = λ f. subst (HasFewLemmas limit) (sym r.history) (few_lemmas limit lemmas s.proof.history r.are_lemmas n (k.few f)) }
 
 next_few : (e : Encoded) (a : Clause) (limit : ℕ) (known : Option Cand) (start s s2 : SolverState) (found : List Cand) (cand : Cand) →
     KeepsLimit limit start s → HasNext e a limit found known s s2 cand → KeepsLimit limit start s2
 next_few e a limit known start s s2 found cand keeps one =
-    let count : last_lemmas one.middle.book.history ≡ length one.lemmas =
-    ap last_lemmas one.searched.history ∙ lemmas_counted one.lemmas s.book.history one.searched.are_lemmas in
+    let count : last_lemmas one.middle.proof.history ≡ length one.lemmas =
+    ap last_lemmas one.searched.history ∙ lemmas_counted one.lemmas s.proof.history one.searched.are_lemmas in
     let middle : KeepsLimit limit start one.middle =
     searched_few a limit start s one.middle one.lemmas keeps one.searched (omega (arith, one.few)) in
-    record { few = λ f. subst (λ (b : Book). HasFewLemmas limit b.history) (sym one.blocked.book) (omega (arith, count, one.few), middle.few f) }
+    record { few = λ f. subst (λ (b : ProofLog). HasFewLemmas limit b.history) (sym one.blocked.proof) (omega (arith, count, one.few), middle.few f) }
 
 -- ---- the known candidate
 
@@ -386,9 +386,9 @@ spent_search e a known k limit start s s2 found b u keeps r under =
       steps = steps_now e a known start s s2 found r.lemmas b u r.searched;
       ended = (r.stopped, under, spent_is a limit r.lemmas u.logged.lines r.all r.open_yet);
       bound = λ _ run unit.
-          subst (λ (n : ℕ). limit < 2 ^ (n - length run)) u.logged.guards
+          subst (λ (n : ℕ). limit < 2 ^ (n - length run)) u.logged.activations
           (r.bound run
-          (record { distinct = unit.distinct; implied = runs_over (standing start.book) (standing s.book) a [] run u.logged.stand unit.implied }));
+          (record { distinct = unit.distinct; implied = runs_over (standing start.proof) (standing s.proof) a [] run u.logged.stand unit.implied }));
     }
 
 pub full_search : (e : Encoded) (a : Clause) (known : Option Cand) (k limit : ℕ) (start s : SolverState) (found : List Cand) →
@@ -414,30 +414,30 @@ full_search e a known k limit start s found u keeps with_known some n = by u.sta
 
 -- what has been logged since the step began
 pub under_way_extends : (e : Encoded) (a : Clause) (known : Option Cand) (start s : SolverState) (found : List Cand) →
-    IsUnderWay e a known start s found → Extends true start.book s.book a
+    IsUnderWay e a known start s found → Extends true start.proof s.proof a
 under_way_extends e a known start s found u =
     record { vars = u.logged.vars; clauses = u.logged.clauses; more = u.logged.lines; history = u.logged.history; steps = by u.stage }
   where
     by : ((s ≡ start) × (found ≡ [])) ⊎ IsAgain e a start s →
-        (s.book.problem.steps ≡ start.book.problem.steps) ⊎ ((true ≡ true) × (s.book.problem.steps ≡ start.book.problem.steps ++ a ∷ []))
-    by (inl first) = inl (ap (λ (s : SolverState). s.book.problem.steps) first.0)
+        (s.proof.problem.steps ≡ start.proof.problem.steps) ⊎ ((true ≡ true) × (s.proof.problem.steps ≡ start.proof.problem.steps ++ a ∷ []))
+    by (inl first) = inl (ap (λ (s : SolverState). s.proof.problem.steps) first.0)
     by (inr again) = inr (refl, again.steps)
 
 -- and with one turn more
-pub extends_on : (e : Encoded) (a : Clause) (known : Option Cand) (start s : SolverState) (new : Book) (found : List Cand) → start.stage ≡ Begun →
-    IsUnderWay e a known start s found → Extends (is_begun s.stage) s.book new a →
-    Extends true start.book new a
+pub extends_on : (e : Encoded) (a : Clause) (known : Option Cand) (start s : SolverState) (new : ProofLog) (found : List Cand) → start.stage ≡ Begun →
+    IsUnderWay e a known start s found → Extends (is_begun s.stage) s.proof new a →
+    Extends true start.proof new a
 extends_on e a known start s new found b u x = by u.stage
   where
-    by : ((s ≡ start) × (found ≡ [])) ⊎ IsAgain e a start s → Extends true start.book new a
+    by : ((s ≡ start) × (found ≡ [])) ⊎ IsAgain e a start s → Extends true start.proof new a
     by (inl first) =
         let begun : is_begun s.stage ≡ true = ap is_begun (begun_stage s start b first.0) in
-        let p = ap (λ (s : SolverState). s.book.problem) first.0 in
-        let h = ap (λ (s : SolverState). s.book.history) first.0 in
-        extends_from start.book s.book new a true p [] h (subst (λ (t : Bool). Extends t s.book new a) begun x)
+        let p = ap (λ (s : SolverState). s.proof.problem) first.0 in
+        let h = ap (λ (s : SolverState). s.proof.history) first.0 in
+        extends_from start.proof s.proof new a true p [] h (subst (λ (t : Bool). Extends t s.proof new a) begun x)
     by (inr again) =
         let late : is_begun s.stage ≡ false = ap is_begun again.stage in
-        extends_then true start.book s.book new a a (under_way_extends e a known start s found u) (subst (λ (t : Bool). Extends t s.book new a) late x)
+        extends_then true start.proof s.proof new a a (under_way_extends e a known start s found u) (subst (λ (t : Bool). Extends t s.proof new a) late x)
 
 -- ---- the loop
 

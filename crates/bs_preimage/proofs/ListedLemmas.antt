@@ -16,7 +16,7 @@ use Rattle.bs_clause.specs.UnitRun.{IsUnitRun}
 use Rattle.bs_clause.specs.Range.{HasVariables}
 use Rattle.bs_log.specs.declared.line.Line.{Line}
 use Rattle.bs_log.specs.declared.line.Line.TheVariants.{Retire}
-use Rattle.bs_log.specs.History.{Problem, History, step_of, guard_of}
+use Rattle.bs_log.specs.History.{Problem, History, step_of, activation_of}
 use Rattle.bs_log.specs.Refusal.{history_of, assumptions_of, IsAccepted, NoneRefused}
 use Rattle.bs_log.specs.Refutation.{Suits, blocks_of}
 use Rattle.bs_log.specs.Shown.{Shown}
@@ -31,7 +31,7 @@ use Rattle.bs_scan.specs.Moments.{is_listed}
 use Rattle.bs_scan.specs.Signature.{agrees, some_input_leads, predecessors}
 use Rattle.bs_scan.proofs.MomentLemmas.{each_member}
 use Rattle.bs_scan.proofs.SignatureLemmas.{bits_same, bits_same_is, is_predecessor}
-use Rattle.bs_solve_recording.specs.Book.{Book, standing, next_id, without}
+use Rattle.bs_solve_recording.specs.ProofLog.{ProofLog, standing, next_id, without}
 use Rattle.bs_solve_recording.specs.Solver.{SolverState, finished, retired, leaving}
 use Rattle.bs_encode.specs.Encoded.{Encoded}
 use Rattle.bs_encode.specs.Depth.{encoding_by}
@@ -48,16 +48,16 @@ use Rattle.bs_report_good.proofs.SortedLemmas.{asc_of_pairs, asc_filter, asc_all
 use Rattle.bs_report_good.proofs.ValidLemmas.{both}
 use Rattle.bs_report_good.proofs.GoodLemmas.{listed_member, filter_member, passing, all_bits_length}
 use Rattle.bs_preimage.specs.declared.listing.Listing.{Listing}
-use Rattle.bs_preimage.specs.Preimage.{next_guard}
+use Rattle.bs_preimage.specs.Preimage.{next_activation}
 use Rattle.bs_preimage.specs.Rest.{IsAbout, IsAtRest, AreWholeSteps}
 use Rattle.bs_solve.specs.Budget.{HasFewLemmas}
 use Rattle.bs_preimage.specs.Listed.{IsRightCand}
-use Rattle.bs_preimage.specs.Turn.{IsReadable, IsShownIn, IsOneOf, guard_in}
+use Rattle.bs_preimage.specs.Turn.{IsReadable, IsShownIn, IsOneOf, activation_in}
 use Rattle.bs_preimage.specs.Finding.{EndedBy}
 use Rattle.bs_preimage.specs.Order.{IsInOrder}
 use Rattle.bs_preimage.specs.Step.{HasSought, HasMadeStep, assumptions_at, ending_of}
 use Rattle.bs_solve_analysis.proofs.Clauses.{contains_first}
-use Rattle.bs_solve_recording.proofs.CallerLemmas.{bound_is, axioms_stand_still, guards_stay_retired}
+use Rattle.bs_solve_recording.proofs.CallerLemmas.{bound_is, axioms_stand_still, activations_stay_retired}
 use Rattle.bs_preimage.proofs.OrderLemmas.{in_order_ascend}
 use Rattle.bs_preimage.proofs.StepLinesLemmas.{is_in_step, finish_lines, in_step, step_kept, step_lines_are, whole_after, get_last, slice_get_last}
 use Rattle.bs_preimage.proofs.StepLinesLemmas.{blocks_are_due, right_blocks, one_finish, finish_is, end_is}
@@ -79,7 +79,7 @@ pub record Sought : Type 0 where
   pub found : List Cand
   pub cands : List Cand
   pub end : ListEnd
-  pub about : IsAbout c choice e old.book
+  pub about : IsAbout c choice e old.proof
   pub rest : IsAtRest old
   pub state : length present ≡ length c.flops
   pub signature : length stored ≡ length choice.items
@@ -89,17 +89,17 @@ pub record Sought : Type 0 where
   pub known_right : IfSome known (IsRightCand c choice present stored older)
   pub sought : HasSought e old new present stored older known k b found end
   pub order : IsInOrder found cands
-  pub accepted : IsAccepted new.book.problem (reverse new.book.history)
+  pub accepted : IsAccepted new.proof.problem (reverse new.proof.history)
   pub shown : PredecessorsAreShown c choice e
   pub solutions : SolutionsArePredecessors c choice e
 
 -- ---- the problem and the lines
 
-pub finished_problem : (b : Book) (end : Option ℕ) → (finished b end).problem ≡ b.problem
+pub finished_problem : (b : ProofLog) (end : Option ℕ) → (finished b end).problem ≡ b.problem
 finished_problem b None = refl
 finished_problem b (Some id) = refl
 
-pub finished_history : (b : Book) (end : Option ℕ) → (finished b end).history ≡ finish_lines end ++ b.history
+pub finished_history : (b : ProofLog) (end : Option ℕ) → (finished b end).history ≡ finish_lines end ++ b.history
 finished_history b None = refl
 finished_history b (Some id) = refl
 
@@ -107,15 +107,15 @@ abbrev asked : Sought → Present
 asked t = asking t.present t.stored t.older
 
 abbrev assumed_by : Sought → Clause
-assumed_by t = assumptions_at t.e t.old.book t.present t.stored t.older
+assumed_by t = assumptions_at t.e t.old.proof t.present t.stored t.older
 
 -- the lines of the step, the newest first, without its retire line
 abbrev lines_by : Sought → List Line
 lines_by t = finish_lines (ending_of t.end) ++ t.sought.search.logged.lines
 
--- the book with the line of the lemma that ends the step
-abbrev finished_by : Sought → Book
-finished_by t = finished t.sought.middle.book (ending_of t.end)
+-- the proof log with the line of the lemma that ends the step
+abbrev finished_by : Sought → ProofLog
+finished_by t = finished t.sought.middle.proof (ending_of t.end)
 
 -- the id of the retire line
 abbrev retired_by : Sought → ℕ
@@ -125,68 +125,68 @@ retired_by t = next_id (finished_by t)
 abbrev gone_by : Sought → List Line
 gone_by t = delete_lines (leaving (finished_by t))
 
-problem_is : (t : Sought) → t.new.book.problem ≡ t.sought.middle.book.problem
+problem_is : (t : Sought) → t.new.proof.problem ≡ t.sought.middle.proof.problem
 problem_is t =
-    ap (λ (b : Book). b.problem) t.sought.ended.book ∙
-    (without_problem (retired (finished_by t)) (leaving (finished_by t)) ∙ finished_problem t.sought.middle.book (ending_of t.end))
+    ap (λ (b : ProofLog). b.problem) t.sought.ended.proof ∙
+    (without_problem (retired (finished_by t)) (leaving (finished_by t)) ∙ finished_problem t.sought.middle.proof (ending_of t.end))
 
-vars_are : (t : Sought) → t.new.book.problem.vars ≡ t.old.book.problem.vars
+vars_are : (t : Sought) → t.new.proof.problem.vars ≡ t.old.proof.problem.vars
 vars_are t = ap (λ (p : Problem). p.vars) (problem_is t) ∙ t.sought.search.logged.vars
 
-clauses_are : (t : Sought) → t.new.book.problem.clauses ≡ t.old.book.problem.clauses
+clauses_are : (t : Sought) → t.new.proof.problem.clauses ≡ t.old.proof.problem.clauses
 clauses_are t = ap (λ (p : Problem). p.clauses) (problem_is t) ∙ t.sought.search.logged.clauses
 
-steps_are : (t : Sought) → t.new.book.problem.steps ≡ t.old.book.problem.steps ++ assumed_by t ∷ []
+steps_are : (t : Sought) → t.new.proof.problem.steps ≡ t.old.proof.problem.steps ++ assumed_by t ∷ []
 steps_are t = ap (λ (p : Problem). p.steps) (problem_is t) ∙ t.sought.search.steps
 
-history_is : (t : Sought) → t.new.book.history ≡ gone_by t ++ Retire (retired_by t) ∷ (lines_by t ++ t.old.book.history)
+history_is : (t : Sought) → t.new.proof.history ≡ gone_by t ++ Retire (retired_by t) ∷ (lines_by t ++ t.old.proof.history)
 history_is t =
-    ap (λ (b : Book). b.history) t.sought.ended.book
+    ap (λ (b : ProofLog). b.history) t.sought.ended.proof
     ∙ (without_history (retired (finished_by t)) (leaving (finished_by t))
     ∙ ap (λ (h : History). gone_by t ++ Retire (retired_by t) ∷ h)
-    (finished_history t.sought.middle.book (ending_of t.end)
+    (finished_history t.sought.middle.proof (ending_of t.end)
     ∙ (ap (λ (h : History). finish_lines (ending_of t.end) ++ h) t.sought.search.logged.history
-    ∙ sym (append_assoc (finish_lines (ending_of t.end)) t.sought.search.logged.lines t.old.book.history))))
+    ∙ sym (append_assoc (finish_lines (ending_of t.end)) t.sought.search.logged.lines t.old.proof.history))))
 
 inside : (t : Sought) → Each (λ line. is_in_step line ≡ true) (lines_by t)
 inside t = in_step (ending_of t.end) t.sought.search.logged.lines t.sought.search.logged.inner
 
-whole_before : (t : Sought) → AreWholeSteps (reverse (Retire (retired_by t) ∷ (lines_by t ++ t.old.book.history)))
-whole_before t = whole_after (lines_by t) t.old.book.history (retired_by t) t.rest.whole (inside t)
+whole_before : (t : Sought) → AreWholeSteps (reverse (Retire (retired_by t) ∷ (lines_by t ++ t.old.proof.history)))
+whole_before t = whole_after (lines_by t) t.old.proof.history (retired_by t) t.rest.whole (inside t)
 
-step_lines : (t : Sought) → steps_of (reverse t.new.book.history) ≡ steps_of (reverse t.old.book.history) ++ reverse (lines_by t) ∷ []
+step_lines : (t : Sought) → steps_of (reverse t.new.proof.history) ≡ steps_of (reverse t.old.proof.history) ++ reverse (lines_by t) ∷ []
 step_lines t =
     ap (λ (h : History). steps_of (reverse h)) (history_is t)
-    ∙ (lines_deleted (leaving (finished_by t)) (Retire (retired_by t) ∷ (lines_by t ++ t.old.book.history)) (whole_before t)
-    ∙ step_lines_are (lines_by t) t.old.book.history (retired_by t) t.rest.whole (inside t))
+    ∙ (lines_deleted (leaving (finished_by t)) (Retire (retired_by t) ∷ (lines_by t ++ t.old.proof.history)) (whole_before t)
+    ∙ step_lines_are (lines_by t) t.old.proof.history (retired_by t) t.rest.whole (inside t))
 
-one_longer : (t : Sought) → length t.new.book.problem.steps ≡ length t.old.book.problem.steps + 1
-one_longer t = ap length (steps_are t) ∙ length-append t.old.book.problem.steps (assumed_by t ∷ [])
+one_longer : (t : Sought) → length t.new.proof.problem.steps ≡ length t.old.proof.problem.steps + 1
+one_longer t = ap length (steps_are t) ∙ length-append t.old.proof.problem.steps (assumed_by t ∷ [])
 
-number_now : (t : Sought) → step_of t.new.book.history ≡ length t.new.book.problem.steps + 1
+number_now : (t : Sought) → step_of t.new.proof.history ≡ length t.new.proof.problem.steps + 1
 number_now t =
     ap step_of (history_is t)
-    ∙ (step_deleted (leaving (finished_by t)) (Retire (retired_by t) ∷ (lines_by t ++ t.old.book.history))
-    ∙ (ap (λ (n : ℕ). n + 1) (step_kept (lines_by t) t.old.book.history (inside t) ∙ t.rest.number) ∙ ap (λ (n : ℕ). n + 1) (sym (one_longer t))))
+    ∙ (step_deleted (leaving (finished_by t)) (Retire (retired_by t) ∷ (lines_by t ++ t.old.proof.history))
+    ∙ (ap (λ (n : ℕ). n + 1) (step_kept (lines_by t) t.old.proof.history (inside t) ∙ t.rest.number) ∙ ap (λ (n : ℕ). n + 1) (sym (one_longer t))))
 
-right_by : (t : Sought) → NoneRefused t.new.book.problem t.new.book.history
-right_by t = subst (NoneRefused t.new.book.problem) (reverse-reverse t.new.book.history) t.accepted.lines
+right_by : (t : Sought) → NoneRefused t.new.proof.problem t.new.proof.history
+right_by t = subst (NoneRefused t.new.proof.problem) (reverse-reverse t.new.proof.history) t.accepted.lines
 
 rests : (t : Sought) → IsAtRest t.new
 rests t =
     record {
       well = t.sought.ended.well;
       idle = t.sought.ended.stage;
-      guards = omega (arith, t.sought.ended.vars, t.sought.search.logged.guards, t.rest.guards, vars_are t, one_longer t);
+      activations = omega (arith, t.sought.ended.vars, t.sought.search.logged.activations, t.rest.activations, vars_are t, one_longer t);
       number =
           number_now t;
       count =
           ap length (step_lines t)
-          ∙ (length-append (steps_of (reverse t.old.book.history)) (reverse (lines_by t) ∷ []) ∙ (ap (λ (n : ℕ). n + 1) t.rest.count ∙ sym (one_longer t)));
-      stand = λ c there. axioms_stand_still t.new.book.problem t.new.book.history c (right_by t) there;
-      retired = λ n low high. guards_stay_retired t.new.book.problem t.new.book.history n (right_by t) low (omega (arith, high, number_now t));
+          ∙ (length-append (steps_of (reverse t.old.proof.history)) (reverse (lines_by t) ∷ []) ∙ (ap (λ (n : ℕ). n + 1) t.rest.count ∙ sym (one_longer t)));
+      stand = λ c there. axioms_stand_still t.new.proof.problem t.new.proof.history c (right_by t) there;
+      retired = λ n low high. activations_stay_retired t.new.proof.problem t.new.proof.history n (right_by t) low (omega (arith, high, number_now t));
       whole = subst (λ (h : History). AreWholeSteps (reverse h)) (sym (history_is t))
-          (whole_deleted (leaving (finished_by t)) (Retire (retired_by t) ∷ (lines_by t ++ t.old.book.history)) (whole_before t));
+          (whole_deleted (leaving (finished_by t)) (Retire (retired_by t) ∷ (lines_by t ++ t.old.proof.history)) (whole_before t));
     }
 
 -- ---- the candidates
@@ -218,7 +218,7 @@ shows t cand h =
           (joins h.value t.e.link)) (sym h.state)
           (subst (λ (x : List Bool). IsPredecessor t.c t.choice (asked t) (bits_on h.value t.e.states) x (bits_on h.value t.e.older_states)
           (bits_on h.value t.e.older_inputs) (joins h.value t.e.link)) (sym h.input)
-          (t.solutions h.value (next_guard t.old.book.problem) (asked t) t.state (one_stored t.stored (option_to_list t.older)) (both_wide t)
+          (t.solutions h.value (next_activation t.old.proof.problem) (asked t) t.state (one_stored t.stored (option_to_list t.older)) (both_wide t)
           h.clauses h.holds));
       before = h.before;
     }
@@ -286,18 +286,18 @@ befores t =
 
 -- ---- the blocks
 
-guard_same : (t : Sought) → guard_in t.old.book ≡ next_guard t.old.book.problem
-guard_same t = ap (guard_of t.old.book.problem) t.rest.number
+activation_same : (t : Sought) → activation_in t.old.proof ≡ next_activation t.old.proof.problem
+activation_same t = ap (activation_of t.old.proof.problem) t.rest.number
 
-due_blocks : (t : Sought) → IsPermutation (blocks_due (next_guard t.old.book.problem) (block_for t.e) t.cands) (blocks_in (reverse (lines_by t)))
+due_blocks : (t : Sought) → IsPermutation (blocks_due (next_activation t.old.proof.problem) (block_for t.e) t.cands) (blocks_in (reverse (lines_by t)))
 due_blocks t =
-    blocks_are_due (next_guard t.old.book.problem) (block_for t.e) t.found t.cands (ending_of t.end) t.sought.search.logged.lines t.order.same
-    (t.sought.search.logged.blocks ∙ ap (λ (g : Literal). blocks_due g (block_for t.e) (reverse t.found)) (guard_same t))
+    blocks_are_due (next_activation t.old.proof.problem) (block_for t.e) t.found t.cands (ending_of t.end) t.sought.search.logged.lines t.order.same
+    (t.sought.search.logged.blocks ∙ ap (λ (g : Literal). blocks_due g (block_for t.e) (reverse t.found)) (activation_same t))
 
 -- ---- a finished list is whole
 
-guard_now : (t : Sought) → guard_of t.new.book.problem (length t.old.book.problem.steps + 1) ≡ next_guard t.old.book.problem
-guard_now t = λ i. record { variable = vars_are t i + (length t.old.book.problem.steps + 1); positive = true }
+activation_now : (t : Sought) → activation_of t.new.proof.problem (length t.old.proof.problem.steps + 1) ≡ next_activation t.old.proof.problem
+activation_now t = λ i. record { variable = vars_are t i + (length t.old.proof.problem.steps + 1); positive = true }
 
 not_listed : (cands : List Cand) (s : List Bool) → is_listed (listed cands) s ≡ false → Each (λ cand. cand.state ≢ s) cands
 not_listed [] s e = tt
@@ -313,10 +313,10 @@ state_width : (t : Sought) (cand : Cand) → IsRightCand t.c t.choice t.present 
 state_width t cand h = (led_widths t.c cand.state cand.input t.present h.candidate.leads).0
 
 blocks_hold : (t : Sought) (v : ℕ → Bool) (s : List Bool) → is_listed (listed t.cands) s ≡ false →
-    ((u : List Bool) → length u ≡ length t.c.flops → u ≢ s → Satisfies v (negation (next_guard t.old.book.problem) ∷ block_for t.e u)) →
+    ((u : List Bool) → length u ≡ length t.c.flops → u ≢ s → Satisfies v (negation (next_activation t.old.proof.problem) ∷ block_for t.e u)) →
     Each (Satisfies v) (blocks_in (reverse (lines_by t)))
 blocks_hold t v s out f =
-    let g : Literal = next_guard t.old.book.problem in
+    let g : Literal = next_activation t.old.proof.problem in
     let apart : All (λ cand. cand.state ≢ s) t.cands = All-from_recursion (λ (cand : Cand). cand.state ≢ s) t.cands (not_listed t.cands s out) in
     let each : All (λ cand. Satisfies v (negation g ∷ block_for t.e cand.state)) t.cands = λ i d lt.
     f (get_or t.cands i d).state (state_width t (get_or t.cands i d) (all_right t i d lt)) (apart i d lt) in
@@ -330,25 +330,25 @@ named_is t id e =
     ap (λ (end : ListEnd). finishes_in (reverse (finish_lines (ending_of end) ++ t.sought.search.logged.lines))) e
     ∙ one_finish id t.sought.search.logged.lines t.sought.search.logged.inner
 
-lines_now : (t : Sought) → get_or (steps_of (reverse t.new.book.history)) (length t.old.book.problem.steps) [] ≡ reverse (lines_by t)
+lines_now : (t : Sought) → get_or (steps_of (reverse t.new.proof.history)) (length t.old.proof.problem.steps) [] ≡ reverse (lines_by t)
 lines_now t =
-    ap (λ (ss : List (List Line)). get_or ss (length t.old.book.problem.steps) []) (step_lines t)
-    ∙ get_last (steps_of (reverse t.old.book.history)) (reverse (lines_by t)) (length t.old.book.problem.steps) [] (sym t.rest.count)
+    ap (λ (ss : List (List Line)). get_or ss (length t.old.proof.problem.steps) []) (step_lines t)
+    ∙ get_last (steps_of (reverse t.old.proof.history)) (reverse (lines_by t)) (length t.old.proof.problem.steps) [] (sym t.rest.count)
 
 refuted : (t : Sought) (id : ℕ) → t.end ≡ Finished id → (s x : List Bool) → length s ≡ length t.c.flops → length x ≡ length t.c.inputs →
     agrees t.c t.choice (t.stored ∷ option_to_list t.older) s ≡ true → next t.c s x ≡ t.present → is_listed (listed t.cands) s ≡ false → ⊥
 refuted t id fin s x ls lx ag nx out =
-    let p : Problem = t.new.book.problem in
-    let i : ℕ = length t.old.book.problem.steps in
-    let log : List Line = reverse t.new.book.history in
-    let step : slice_get p.steps i ≡ Some (assumptions_for t.e (guard_of p (i + 1)) (asked t)) =
+    let p : Problem = t.new.proof.problem in
+    let i : ℕ = length t.old.proof.problem.steps in
+    let log : List Line = reverse t.new.proof.history in
+    let step : slice_get p.steps i ≡ Some (assumptions_for t.e (activation_of p (i + 1)) (asked t)) =
     ap (λ (cs : List Clause). slice_get cs i) (steps_are t)
-    ∙ (slice_get_last t.old.book.problem.steps (assumed_by t) i refl ∙ ap (λ (g : Literal). Some (assumptions_for t.e g (asked t))) (sym (guard_now t))) in
+    ∙ (slice_get_last t.old.proof.problem.steps (assumed_by t) i refl ∙ ap (λ (g : Literal). Some (assumptions_for t.e g (asked t))) (sym (activation_now t))) in
     let shown : Shown (record { problem = p; block = block_for t.e }) (length t.c.flops) (i + 1) s =
     t.shown p i (asked t) s x (vars_are t ∙ t.about.vars) (clauses_are t ∙ t.about.clauses) step ls lx ag nx in
     let v : ℕ → Bool = shown.value in
     let blocks : Each (Satisfies v) (blocks_in (reverse (lines_by t))) =
-    blocks_hold t v s out (λ u lu apart. subst (λ (g : Literal). Satisfies v (negation g ∷ block_for t.e u)) (guard_now t) (shown.blocks u lu apart)) in
+    blocks_hold t v s out (λ u lu apart. subst (λ (g : Literal). Satisfies v (negation g ∷ block_for t.e u)) (activation_now t) (shown.blocks u lu apart)) in
     let spot =
     finish_at (Satisfies v) id log [] i (i + 1) (omega arith) (ap (filter_map finish_of_line) (lines_now t) ∙ named_is t id fin)
     (subst (λ (ls : List Line). Each (Satisfies v) (filter_map block_of_line ls)) (sym (lines_now t)) blocks) tt in
@@ -356,8 +356,8 @@ refuted t id fin s x ls lx ag nx out =
       in_range = omega (arith, one_longer t);
       clauses = shown.clauses;
       blocks = All-from_recursion (Satisfies v) (blocks_of (reverse_aux spot.before []) (i + 1)) spot.blocks;
-      guard = shown.guard;
-      other_guards = shown.other_guards;
+      activation = shown.activation;
+      other_activations = shown.other_activations;
     } in
     finished_steps_are_refuted p log spot.before spot.after id v t.accepted spot.parts
     (subst (λ (n : ℕ). Suits p (history_of spot.before) n v) (sym {a = step_of (reverse_aux spot.before [])} spot.step) suits)
@@ -404,11 +404,11 @@ whole t id fin =
 bounded : (t : Sought) → t.end ≡ Conflicts → (run : List Literal) → HasVariables t.e.variables run → IsUnitRun t.e.clauses (assumed_by t) run →
     t.b < 2 ^ (t.e.variables - length run)
 bounded t ended run range unit =
-    let p : Problem = t.old.book.problem in
+    let p : Problem = t.old.proof.problem in
     subst (λ (n : ℕ). t.b < 2 ^ (n - length run)) t.about.vars
-    (bound_is p t.e.clauses (standing t.old.book) (assumed_by t) t.b (length p.steps) (t.old.vars + 1)
-    (λ c there. t.rest.stand c (subst (λ (cs : List Clause). Contains cs c) (sym t.about.clauses) there)) t.rest.retired (contains_first (next_guard p) _)
-    (omega (arith, t.rest.guards))
+    (bound_is p t.e.clauses (standing t.old.proof) (assumed_by t) t.b (length p.steps) (t.old.vars + 1)
+    (λ c there. t.rest.stand c (subst (λ (cs : List Clause). Contains cs c) (sym t.about.clauses) there)) t.rest.retired (contains_first (next_activation p) _)
+    (omega (arith, t.rest.activations))
     (t.sought.search.bound ended) run (subst (λ (n : ℕ). HasVariables n run) (sym t.about.vars) range) unit)
 
 -- ---- the known candidate
@@ -427,19 +427,19 @@ has_known t cand is ended =
 
 -- ---- the lemmas of the solves
 
-finished_few : (limit : ℕ) (b : Book) (end : Option ℕ) → HasFewLemmas limit b.history → HasFewLemmas limit (finished b end).history
+finished_few : (limit : ℕ) (b : ProofLog) (end : Option ℕ) → HasFewLemmas limit b.history → HasFewLemmas limit (finished b end).history
 finished_few limit b None few = few
 finished_few limit b (Some id) few = few
 
-without_few : (limit : ℕ) (b : Book) (ids : List ℕ) → HasFewLemmas limit b.history → HasFewLemmas limit (without b ids).history
+without_few : (limit : ℕ) (b : ProofLog) (ids : List ℕ) → HasFewLemmas limit b.history → HasFewLemmas limit (without b ids).history
 without_few limit b [] few = few
 without_few limit b (id ∷ ids) few = few
 
-few_after : (t : Sought) → HasFewLemmas t.b t.old.book.history → HasFewLemmas t.b t.new.book.history
+few_after : (t : Sought) → HasFewLemmas t.b t.old.proof.history → HasFewLemmas t.b t.new.proof.history
 few_after t few =
-    subst (λ (b : Book). HasFewLemmas t.b b.history) (sym t.sought.ended.book)
+    subst (λ (b : ProofLog). HasFewLemmas t.b b.history) (sym t.sought.ended.proof)
     (without_few t.b (retired (finished_by t)) (leaving (finished_by t))
-    (finished_few t.b t.sought.middle.book (ending_of t.end) (t.sought.search.limited.few few)))
+    (finished_few t.b t.sought.middle.proof (ending_of t.end) (t.sought.search.limited.few few)))
 
 -- ---- the step
 
@@ -457,9 +457,9 @@ made_step t listing e = subst (HasMadeStep t.c t.choice t.old t.new t.present t.
       vars = vars_are t;
       clauses = clauses_are t;
       more = gone_by t ++ Retire (retired_by t) ∷ lines_by t;
-      history = history_is t ∙ sym (append_assoc (gone_by t) (Retire (retired_by t) ∷ lines_by t) t.old.book.history);
+      history = history_is t ∙ sym (append_assoc (gone_by t) (Retire (retired_by t) ∷ lines_by t) t.old.proof.history);
     };
-    steps = steps_are t ∙ ap (λ (e : Encoded). t.old.book.problem.steps ++ assumptions_for e (next_guard t.old.book.problem) (asked t) ∷ []) t.about.encoding;
+    steps = steps_are t ∙ ap (λ (e : Encoded). t.old.proof.problem.steps ++ assumptions_for e (next_activation t.old.proof.problem) (asked t) ∷ []) t.about.encoding;
     lines = reverse (lines_by t);
     step_lines = step_lines t;
     ascend = in_order_ascend t.found t.cands t.order t.sought.search.cands.apart;
@@ -469,11 +469,11 @@ made_step t listing e = subst (HasMadeStep t.c t.choice t.old t.new t.present t.
         (length t.found) t.cands t.end
         (length_permutation t.found t.cands t.order.same) t.sought.search.ended (whole t);
     blocks =
-        ap (λ (e : Encoded). are_right_blocks (blocks_due (next_guard t.old.book.problem) (block_for e) t.cands) (blocks_in (reverse (lines_by t))))
+        ap (λ (e : Encoded). are_right_blocks (blocks_due (next_activation t.old.proof.problem) (block_for e) t.cands) (blocks_in (reverse (lines_by t))))
         (sym t.about.encoding)
-        ∙ right_blocks (blocks_due (next_guard t.old.book.problem) (block_for t.e) t.cands) (blocks_in (reverse (lines_by t))) (due_blocks t);
+        ∙ right_blocks (blocks_due (next_activation t.old.proof.problem) (block_for t.e) t.cands) (blocks_in (reverse (lines_by t))) (due_blocks t);
     finish =
-        ap (λ (e : Encoded). is_right_finish t.b (assumptions_for e (next_guard t.old.book.problem) (asked t)) (reverse (lines_by t)) t.end
+        ap (λ (e : Encoded). is_right_finish t.b (assumptions_for e (next_activation t.old.proof.problem) (asked t)) (reverse (lines_by t)) t.end
         (finishes_in (reverse (lines_by t)))) (sym t.about.encoding)
         ∙ finish_is t.k t.b (assumed_by t) t.sought.middle t.sought.search.logged.lines
         (length t.found) t.end t.sought.search.logged.inner t.sought.search.ended;
@@ -481,7 +481,7 @@ made_step t listing e = subst (HasMadeStep t.c t.choice t.old t.new t.present t.
     few = few_after t;
     bound = subst
         (λ (e : Encoded). t.end ≡ Conflicts → (run : List Literal) → HasVariables e.variables run →
-        IsUnitRun e.clauses (assumptions_for e (next_guard t.old.book.problem) (asked t)) run →
+        IsUnitRun e.clauses (assumptions_for e (next_activation t.old.proof.problem) (asked t)) run →
         t.b < 2 ^ (e.variables - length run)) t.about.encoding (bounded t);
   };
 })

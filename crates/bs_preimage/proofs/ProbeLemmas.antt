@@ -13,7 +13,7 @@ use Rattle.bs_clause.specs.Literal.{Literal, Clause, negation, literal_value, Sa
 use Rattle.bs_clause.specs.Range.{IsWithin, HasVariables}
 use Rattle.bs_log.specs.declared.line.Line.{Line}
 use Rattle.bs_log.specs.declared.line.Line.TheVariants.{Solve, Lemma, Block, Finish, Retire, Delete}
-use Rattle.bs_log.specs.History.{Problem, History, step_of, guard_of}
+use Rattle.bs_log.specs.History.{Problem, History, step_of, activation_of}
 use Rattle.bs_log.specs.Refusal.{has_distinct_variables, assumptions_of, IsAccepted, NoneRefused}
 use Rattle.bs_log.specs.Refutation.{Suits, blocks_of}
 use Rattle.bs_log.specs.Shown.{Shown}
@@ -28,7 +28,7 @@ use Rattle.bs_scan.specs.Signature.{agrees, some_input_leads, predecessors}
 use Rattle.bs_scan.proofs.SignatureLemmas.{bits_same, bits_same_is, is_predecessor}
 use Rattle.bs_solve_analysis.proofs.Clauses.{contains_first}
 use Rattle.bs_solve_recording.specs.declared.stage.Stage.TheVariants.{Begun, Blocked, Ended}
-use Rattle.bs_solve_recording.specs.Book.{Book, next_id}
+use Rattle.bs_solve_recording.specs.ProofLog.{ProofLog, next_id}
 use Rattle.bs_solve_recording.specs.Solver.{SolverState, HasEnded, finished, retired, leaving}
 use Rattle.bs_solve_recording.specs.Stages.{is_begun, is_solved}
 use Rattle.bs_solve_recording.proofs.CallerLemmas.{axioms_stand_still, axioms_stand}
@@ -43,7 +43,7 @@ use Rattle.bs_encode.proofs.RangeLemmas.{InRange, join, state_vars_ranged, signs
 use Rattle.bs_encode.proofs.DistinctLemmas.{left_all, right_all, weaken, append_apart, signed_all, above_numbers, above_items}
 use Rattle.bs_encode.proofs.LawLemmas.{states_in_place}
 use Rattle.bs_encode.proofs.LiteralLemmas.{AllTrue, signs_true, bits_shown}
-use Rattle.bs_encode.proofs.CopyLemmas.{length-bits_on, IsIn, raised_in}
+use Rattle.bs_encode.proofs.FrameLemmas.{length-bits_on, IsIn, raised_in}
 use Rattle.bs_encode.proofs.CycleLemmas.{is_transition}
 use Rattle.bs_report.specs.declared.report.Cand.{Cand}
 use Rattle.bs_report_good.specs.Valid.{is_right_before}
@@ -51,10 +51,10 @@ use Rattle.bs_report_good.proofs.ValidLemmas.{both}
 use Rattle.bs_report_good.proofs.GoodLemmas.{listed_member, filter_member, passing, all_bits_length}
 use Rattle.bs_preimage.specs.declared.turn.TurnEnd.{TurnEnd}
 use Rattle.bs_preimage.specs.declared.turn.TurnEnd.TheVariants.{Listed, Refuted, Spent}
-use Rattle.bs_preimage.specs.Preimage.{next_guard}
+use Rattle.bs_preimage.specs.Preimage.{next_activation}
 use Rattle.bs_preimage.specs.Listed.{IsRightCand}
 use Rattle.bs_preimage.specs.Rest.{IsAbout, made}
-use Rattle.bs_preimage.specs.Turn.{IsReadable, MayTurn, TurnsTo, IsShownIn, HasSearched, HasListedOne, HasRefutedAll, guard_in}
+use Rattle.bs_preimage.specs.Turn.{IsReadable, MayTurn, TurnsTo, IsShownIn, HasSearched, HasListedOne, HasRefutedAll, activation_in}
 use Rattle.bs_preimage.specs.Finding.{is_inner}
 use Rattle.bs_preimage.specs.Step.{begun}
 use Rattle.bs_preimage.specs.Probe.{IsProbed, MayProbe, probing_for, probing_at, IsPaused, last_of, probed_of, HasAnswered, HasProbed, IsReadyFor}
@@ -86,20 +86,20 @@ high_signature : (c : Circuit) (items : List (List ℕ)) (stored : List Bool) �
 high_signature c items stored =
     signed_all (λ v. c.nets + 1 ≤ v) (encoding_of c items).signatures stored (above_items (c.nets + 1) (first_item c) items (omega arith))
 
--- what is assumed besides the state, with one copy
-high_one : (c : Circuit) (items : List (List ℕ)) (guard : Literal) (present stored : List Bool) (older : Option (List Bool)) →
-    (encoding_of c items).variables < guard.variable → Each (IsHigh c) (assumptions_for (encoding_of c items) guard (asking present stored older))
-high_one c items guard present stored older above = (
+-- what is assumed besides the state, with one time frame
+high_one : (c : Circuit) (items : List (List ℕ)) (activation : Literal) (present stored : List Bool) (older : Option (List Bool)) →
+    (encoding_of c items).variables < activation.variable → Each (IsHigh c) (assumptions_for (encoding_of c items) activation (asking present stored older))
+high_one c items activation present stored older above = (
   omega (arith, above),
   join (IsHigh c) (signed (encoding_of c items).next present) (signed (encoding_of c items).signatures stored ++ []) (high_next c items present)
       (join (IsHigh c) (signed (encoding_of c items).signatures stored) [] (high_signature c items stored) tt),
 )
 
 -- the same with two, where an older signature is there
-high_two : (c : Circuit) (choice : Chosen) → IsTransition c choice.items (encoding_of c choice.items) → (guard : Literal)
-    (present stored older : List Bool) → (linked (reset_state c) (encoding_of c choice.items)).variables < guard.variable →
-    Each (IsHigh c) (assumptions_for (linked (reset_state c) (encoding_of c choice.items)) guard (asking present stored (Some older)))
-high_two c choice t guard present stored older above =
+high_two : (c : Circuit) (choice : Chosen) → IsTransition c choice.items (encoding_of c choice.items) → (activation : Literal)
+    (present stored older : List Bool) → (linked (reset_state c) (encoding_of c choice.items)).variables < activation.variable →
+    Each (IsHigh c) (assumptions_for (linked (reset_state c) (encoding_of c choice.items)) activation (asking present stored (Some older)))
+high_two c choice t activation present stored older above =
     let e : Encoded = encoding_of c choice.items in
     let n : ℕ = variables c choice.items in
     let E : Encoded = linked (reset_state c) e in
@@ -125,51 +125,51 @@ apart_from_state c xs ys high low dx dy =
 
 -- what is wanted of an encoding
 abbrev IsApart : Chosen → Literal → List Bool → List Bool → Option (List Bool) → List Bool → Encoded → Type 0
-IsApart choice guard present stored older state e =
-    e.variables < guard.variable → ((g : Literal) (q : Present) → e.variables < g.variable → has_distinct_variables (assumptions_for e g q) ≡ true) →
-    has_distinct_variables (probing_for e guard (asking present stored older) state) ≡ true
+IsApart choice activation present stored older state e =
+    e.variables < activation.variable → ((g : Literal) (q : Present) → e.variables < g.variable → has_distinct_variables (assumptions_for e g q) ≡ true) →
+    has_distinct_variables (probing_for e activation (asking present stored older) state) ≡ true
 
 apart_one : (c : Circuit) (choice : Chosen) (p : IsClosed c choice.items) (t : IsTransition c choice.items (encoding_of c choice.items))
-    (guard : Literal) (present stored : List Bool) (older : Option (List Bool)) (state : List Bool) →
-    IsApart choice guard present stored older state (encoding_of c choice.items)
-apart_one c choice p t guard present stored older state above distinct =
+    (activation : Literal) (present stored : List Bool) (older : Option (List Bool)) (state : List Bool) →
+    IsApart choice activation present stored older state (encoding_of c choice.items)
+apart_one c choice p t activation present stored older state above distinct =
     let e : Encoded = encoding_of c choice.items in
-    apart_from_state c (assumptions_for e guard (asking present stored older)) (signed e.states state)
-    (high_one c choice.items guard present stored older above) (low_states c choice.items p state) (distinct guard (asking present stored older) above)
+    apart_from_state c (assumptions_for e activation (asking present stored older)) (signed e.states state)
+    (high_one c choice.items activation present stored older above) (low_states c choice.items p state) (distinct activation (asking present stored older) above)
     (t.states_distinct state)
 
 apart_two : (c : Circuit) (choice : Chosen) (p : IsClosed c choice.items) (t : IsTransition c choice.items (encoding_of c choice.items))
-    (guard : Literal) (present stored older state : List Bool) →
-    IsApart choice guard present stored (Some older) state (linked (reset_state c) (encoding_of c choice.items))
-apart_two c choice p t guard present stored older state above distinct =
+    (activation : Literal) (present stored older state : List Bool) →
+    IsApart choice activation present stored (Some older) state (linked (reset_state c) (encoding_of c choice.items))
+apart_two c choice p t activation present stored older state above distinct =
     let e : Encoded = encoding_of c choice.items in
-    apart_from_state c (assumptions_for (linked (reset_state c) e) guard (asking present stored (Some older))) (signed e.states state)
-    (high_two c choice t guard present stored older above) (low_states c choice.items p state)
-    (distinct guard (asking present stored (Some older)) above) (t.states_distinct state)
+    apart_from_state c (assumptions_for (linked (reset_state c) e) activation (asking present stored (Some older))) (signed e.states state)
+    (high_two c choice t activation present stored older above) (low_states c choice.items p state)
+    (distinct activation (asking present stored (Some older)) above) (t.states_distinct state)
 
 apart : (c : Circuit) (choice : Chosen) → IsChecked c → IsClosed c choice.items → (older : Option (List Bool)) → MayProbe choice older →
-    (guard : Literal) (present stored state : List Bool) → IsApart choice guard present stored older state (encoding_by c choice)
-apart c choice checked p None may guard present stored state = by (depth_of choice == 2) refl
+    (activation : Literal) (present stored state : List Bool) → IsApart choice activation present stored older state (encoding_by c choice)
+apart c choice checked p None may activation present stored state = by (depth_of choice == 2) refl
   where
     by : (b : Bool) → (depth_of choice == 2) ≡ b →
-        IsApart choice guard present stored None state (cond b (linked (reset_state c) (encoding_of c choice.items)) (encoding_of c choice.items))
+        IsApart choice activation present stored None state (cond b (linked (reset_state c) (encoding_of c choice.items)) (encoding_of c choice.items))
     by true is = let two : depth_of choice ≡ 2 = eqb-true (depth_of choice) 2 is in absurd (omega (arith, two, may))
-    by false is = apart_one c choice p (is_transition c choice.items checked p) guard present stored None state
-apart c choice checked p (Some older) may guard present stored state = by (depth_of choice == 2) refl
+    by false is = apart_one c choice p (is_transition c choice.items checked p) activation present stored None state
+apart c choice checked p (Some older) may activation present stored state = by (depth_of choice == 2) refl
   where
     by : (b : Bool) → (depth_of choice == 2) ≡ b →
-        IsApart choice guard present stored (Some older) state (cond b (linked (reset_state c) (encoding_of c choice.items)) (encoding_of c choice.items))
-    by true is = apart_two c choice p (is_transition c choice.items checked p) guard present stored older state
+        IsApart choice activation present stored (Some older) state (cond b (linked (reset_state c) (encoding_of c choice.items)) (encoding_of c choice.items))
+    by true is = apart_two c choice p (is_transition c choice.items checked p) activation present stored older state
     by false is = absurd (false≢true (sym is ∙ eq-eqb (depth_of choice) 2 may))
 
-pub probing_distinct : (c : Circuit) (choice : Chosen) (e : Encoded) (b : Book) (present stored : List Bool) (older : Option (List Bool)) (state : List Bool) →
+pub probing_distinct : (c : Circuit) (choice : Chosen) (e : Encoded) (b : ProofLog) (present stored : List Bool) (older : Option (List Bool)) (state : List Bool) →
     IsChecked c → IsClosed c choice.items → MayProbe choice older → IsAbout c choice e b → IsTidy c choice (encoding_by c choice) →
     has_distinct_variables (probing_at e b present stored older state) ≡ true
 probing_distinct c choice e b present stored older state checked p may about tidy =
-    let above : (encoding_by c choice).variables < (next_guard b.problem).variable =
+    let above : (encoding_by c choice).variables < (next_activation b.problem).variable =
     omega (arith, about.vars, ap (λ (x : Encoded). x.variables) about.encoding) in
     ap (λ (x : Encoded). has_distinct_variables (probing_at x b present stored older state)) about.encoding
-    ∙ apart c choice checked p older may (next_guard b.problem) present stored state above tidy.assumptions_distinct
+    ∙ apart c choice checked p older may (next_activation b.problem) present stored state above tidy.assumptions_distinct
 
 -- ---- a search may begin
 
@@ -184,42 +184,42 @@ alone_by choice (Some older) may one = absurd (omega (arith, may, one))
 begun_is_not_blocked : Begun ≡ Blocked → ⊥
 begun_is_not_blocked e = true≢false (ap is_begun e)
 
-pub guard_is : (s : SolverState) → IsPaused s → guard_in s.book ≡ next_guard s.book.problem
-guard_is s rest = ap (guard_of s.book.problem) rest.number
+pub activation_is : (s : SolverState) → IsPaused s → activation_in s.proof ≡ next_activation s.proof.problem
+activation_is s rest = ap (activation_of s.proof.problem) rest.number
 
 may_start : (e : Encoded) (s : SolverState) (present stored : List Bool) (older : Option (List Bool)) (state : List Bool) → IsReadable e →
-    s.book.problem.vars ≡ e.variables → s.book.problem.clauses ≡ e.clauses → IsPaused s →
-    has_distinct_variables (probing_at e s.book present stored older state) ≡ true → MayTurn e (begun s) (probing_at e s.book present stored older state)
+    s.proof.problem.vars ≡ e.variables → s.proof.problem.clauses ≡ e.clauses → IsPaused s →
+    has_distinct_variables (probing_at e s.proof present stored older state) ≡ true → MayTurn e (begun s) (probing_at e s.proof present stored older state)
 may_start e s present stored older state readable vars clauses rest distinct =
-    let guard : Literal = next_guard s.book.problem in
+    let activation : Literal = next_activation s.proof.problem in
     let q : Present = asking present stored older in
-    let above : e.variables < guard.variable = omega (arith, vars) in
-    let last : guard.variable ≡ s.vars + 1 = omega (arith, rest.guards) in
-    let n : ℕ = guard.variable in
+    let above : e.variables < activation.variable = omega (arith, vars) in
+    let last : activation.variable ≡ s.vars + 1 = omega (arith, rest.activations) in
+    let n : ℕ = activation.variable in
     record {
       may = record { stage = λ _. inl refl; again = λ k. absurd (begun_is_not_blocked k) };
-      range = subst (λ (m : ℕ). HasVariables m (probing_at e s.book present stored older state)) last
-          (All-from_recursion (IsWithin n) (probing_at e s.book present stored older state)
-          (join (IsWithin n) (assumptions_for e guard q) (signed e.states state)
-          (recursion_from_All (IsWithin n) (assumptions_for e guard q) (readable.assumptions_range guard q above))
+      range = subst (λ (m : ℕ). HasVariables m (probing_at e s.proof present stored older state)) last
+          (All-from_recursion (IsWithin n) (probing_at e s.proof present stored older state)
+          (join (IsWithin n) (assumptions_for e activation q) (signed e.states state)
+          (recursion_from_All (IsWithin n) (assumptions_for e activation q) (readable.assumptions_range activation q above))
           (signed_all (InRange n) e.states state
           (weaken (IsWithin e.variables) (IsWithin n) (λ l w. (w.0, omega (arith, w.1, above))) e.states
           (recursion_from_All (IsWithin e.variables) e.states readable.states)))));
       distinct = distinct;
-      guard = subst (Contains (probing_at e s.book present stored older state)) (sym (guard_is s rest)) (contains_first guard _);
+      activation = subst (Contains (probing_at e s.proof present stored older state)) (sym (activation_is s rest)) (contains_first activation _);
       vars = vars;
-      guards = omega (arith, rest.guards, vars);
+      activations = omega (arith, rest.activations, vars);
       clauses = clauses;
       stand = rest.stand;
     }
 
-pub may_probe : (e : Encoded) (old s : SolverState) (present stored : List Bool) (older : Option (List Bool)) (state : List Bool) (guard : Literal) →
-    IsReadable e → old.book.problem.vars ≡ e.variables → old.book.problem.clauses ≡ e.clauses → IsPaused old →
-    has_distinct_variables (probing_at e old.book present stored older state) ≡ true → s ≡ begun old → guard ≡ guard_in old.book →
-    MayTurn e s (probing_for e guard (asking present stored older) state)
-may_probe e old s present stored older state guard readable vars clauses rest distinct new g =
-    subst (λ (g : Literal). MayTurn e s (probing_for e g (asking present stored older) state)) (sym (g ∙ guard_is old rest))
-    (subst (λ (s : SolverState). MayTurn e s (probing_at e old.book present stored older state)) (sym new)
+pub may_probe : (e : Encoded) (old s : SolverState) (present stored : List Bool) (older : Option (List Bool)) (state : List Bool) (activation : Literal) →
+    IsReadable e → old.proof.problem.vars ≡ e.variables → old.proof.problem.clauses ≡ e.clauses → IsPaused old →
+    has_distinct_variables (probing_at e old.proof present stored older state) ≡ true → s ≡ begun old → activation ≡ activation_in old.proof →
+    MayTurn e s (probing_for e activation (asking present stored older) state)
+may_probe e old s present stored older state activation readable vars clauses rest distinct new g =
+    subst (λ (g : Literal). MayTurn e s (probing_for e g (asking present stored older) state)) (sym (g ∙ activation_is old rest))
+    (subst (λ (s : SolverState). MayTurn e s (probing_at e old.proof present stored older state)) (sym new)
     (may_start e old present stored older state readable vars clauses rest distinct))
 
 -- a turn has had a solve, and where it refutes, its lemma ends the step
@@ -237,14 +237,14 @@ turned_end e a limit old new Spent h = tt
 
 -- a step that was begun, searched once and ended
 pub once_probed : (e : Encoded) (old s middle new : SolverState) (present stored : List Bool) (older : Option (List Bool)) (state : List Bool)
-    (guard : Literal) (limit : ℕ) (end : TurnEnd) → IsPaused old → s ≡ begun old → guard ≡ guard_in old.book →
-    TurnsTo e (probing_for e guard (asking present stored older) state) limit s middle end → HasEnded middle new (last_of end) →
-    HasProbed e old new (probing_at e old.book present stored older state) limit end
-once_probed e old s middle new present stored older state guard limit end rest begins g turn ended =
+    (activation : Literal) (limit : ℕ) (end : TurnEnd) → IsPaused old → s ≡ begun old → activation ≡ activation_in old.proof →
+    TurnsTo e (probing_for e activation (asking present stored older) state) limit s middle end → HasEnded middle new (last_of end) →
+    HasProbed e old new (probing_at e old.proof present stored older state) limit end
+once_probed e old s middle new present stored older state activation limit end rest begins g turn ended =
     record {
       middle = middle;
-      turn = subst (λ (g : Literal). TurnsTo e (probing_for e g (asking present stored older) state) limit (begun old) middle end) (g ∙ guard_is old rest)
-          (subst (λ (s : SolverState). TurnsTo e (probing_for e guard (asking present stored older) state) limit s middle end) begins turn);
+      turn = subst (λ (g : Literal). TurnsTo e (probing_for e g (asking present stored older) state) limit (begun old) middle end) (g ∙ activation_is old rest)
+          (subst (λ (s : SolverState). TurnsTo e (probing_for e activation (asking present stored older) state) limit s middle end) begins turn);
       ended = ended;
     }
 
@@ -253,36 +253,36 @@ once_probed e old s middle new present stored older state guard limit end rest b
 -- the lines that a turn logs in a step that has begun, the newest first
 record IsLined (a : Clause) (old middle : SolverState) : Type 0 where
   lines : List Line
-  history : middle.book.history ≡ lines ++ old.book.history
-  vars : middle.book.problem.vars ≡ old.book.problem.vars
-  clauses : middle.book.problem.clauses ≡ old.book.problem.clauses
-  steps : middle.book.problem.steps ≡ old.book.problem.steps ++ a ∷ []
-  guards : middle.vars ≡ old.vars + 1
+  history : middle.proof.history ≡ lines ++ old.proof.history
+  vars : middle.proof.problem.vars ≡ old.proof.problem.vars
+  clauses : middle.proof.problem.clauses ≡ old.proof.problem.clauses
+  steps : middle.proof.problem.steps ≡ old.proof.problem.steps ++ a ∷ []
+  activations : middle.vars ≡ old.vars + 1
   inner : Each (λ line. is_inner line ≡ true) lines
 
 searched_lines : (a : Clause) (old middle : SolverState) (lemmas : List Line) → HasSearched (begun old) middle a lemmas → IsLined a old middle
 searched_lines a old middle lemmas h =
     record {
       lines = lemmas ++ Solve ∷ [];
-      history = h.history ∙ sym (append_assoc lemmas (Solve ∷ []) old.book.history);
+      history = h.history ∙ sym (append_assoc lemmas (Solve ∷ []) old.proof.history);
       vars = h.vars;
       clauses = h.clauses;
       steps = h.steps;
-      guards = h.guards;
+      activations = h.activations;
       inner = join (λ (line : Line). is_inner line ≡ true) lemmas (Solve ∷ []) (lemmas_inner lemmas h.are_lemmas) (refl, tt);
     }
 
 lined : (e : Encoded) (a : Clause) (limit : ℕ) (old middle : SolverState) (end : TurnEnd) → TurnsTo e a limit (begun old) middle end → IsLined a old middle
 lined e a limit old middle (Listed cand) h =
     let first : IsLined a old h.middle = searched_lines a old h.middle h.lemmas h.searched in
-    let block : Line = Block h.id (negation (guard_of h.middle.book.problem (step_of h.middle.book.history)) ∷ block_for e cand.state) in
+    let block : Line = Block h.id (negation (activation_of h.middle.proof.problem (step_of h.middle.proof.history)) ∷ block_for e cand.state) in
     record {
       lines = block ∷ first.lines;
-      history = ap (λ (b : Book). b.history) h.blocked.book ∙ ap (λ (x : History). block ∷ x) first.history;
-      vars = ap (λ (b : Book). b.problem.vars) h.blocked.book ∙ first.vars;
-      clauses = ap (λ (b : Book). b.problem.clauses) h.blocked.book ∙ first.clauses;
-      steps = ap (λ (b : Book). b.problem.steps) h.blocked.book ∙ first.steps;
-      guards = h.blocked.vars ∙ first.guards;
+      history = ap (λ (b : ProofLog). b.history) h.blocked.proof ∙ ap (λ (x : History). block ∷ x) first.history;
+      vars = ap (λ (b : ProofLog). b.problem.vars) h.blocked.proof ∙ first.vars;
+      clauses = ap (λ (b : ProofLog). b.problem.clauses) h.blocked.proof ∙ first.clauses;
+      steps = ap (λ (b : ProofLog). b.problem.steps) h.blocked.proof ∙ first.steps;
+      activations = h.blocked.vars ∙ first.activations;
       inner = (refl, first.inner);
     }
 lined e a limit old middle (Refuted id) h = searched_lines a old middle h.lemmas h.searched
@@ -330,7 +330,7 @@ pub record Probing : Type 0 where
   pub state : List Bool
   pub b : ℕ
   pub end : TurnEnd
-  pub about : IsAbout c choice e old.book
+  pub about : IsAbout c choice e old.proof
   pub rest : IsPaused old
   pub present_wide : length present ≡ length c.flops
   pub stored_wide : length stored ≡ length choice.items
@@ -338,8 +338,8 @@ pub record Probing : Type 0 where
   pub state_wide : length state ≡ length c.flops
   pub may : MayProbe choice older
   pub kept : IsDepth (depth_of choice)
-  pub done : HasProbed e old new (probing_at e old.book present stored older state) b end
-  pub accepted : IsAccepted new.book.problem (reverse new.book.history)
+  pub done : HasProbed e old new (probing_at e old.proof present stored older state) b end
+  pub accepted : IsAccepted new.proof.problem (reverse new.proof.history)
   pub shown : PredecessorsAreShown c choice e
   pub solutions : SolutionsArePredecessors c choice e
   pub states_wide : length e.states ≡ length c.flops
@@ -348,62 +348,62 @@ abbrev asked : Probing → Present
 asked t = asking t.present t.stored t.older
 
 abbrev assumed_by : Probing → Clause
-assumed_by t = probing_at t.e t.old.book t.present t.stored t.older t.state
+assumed_by t = probing_at t.e t.old.proof t.present t.stored t.older t.state
 
 lines_by : (t : Probing) → IsLined (assumed_by t) t.old t.done.middle
 lines_by t = lined t.e (assumed_by t) t.b t.old t.done.middle t.end t.done.turn
 
-abbrev finished_by : Probing → Book
-finished_by t = finished t.done.middle.book (last_of t.end)
+abbrev finished_by : Probing → ProofLog
+finished_by t = finished t.done.middle.proof (last_of t.end)
 
-problem_is : (t : Probing) → t.new.book.problem ≡ t.done.middle.book.problem
+problem_is : (t : Probing) → t.new.proof.problem ≡ t.done.middle.proof.problem
 problem_is t =
-    ap (λ (b : Book). b.problem) t.done.ended.book
-    ∙ (without_problem (retired (finished_by t)) (leaving (finished_by t)) ∙ finished_problem t.done.middle.book (last_of t.end))
+    ap (λ (b : ProofLog). b.problem) t.done.ended.proof
+    ∙ (without_problem (retired (finished_by t)) (leaving (finished_by t)) ∙ finished_problem t.done.middle.proof (last_of t.end))
 
-vars_are : (t : Probing) → t.new.book.problem.vars ≡ t.old.book.problem.vars
+vars_are : (t : Probing) → t.new.proof.problem.vars ≡ t.old.proof.problem.vars
 vars_are t = ap (λ (p : Problem). p.vars) (problem_is t) ∙ (lines_by t).vars
 
-clauses_are : (t : Probing) → t.new.book.problem.clauses ≡ t.old.book.problem.clauses
+clauses_are : (t : Probing) → t.new.proof.problem.clauses ≡ t.old.proof.problem.clauses
 clauses_are t = ap (λ (p : Problem). p.clauses) (problem_is t) ∙ (lines_by t).clauses
 
-steps_are : (t : Probing) → t.new.book.problem.steps ≡ t.old.book.problem.steps ++ assumed_by t ∷ []
+steps_are : (t : Probing) → t.new.proof.problem.steps ≡ t.old.proof.problem.steps ++ assumed_by t ∷ []
 steps_are t = ap (λ (p : Problem). p.steps) (problem_is t) ∙ (lines_by t).steps
 
-one_longer : (t : Probing) → length t.new.book.problem.steps ≡ length t.old.book.problem.steps + 1
-one_longer t = ap length (steps_are t) ∙ length-append t.old.book.problem.steps (assumed_by t ∷ [])
+one_longer : (t : Probing) → length t.new.proof.problem.steps ≡ length t.old.proof.problem.steps + 1
+one_longer t = ap length (steps_are t) ∙ length-append t.old.proof.problem.steps (assumed_by t ∷ [])
 
 -- the lines up to the retire line, the newest first
 abbrev inside_by : Probing → History
-inside_by t = finish_lines (last_of t.end) ++ t.done.middle.book.history
+inside_by t = finish_lines (last_of t.end) ++ t.done.middle.proof.history
 
-history_is : (t : Probing) → t.new.book.history ≡ delete_lines (leaving (finished_by t)) ++ Retire (next_id (finished_by t)) ∷ inside_by t
+history_is : (t : Probing) → t.new.proof.history ≡ delete_lines (leaving (finished_by t)) ++ Retire (next_id (finished_by t)) ∷ inside_by t
 history_is t =
-    ap (λ (b : Book). b.history) t.done.ended.book
+    ap (λ (b : ProofLog). b.history) t.done.ended.proof
     ∙ (without_history (retired (finished_by t)) (leaving (finished_by t))
     ∙ ap (λ (h : History). delete_lines (leaving (finished_by t)) ++ Retire (next_id (finished_by t)) ∷ h)
-    (finished_history t.done.middle.book (last_of t.end)))
+    (finished_history t.done.middle.proof (last_of t.end)))
 
-middle_step : (t : Probing) → step_of t.done.middle.book.history ≡ length t.old.book.problem.steps + 1
+middle_step : (t : Probing) → step_of t.done.middle.proof.history ≡ length t.old.proof.problem.steps + 1
 middle_step t =
     let l = lines_by t in
-    ap step_of l.history ∙ (inner_step l.lines t.old.book.history l.inner ∙ t.rest.number)
+    ap step_of l.history ∙ (inner_step l.lines t.old.proof.history l.inner ∙ t.rest.number)
 
-inside_step : (t : Probing) → step_of (inside_by t) ≡ length t.old.book.problem.steps + 1
-inside_step t = finish_step (last_of t.end) t.done.middle.book.history ∙ middle_step t
+inside_step : (t : Probing) → step_of (inside_by t) ≡ length t.old.proof.problem.steps + 1
+inside_step t = finish_step (last_of t.end) t.done.middle.proof.history ∙ middle_step t
 
-step_is : (t : Probing) → step_of t.new.book.history ≡ step_of (inside_by t) + 1
+step_is : (t : Probing) → step_of t.new.proof.history ≡ step_of (inside_by t) + 1
 step_is t = ap step_of (history_is t) ∙ step_deleted (leaving (finished_by t)) (Retire (next_id (finished_by t)) ∷ inside_by t)
 
-number_now : (t : Probing) → step_of t.new.book.history ≡ length t.new.book.problem.steps + 1
+number_now : (t : Probing) → step_of t.new.proof.history ≡ length t.new.proof.problem.steps + 1
 number_now t = omega (arith, step_is t, inside_step t, one_longer t)
 
-right_by : (t : Probing) → NoneRefused t.new.book.problem t.new.book.history
-right_by t = subst (NoneRefused t.new.book.problem) (reverse-reverse t.new.book.history) t.accepted.lines
+right_by : (t : Probing) → NoneRefused t.new.proof.problem t.new.proof.history
+right_by t = subst (NoneRefused t.new.proof.problem) (reverse-reverse t.new.proof.history) t.accepted.lines
 
-clear_now : (t : Probing) → blocks_of t.new.book.history (step_of t.new.book.history) ≡ []
+clear_now : (t : Probing) → blocks_of t.new.proof.history (step_of t.new.proof.history) ≡ []
 clear_now t =
-    let n : ℕ = step_of t.new.book.history in
+    let n : ℕ = step_of t.new.proof.history in
     ap (λ (h : History). blocks_of h n) (history_is t)
     ∙ (ended_blocks (leaving (finished_by t)) (next_id (finished_by t)) (inside_by t) n ∙ late_blocks (inside_by t) n (omega (arith, step_is t)))
 
@@ -412,13 +412,13 @@ pauses t =
     record {
       well = t.done.ended.well;
       idle = t.done.ended.stage;
-      guards = omega (arith, t.done.ended.vars, (lines_by t).guards, t.rest.guards, vars_are t, one_longer t);
+      activations = omega (arith, t.done.ended.vars, (lines_by t).activations, t.rest.activations, vars_are t, one_longer t);
       number = number_now t;
-      stand = λ c there. axioms_stand_still t.new.book.problem t.new.book.history c (right_by t) there;
+      stand = λ c there. axioms_stand_still t.new.proof.problem t.new.proof.history c (right_by t) there;
       clear = clear_now t;
     }
 
-ready_again : (t : Probing) (n : ℕ) → n ≡ length t.old.book.problem.steps + 1 → IsReadyFor t.c t.choice t.e t.new n
+ready_again : (t : Probing) (n : ℕ) → n ≡ length t.old.proof.problem.steps + 1 → IsReadyFor t.c t.choice t.e t.new n
 ready_again t n is =
     record {
       about = record { width = t.about.width; encoding = t.about.encoding; vars = vars_are t ∙ t.about.vars; clauses = clauses_are t ∙ t.about.clauses };
@@ -428,8 +428,8 @@ ready_again t n is =
 
 -- ---- a state that is found
 
-guard_now : (t : Probing) → guard_of t.new.book.problem (length t.old.book.problem.steps + 1) ≡ next_guard t.old.book.problem
-guard_now t = λ i. record { variable = vars_are t i + (length t.old.book.problem.steps + 1); positive = true }
+activation_now : (t : Probing) → activation_of t.new.proof.problem (length t.old.proof.problem.steps + 1) ≡ next_activation t.old.proof.problem
+activation_now t = λ i. record { variable = vars_are t i + (length t.old.proof.problem.steps + 1); positive = true }
 
 both_wide : (t : Probing) → All (λ u. length u ≡ length t.choice.items) (t.stored ∷ option_to_list t.older)
 both_wide t =
@@ -440,7 +440,7 @@ right_cand : (t : Probing) (cand : Cand) → IsShownIn t.e (assumed_by t) cand �
     IsRightCand t.c t.choice t.present t.stored t.older cand × (cand.state ≡ t.state)
 right_cand t cand h =
     let v : ℕ → Bool = h.value in
-    let g : Literal = next_guard t.old.book.problem in
+    let g : Literal = next_activation t.old.proof.problem in
     let plain : Clause = assumptions_for t.e g (asked t) in
     let own : Clause = signed t.e.states t.state in
     let all : AllTrue v (plain ++ own) = recursion_from_All (λ l. literal_value v l ≡ true) (plain ++ own) h.holds in
@@ -488,32 +488,32 @@ shows_state t p n sh = by (bits_eq (bits_on sh.value t.e.states) t.state) refl
     by true is = bits_same_is (bits_on sh.value t.e.states) t.state is
     by false is =
         let u : List Bool = bits_on sh.value t.e.states in
-        absurd (shown_is_open sh.value t.e (guard_of p n) u u (ap (λ (b : Bool). beq b true) sh.guard) refl
+        absurd (shown_is_open sh.value t.e (activation_of p n) u u (ap (λ (b : Bool). beq b true) sh.activation) refl
         (sh.blocks u (length-bits_on sh.value t.e.states ∙ t.states_wide) (differs is)) refl)
 
 refuted : (t : Probing) (id : ℕ) → t.end ≡ Refuted id → (x : List Bool) → length x ≡ length t.c.inputs →
     agrees t.c t.choice (t.stored ∷ option_to_list t.older) t.state ≡ true → next t.c t.state x ≡ t.present → ⊥
 refuted t id fin x lx ag nx =
-    let p : Problem = t.new.book.problem in
-    let i : ℕ = length t.old.book.problem.steps in
+    let p : Problem = t.new.proof.problem in
+    let i : ℕ = length t.old.proof.problem.steps in
     let n : ℕ = i + 1 in
-    let plain : Clause = assumptions_for t.e (guard_of p n) (asked t) in
+    let plain : Clause = assumptions_for t.e (activation_of p n) (asked t) in
     let own : Clause = signed t.e.states t.state in
-    let one : Problem = record { vars = p.vars; clauses = p.clauses; steps = t.old.book.problem.steps ++ plain ∷ [] } in
+    let one : Problem = record { vars = p.vars; clauses = p.clauses; steps = t.old.proof.problem.steps ++ plain ∷ [] } in
     let sh : Shown (record { problem = one; block = block_for t.e }) (length t.c.flops) n t.state =
     t.shown one i (asked t) t.state x (vars_are t ∙ t.about.vars) (clauses_are t ∙ t.about.clauses)
-    (slice_get_last t.old.book.problem.steps plain i refl) t.state_wide lx ag nx in
+    (slice_get_last t.old.proof.problem.steps plain i refl) t.state_wide lx ag nx in
     let v : ℕ → Bool = sh.value in
     let T : Literal → Type 0 = λ l. literal_value v l ≡ true in
-    let h : History = t.done.middle.book.history in
+    let h : History = t.done.middle.proof.history in
     let place : n - 1 ≡ i = omega arith in
     let plain_is : assumptions_of one n ≡ plain =
-    ap (λ (j : ℕ). unwrap_or (slice_get one.steps j) []) place ∙ ap (λ (o : Option Clause). unwrap_or o []) (slice_get_last t.old.book.problem.steps plain i refl) in
+    ap (λ (j : ℕ). unwrap_or (slice_get one.steps j) []) place ∙ ap (λ (o : Option Clause). unwrap_or o []) (slice_get_last t.old.proof.problem.steps plain i refl) in
     let assumed_is : assumptions_of p n ≡ plain ++ own =
     ap (λ (j : ℕ). unwrap_or (slice_get p.steps j) []) place
     ∙ (ap (λ (cs : List Clause). unwrap_or (slice_get cs i) []) (steps_are t)
-    ∙ (ap (λ (o : Option Clause). unwrap_or o []) (slice_get_last t.old.book.problem.steps (assumed_by t) i refl)
-    ∙ ap (λ (g : Literal). probing_for t.e g (asked t) t.state) (sym (guard_now t)))) in
+    ∙ (ap (λ (o : Option Clause). unwrap_or o []) (slice_get_last t.old.proof.problem.steps (assumed_by t) i refl)
+    ∙ ap (λ (g : Literal). probing_for t.e g (asked t) t.state) (sym (activation_now t)))) in
     let plain_true : AllTrue v plain = recursion_from_All T plain (subst (λ (c : Clause). All T c) plain_is sh.assumptions) in
     let own_true : AllTrue v own = signs_true v t.e.states t.state (shows_state t one n sh) in
     let holds : All T (assumptions_of p n) =
@@ -522,24 +522,24 @@ refuted t id fin x lx ag nx =
     subst (TurnsTo t.e (assumed_by t) t.b (begun t.old) t.done.middle) fin t.done.turn in
     let clear : blocks_of h n ≡ [] =
     ap (λ (k : History). blocks_of k n) turn.searched.history
-    ∙ (lemmas_block_nothing turn.lemmas (Solve ∷ t.old.book.history) n turn.searched.are_lemmas
-    ∙ (ap (blocks_of t.old.book.history) (sym t.rest.number) ∙ t.rest.clear)) in
+    ∙ (lemmas_block_nothing turn.lemmas (Solve ∷ t.old.proof.history) n turn.searched.are_lemmas
+    ∙ (ap (blocks_of t.old.proof.history) (sym t.rest.number) ∙ t.rest.clear)) in
     let suits : Suits p h n v = record {
       in_range = omega (arith, one_longer t);
       clauses = sh.clauses;
       blocks = subst (λ (cs : List Clause). All (Satisfies v) cs) (sym clear) (All-from_recursion (Satisfies v) [] tt);
-      guard = sh.guard;
-      other_guards = λ other low high. sh.other_guards other low
-          (omega (arith, high, one_longer t, length-append t.old.book.problem.steps (plain ∷ [])));
+      activation = sh.activation;
+      other_activations = λ other low high. sh.other_activations other low
+          (omega (arith, high, one_longer t, length-append t.old.proof.problem.steps (plain ∷ [])));
     } in
     let number : n ≡ step_of h = sym (middle_step t) in
     let ended : inside_by t ≡ Finish id ∷ h = ap (λ (end : TurnEnd). finish_lines (last_of end) ++ h) fin in
     let gone : List ℕ = leaving (finished_by t) in
     let r : ℕ = next_id (finished_by t) in
-    let parts : reverse t.new.book.history ≡ reverse h ++ Finish id ∷ (Retire r ∷ delete_lines gone) =
+    let parts : reverse t.new.proof.history ≡ reverse h ++ Finish id ∷ (Retire r ∷ delete_lines gone) =
     ap reverse (history_is t) ∙ (ap (λ (k : History). reverse (delete_lines gone ++ Retire r ∷ k)) ended ∙ parts_of gone r id h) in
     let back : h ≡ reverse (reverse h) = sym (reverse-reverse h) in
-    finished_steps_are_refuted p (reverse t.new.book.history) (reverse h) (Retire r ∷ delete_lines gone) id v t.accepted parts
+    finished_steps_are_refuted p (reverse t.new.proof.history) (reverse h) (Retire r ∷ delete_lines gone) id v t.accepted parts
     (subst (λ (k : History). Suits p k (step_of k) v) back (subst (λ (m : ℕ). Suits p h m v) number suits))
     (subst (λ (k : History). All (λ l. IsTrue (literal_value v l)) (assumptions_of p (step_of k))) back
     (subst (λ (m : ℕ). All (λ l. IsTrue (literal_value v l)) (assumptions_of p m)) number holds))
@@ -573,7 +573,7 @@ answered t = by t.end refl
     by Spent is = tt
 
 pub has_answered : (t : Probing) → HasAnswered t.c t.choice t.e t.old t.new t.present t.stored t.older t.state (probed_of t.end)
-has_answered t = record { ready = ready_again t (length t.old.book.problem.steps + 1) refl; probed = answered t }
+has_answered t = record { ready = ready_again t (length t.old.proof.problem.steps + 1) refl; probed = answered t }
 
 -- ---- a new solver
 
@@ -584,9 +584,9 @@ made_ready c choice e s width encoded is = subst (λ (x : SolverState). IsReadyF
   rest = record {
     well = refl;
     idle = refl;
-    guards = omega arith;
+    activations = omega arith;
     number = refl;
-    stand = λ x there. subst (λ (cs : List Clause). Contains cs x) (sym (axioms_stand (made e).book.problem)) there;
+    stand = λ x there. subst (λ (cs : List Clause). Contains cs x) (sym (axioms_stand (made e).proof.problem)) there;
     clear = refl;
   };
   steps = refl;

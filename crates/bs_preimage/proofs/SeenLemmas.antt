@@ -2,7 +2,7 @@
 use Rattle.std.proofs.Common.{◌≡◌, ℕ, Bool, false, List, Option, refl, subst}
 use Rattle.bs_net.specs.Circuit.{Circuit}
 use Rattle.bs_scan.specs.Choice.{Chosen}
-use Rattle.bs_solve_recording.specs.Book.{Book}
+use Rattle.bs_solve_recording.specs.ProofLog.{ProofLog}
 use Rattle.bs_report.specs.declared.report.Cand.{Cand}
 use Rattle.bs_preimage.specs.Preimage.{PreimageState}
 use Rattle.bs_preimage.specs.Listed.{HasListed}
@@ -10,18 +10,18 @@ use Rattle.bs_preimage.specs.Step.{seen}
 use Rattle.bs_preimage.specs.declared.listing.Listing.{Listing}
 
 -- what a contract sees
-abbrev pub viewed : Circuit → Chosen → Book → ℕ → Bool → PreimageState
-viewed c choice book calls failed =
+abbrev pub viewed : Circuit → Chosen → ProofLog → ℕ → Bool → PreimageState
+viewed c choice proof calls failed =
     record {
       circuit = c;
       choice = choice;
-      problem = book.problem;
-      history = book.history;
+      problem = proof.problem;
+      history = proof.history;
       calls = calls;
       failed = failed;
     }
 
-listed_seen : (c : Circuit) (choice : Chosen) (before after : Book) (failed : Bool) (n m : ℕ) (present stored : List Bool)
+listed_seen : (c : Circuit) (choice : Chosen) (before after : ProofLog) (failed : Bool) (n m : ℕ) (present stored : List Bool)
     (older : Option (List Bool)) (known : Option Cand) (k b : ℕ) (listing : Listing) →
     failed ≡ false →
     HasListed (seen c choice before) (seen c choice after) present stored older known k b listing →
@@ -53,7 +53,7 @@ listed_seen c choice before after failed n m present stored older known k b list
     }
 
 -- a list, where its old state is so seen
-pub listed_again : (c : Circuit) (choice : Chosen) (before after : Book) (old : PreimageState) (failed : Bool) (n m : ℕ)
+pub listed_again : (c : Circuit) (choice : Chosen) (before after : ProofLog) (old : PreimageState) (failed : Bool) (n m : ℕ)
     (present stored : List Bool) (older : Option (List Bool)) (known : Option Cand)
     (k b : ℕ) (listing : Listing) →
     viewed c choice before n failed ≡ old → failed ≡ false → HasListed (seen c choice before) (seen c choice after) present stored older known k b listing →

@@ -16,7 +16,7 @@ use Rattle.bs_log.specs.declared.line.Line.{Line}
 use Rattle.bs_log.specs.declared.line.Line.TheVariants.{Solve, Lemma, Block, Finish, Retire, Delete}
 use Rattle.bs_log.specs.History.{History, step_of}
 use Rattle.bs_log.specs.Steps.{steps_of, onto_step, block_of_line, finish_of_line, last_solve, is_spent}
-use Rattle.bs_solve_recording.specs.Book.{Book, without}
+use Rattle.bs_solve_recording.specs.ProofLog.{ProofLog, without}
 use Rattle.bs_solve_recording.specs.Solver.{SolverState}
 use Rattle.bs_solve_analysis.proofs.Clauses.{contains_cases, contains_first, cons_contains, nothing_in}
 use Rattle.bs_report.specs.declared.report.Cand.{Cand}
@@ -108,11 +108,11 @@ abbrev pub delete_lines : List ℕ → List Line
 delete_lines [] = []
 delete_lines (id ∷ ids) = Delete (id ∷ ids) ∷ []
 
-pub without_history : (b : Book) (ids : List ℕ) → (without b ids).history ≡ delete_lines ids ++ b.history
+pub without_history : (b : ProofLog) (ids : List ℕ) → (without b ids).history ≡ delete_lines ids ++ b.history
 without_history b [] = refl
 without_history b (id ∷ ids) = refl
 
-pub without_problem : (b : Book) (ids : List ℕ) → (without b ids).problem ≡ b.problem
+pub without_problem : (b : ProofLog) (ids : List ℕ) → (without b ids).problem ≡ b.problem
 without_problem b [] = refl
 without_problem b (id ∷ ids) = refl
 

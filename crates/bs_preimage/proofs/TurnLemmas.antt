@@ -14,10 +14,10 @@ use Rattle.bs_log.specs.History.{Problem}
 use Rattle.bs_log.specs.Steps.{is_lemma_line}
 use Rattle.bs_solve_recording.specs.declared.answer.Answer.{Answer}
 use Rattle.bs_solve_recording.specs.declared.answer.Answer.TheVariants as answers
-use Rattle.bs_solve_recording.specs.Book.{Book, standing}
+use Rattle.bs_solve_recording.specs.ProofLog.{ProofLog, standing}
 use Rattle.bs_solve_recording.specs.Ending.{is_open_lemma}
 use Rattle.bs_solve_recording.specs.Search.{assumed}
-use Rattle.bs_solve_recording.specs.Stages.{is_begun, begun_book}
+use Rattle.bs_solve_recording.specs.Stages.{is_begun, begun_proof}
 use Rattle.bs_solve_recording.specs.Solver.{SolverState, HasSolved, HasBlocked, Follows}
 use Rattle.bs_solve_recording.specs.Values.{value_of}
 use Rattle.bs_solve_analysis.proofs.Clauses.{all_from}
@@ -31,64 +31,64 @@ use Rattle.bs_report_good.specs.Step.{listed}
 use Rattle.bs_solve.specs.Opening.{HasOpened}
 use Rattle.bs_preimage.specs.declared.turn.TurnEnd.{TurnEnd}
 use Rattle.bs_preimage.specs.declared.turn.TurnEnd.TheVariants.{Listed, Refuted, Spent}
-use Rattle.bs_preimage.specs.Turn.{Extends, HasSearched, MayTurn, TurnsTo, HasShown, HasShownCand, HasListedOne, block_in, guard_in, steps_after}
+use Rattle.bs_preimage.specs.Turn.{Extends, HasSearched, MayTurn, TurnsTo, HasShown, HasShownCand, HasListedOne, block_in, activation_in, steps_after}
 use Rattle.bs_preimage.specs.Turn.{HasBlockedState, HasBlockedKnown, HasTakenKnown, GoesTo}
 use Rattle.bs_solve_recording.proofs.CallerLemmas.{begun_history, begun_vars, begun_clauses, open_are_lemmas, solved_keeps}
 
--- ---- the book as a search begins
+-- ---- the proof log as a search begins
 
-begun_steps : (t : Bool) (b : Book) (a : Clause) → (begun_book t b a).problem.steps ≡ steps_after t b.problem.steps a
+begun_steps : (t : Bool) (b : ProofLog) (a : Clause) → (begun_proof t b a).problem.steps ≡ steps_after t b.problem.steps a
 begun_steps true b a = refl
 begun_steps false b a = refl
 
 -- ---- the lines of a search
 
 searched_by : (old new : SolverState) (a : Clause) (limit : ℕ) (answer : Answer) → HasSolved old new a limit answer → (lines : List Line) →
-    new.book.problem ≡ (begun_book (is_begun old.stage) old.book a).problem → new.book.history ≡ lines ++ (begun_book (is_begun old.stage) old.book a).history →
+    new.proof.problem ≡ (begun_proof (is_begun old.stage) old.proof a).problem → new.proof.history ≡ lines ++ (begun_proof (is_begun old.stage) old.proof a).history →
     Each (λ line. is_lemma_line line ≡ true) lines → HasSearched old new a lines
 searched_by old new a limit answer s lines p h all =
     let t : Bool = is_begun old.stage in
     record {
       was_well = s.was_well;
       well = s.well;
-      vars = ap (λ (p : Problem). p.vars) p ∙ begun_vars t old.book a;
-      clauses = ap (λ (p : Problem). p.clauses) p ∙ begun_clauses t old.book a;
-      steps = ap (λ (p : Problem). p.steps) p ∙ begun_steps t old.book a;
-      history = h ∙ ap (λ (h : List Line). lines ++ h) (begun_history t old.book a);
+      vars = ap (λ (p : Problem). p.vars) p ∙ begun_vars t old.proof a;
+      clauses = ap (λ (p : Problem). p.clauses) p ∙ begun_clauses t old.proof a;
+      steps = ap (λ (p : Problem). p.steps) p ∙ begun_steps t old.proof a;
+      history = h ∙ ap (λ (h : List Line). lines ++ h) (begun_history t old.proof a);
       are_lemmas = all;
       stand = solved_keeps old new a limit answer s;
       assumed_is = s.step;
-      guards = s.vars;
+      activations = s.vars;
     }
 
 -- ---- extensions
 
-pub follows_extends : (first : Bool) (old new : Book) (a : Clause) → Follows first old new a → Extends first old new a
+pub follows_extends : (first : Bool) (old new : ProofLog) (a : Clause) → Follows first old new a → Extends first old new a
 follows_extends first old new a f = record { vars = f.vars; clauses = f.clauses; more = f.lines; history = f.history; steps = f.steps }
 
-pub extends_same : (first : Bool) (old new : Book) (a : Clause) → new ≡ old → Extends first old new a
+pub extends_same : (first : Bool) (old new : ProofLog) (a : Clause) → new ≡ old → Extends first old new a
 extends_same first old new a e =
     record {
-      vars = ap (λ (b : Book). b.problem.vars) e;
-      clauses = ap (λ (b : Book). b.problem.clauses) e;
+      vars = ap (λ (b : ProofLog). b.problem.vars) e;
+      clauses = ap (λ (b : ProofLog). b.problem.clauses) e;
       more = [];
-      history = ap (λ (b : Book). b.history) e;
-      steps = inl (ap (λ (b : Book). b.problem.steps) e);
+      history = ap (λ (b : ProofLog). b.history) e;
+      steps = inl (ap (λ (b : ProofLog). b.problem.steps) e);
     }
 
-pub extends_line : (first : Bool) (old new : Book) (line : Line) (a : Clause) → new ≡ record { problem = old.problem; history = line ∷ old.history } →
+pub extends_line : (first : Bool) (old new : ProofLog) (line : Line) (a : Clause) → new ≡ record { problem = old.problem; history = line ∷ old.history } →
     Extends first old new a
 extends_line first old new line a e =
     record {
-      vars = ap (λ (b : Book). b.problem.vars) e;
-      clauses = ap (λ (b : Book). b.problem.clauses) e;
+      vars = ap (λ (b : ProofLog). b.problem.vars) e;
+      clauses = ap (λ (b : ProofLog). b.problem.clauses) e;
       more = line ∷ [];
-      history = ap (λ (b : Book). b.history) e;
-      steps = inl (ap (λ (b : Book). b.problem.steps) e);
+      history = ap (λ (b : ProofLog). b.history) e;
+      steps = inl (ap (λ (b : ProofLog). b.problem.steps) e);
     }
 
 -- the assumptions are added at most once
-pub extends_then : (first : Bool) (a b c : Book) (assumptions others : Clause) → Extends first a b assumptions → Extends false b c others →
+pub extends_then : (first : Bool) (a b c : ProofLog) (assumptions others : Clause) → Extends first a b assumptions → Extends false b c others →
     Extends first a c assumptions
 extends_then first a b c assumptions others f g =
     record {
@@ -109,7 +109,7 @@ extends_then first a b c assumptions others f g =
     by (inr more) kept = inr (more.0, kept ∙ more.1)
 
 -- nothing was added before
-pub extends_from : (a b c : Book) (assumptions : Clause) (first : Bool) → b.problem ≡ a.problem → (more : List Line) → b.history ≡ more ++ a.history →
+pub extends_from : (a b c : ProofLog) (assumptions : Clause) (first : Bool) → b.problem ≡ a.problem → (more : List Line) → b.history ≡ more ++ a.history →
     Extends first b c assumptions → Extends first a c assumptions
 extends_from a b c assumptions first p more h g =
     record {
@@ -145,12 +145,12 @@ negation_is_false value l e = by (value l.variable) l.positive e
 both_false : (a b : Bool) → a ≡ false → b ≡ false → (a || b) ≡ false
 both_false a b e f = ap (λ (z : Bool). z || b) e ∙ f
 
--- a state that is shown where the guard is true is not blocked
-pub shown_is_open : (value : ℕ → Bool) (e : Encoded) (guard : Literal) (s t : List Bool) → literal_value value guard ≡ true → s ≡ bits_on value e.states →
-    Satisfies value (negation guard ∷ block_for e t) → s ≢ t
-shown_is_open value e guard s t g shows meets same =
-    let is_false : list_any (literal_value value) (negation guard ∷ block_for e t) ≡ false =
-    both_false (literal_value value (negation guard)) (list_any (literal_value value) (block_for e t)) (negation_is_false value guard g)
+-- a state that is shown where the activation literal is true is not blocked
+pub shown_is_open : (value : ℕ → Bool) (e : Encoded) (activation : Literal) (s t : List Bool) → literal_value value activation ≡ true → s ≡ bits_on value e.states →
+    Satisfies value (negation activation ∷ block_for e t) → s ≢ t
+shown_is_open value e activation s t g shows meets same =
+    let is_false : list_any (literal_value value) (negation activation ∷ block_for e t) ≡ false =
+    both_false (literal_value value (negation activation)) (list_any (literal_value value) (block_for e t)) (negation_is_false value activation g)
     (ap (λ (t : List Bool). list_any (literal_value value) (block_for e t)) (sym same ∙ shows) ∙ block_is_false value e.states) in
     true≢false (sym meets ∙ is_false)
 
@@ -173,7 +173,7 @@ found_shows e a old middle new limit values cand may s shown =
       shown = record {
         value = v;
         clauses = all_from (Satisfies v) e.clauses
-            (λ c there. All-contains (Satisfies v) (standing middle.book) c found.solution.clauses_met
+            (λ c there. All-contains (Satisfies v) (standing middle.proof) c found.solution.clauses_met
             (searched.stand c (may.stand c (subst (λ (cs : List Clause). Contains cs c) (sym may.clauses) there))));
         holds = holds;
         state = shown.state;
@@ -181,8 +181,8 @@ found_shows e a old middle new limit values cand may s shown =
         before = shown.before;
       };
       apart = λ t there.
-          shown_is_open v e (guard_in old.book) cand.state t (All-contains (λ l. literal_value v l ≡ true) a (guard_in old.book) holds may.guard) shown.state
-          (All-contains (Satisfies v) (standing middle.book) (block_in e old.book t) found.solution.clauses_met (searched.stand (block_in e old.book t) there));
+          shown_is_open v e (activation_in old.proof) cand.state t (All-contains (λ l. literal_value v l ≡ true) a (activation_in old.proof) holds may.activation) shown.state
+          (All-contains (Satisfies v) (standing middle.proof) (block_in e old.proof t) found.solution.clauses_met (searched.stand (block_in e old.proof t) there));
     }
 
 pub found_turn : (e : Encoded) (a : Clause) (old middle new : SolverState) (limit : ℕ) (values : List (Option Bool)) (turn : TurnEnd) → MayTurn e old a →
@@ -199,8 +199,8 @@ refuted_turn e a old new limit id s =
     record {
       lemmas = lines;
       searched = searched_by old new a limit (answers.Refuted id) s lines
-          (ap (λ (b : Book). b.problem) r.last.logged.book ∙ r.before.problem)
-          (ap (λ (b : Book). b.history) r.last.logged.book ∙ ap (λ (h : List Line). Lemma id r.last.lemma r.last.logged.hints ∷ h) r.before.history)
+          (ap (λ (b : ProofLog). b.problem) r.last.logged.proof ∙ r.before.problem)
+          (ap (λ (b : ProofLog). b.history) r.last.logged.proof ∙ ap (λ (h : List Line). Lemma id r.last.lemma r.last.logged.hints ∷ h) r.before.history)
           (refl, open_are_lemmas _ r.before.lines r.before.open_yet);
       few = omega (arith, r.before.length_is, r.under);
       ended = s.stage;
@@ -216,13 +216,13 @@ spent_turn e a old new limit s =
       all = lemmas.length_is;
       bound = λ run unit.
           s.ends.bound run
-          (subst (λ (cs : List Clause). IsUnitRun cs (assumed (begun_book (is_begun old.stage) old.book a)) run) (sym s.stands)
-          (subst (λ (c : Clause). IsUnitRun (standing old.book) c run) (sym s.assumed_is) unit));
+          (subst (λ (cs : List Clause). IsUnitRun cs (assumed (begun_proof (is_begun old.stage) old.proof a)) run) (sym s.stands)
+          (subst (λ (c : Clause). IsUnitRun (standing old.proof) c run) (sym s.assumed_is) unit));
       open_yet = subst (λ (c : Clause). Each (λ line. is_open_lemma c line ≡ true) lemmas.lines) s.assumed_is lemmas.open_yet;
     }
 
-pub blocked_extends : (old new : SolverState) (lits : Clause) (id : ℕ) → HasBlocked old new lits id → Extends false old.book new.book []
-blocked_extends old new lits id b = extends_line false old.book new.book (Block id (negation (guard_in old.book) ∷ lits)) [] b.book
+pub blocked_extends : (old new : SolverState) (lits : Clause) (id : ℕ) → HasBlocked old new lits id → Extends false old.proof new.proof []
+blocked_extends old new lits id b = extends_line false old.proof new.proof (Block id (negation (activation_in old.proof) ∷ lits)) [] b.proof
 
 -- ---- a candidate that is known
 
@@ -233,14 +233,14 @@ opened_searches old new a h =
     record {
       was_well = h.was_well;
       well = h.well;
-      vars = ap (λ (b : Book). b.problem.vars) h.book ∙ begun_vars t old.book a;
-      clauses = ap (λ (b : Book). b.problem.clauses) h.book ∙ begun_clauses t old.book a;
-      steps = ap (λ (b : Book). b.problem.steps) h.book ∙ begun_steps t old.book a;
-      history = ap (λ (b : Book). b.history) h.book ∙ begun_history t old.book a;
+      vars = ap (λ (b : ProofLog). b.problem.vars) h.proof ∙ begun_vars t old.proof a;
+      clauses = ap (λ (b : ProofLog). b.problem.clauses) h.proof ∙ begun_clauses t old.proof a;
+      steps = ap (λ (b : ProofLog). b.problem.steps) h.proof ∙ begun_steps t old.proof a;
+      history = ap (λ (b : ProofLog). b.history) h.proof ∙ begun_history t old.proof a;
       are_lemmas = tt;
       stand = λ c there. subst (λ (cs : List Clause). Contains cs c) (sym h.stands) there;
       assumed_is = h.assumed_is;
-      guards = h.vars;
+      activations = h.vars;
     }
 
 pub known_blocked : (e : Encoded) (a : Clause) (state : List Bool) (old middle new : SolverState) → HasOpened old middle a →
@@ -248,8 +248,8 @@ pub known_blocked : (e : Encoded) (a : Clause) (state : List Bool) (old middle n
 known_blocked e a state old middle new opened b =
     record { middle = middle; searched = opened_searches old middle a opened; id = b.id; blocked = b.blocked }
 
-pub opened_vars : (e : Encoded) (a : Clause) (old new : SolverState) → MayTurn e old a → HasOpened old new a → new.book.problem.vars ≡ e.variables
-opened_vars e a old new may h = ap (λ (b : Book). b.problem.vars) h.book ∙ (begun_vars (is_begun old.stage) old.book a ∙ may.vars)
+pub opened_vars : (e : Encoded) (a : Clause) (old new : SolverState) → MayTurn e old a → HasOpened old new a → new.proof.problem.vars ≡ e.variables
+opened_vars e a old new may h = ap (λ (b : ProofLog). b.problem.vars) h.proof ∙ (begun_vars (is_begun old.stage) old.proof a ∙ may.vars)
 
 -- ---- the next turn
 

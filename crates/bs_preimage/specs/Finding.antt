@@ -17,11 +17,11 @@ use Rattle.bs_report.specs.declared.report.ListEnd.TheVariants.{Finished, Candid
 use Rattle.bs_report_good.specs.Step.{listed}
 use Rattle.bs_report_good.specs.Valid.{blocks_due}
 use Rattle.bs_solve_recording.specs.declared.stage.Stage.TheVariants.{Blocked, Ended, Stopped}
-use Rattle.bs_solve_recording.specs.Book.{standing}
+use Rattle.bs_solve_recording.specs.ProofLog.{standing}
 use Rattle.bs_solve_recording.specs.Search.{assumed}
 use Rattle.bs_solve_recording.specs.Solver.{SolverState}
 use Rattle.bs_solve.specs.Budget.{HasFewLemmas}
-use Rattle.bs_preimage.specs.Turn.{IsOneOf, Keeps, HasNext, HasRefutedAll, HasSpent, guard_in, block_in}
+use Rattle.bs_preimage.specs.Turn.{IsOneOf, Keeps, HasNext, HasRefutedAll, HasSpent, activation_in, block_in}
 
 -- a line inside a step
 abbrev pub is_inner : Line → Bool
@@ -32,14 +32,14 @@ is_inner line = false
 
 -- the lines of a step so far, the newest first, with a block for each candidate found
 pub record HasLogged (e : Encoded) (start s : SolverState) (found : List Cand) : Type 0 where
-  pub guards : s.vars ≡ start.vars
-  pub vars : s.book.problem.vars ≡ start.book.problem.vars
-  pub clauses : s.book.problem.clauses ≡ start.book.problem.clauses
+  pub activations : s.vars ≡ start.vars
+  pub vars : s.proof.problem.vars ≡ start.proof.problem.vars
+  pub clauses : s.proof.problem.clauses ≡ start.proof.problem.clauses
   pub lines : List Line
-  pub history : s.book.history ≡ lines ++ start.book.history
+  pub history : s.proof.history ≡ lines ++ start.proof.history
   pub inner : AllByRecursion (λ line. is_inner line ≡ true) lines
-  pub blocks : filter_map block_of_line lines ≡ blocks_due (guard_in start.book) (block_for e) (reverse found)
-  pub stand : Keeps start.book s.book
+  pub blocks : filter_map block_of_line lines ≡ blocks_due (activation_in start.proof) (block_for e) (reverse found)
+  pub stand : Keeps start.proof s.proof
 
 -- the candidates found are shown or known, and no two are the same
 pub record AreFound (e : Encoded) (assumptions : Clause) (known : Option Cand) (found : List Cand) : Type 0 where
@@ -49,14 +49,14 @@ pub record AreFound (e : Encoded) (assumptions : Clause) (known : Option Cand) (
 -- each state that was found is blocked, and the assumptions are those of the step
 pub record IsAgain (e : Encoded) (assumptions : Clause) (start s : SolverState) : Type 0 where
   pub stage : s.stage ≡ Blocked
-  pub steps : s.book.problem.steps ≡ start.book.problem.steps ++ assumptions ∷ []
-  pub assumed_is : assumed s.book ≡ assumptions
+  pub steps : s.proof.problem.steps ≡ start.proof.problem.steps ++ assumptions ∷ []
+  pub assumed_is : assumed s.proof ≡ assumptions
 
 -- the step has begun and nothing was found, or the last candidate was blocked
 pub record IsUnderWay (e : Encoded) (assumptions : Clause) (known : Option Cand) (start s : SolverState) (found : List Cand) : Type 0 where
   pub logged : HasLogged e start s found
   pub cands : AreFound e assumptions known found
-  pub blocked : All (λ cand. Contains (standing s.book) (block_in e start.book cand.state)) found
+  pub blocked : All (λ cand. Contains (standing s.proof) (block_in e start.proof cand.state)) found
   pub stage : ((s ≡ start) × (found ≡ [])) ⊎ IsAgain e assumptions start s
 
 -- the last solve of the lines, the newest first, logged the whole limit of lemmas, none of which ends the step
@@ -72,7 +72,7 @@ pub record HasKnown (known : Option Cand) (k : ℕ) (found : List Cand) : Type 0
 
 -- the solves logged no more lemmas than the limit, and fewer before a block, where those before did
 pub record KeepsLimit (limit : ℕ) (start s : SolverState) : Type 0 where
-  pub few : HasFewLemmas limit start.book.history → HasFewLemmas limit s.book.history
+  pub few : HasFewLemmas limit start.proof.history → HasFewLemmas limit s.proof.history
 
 pub record HasEndedSearch (e : Encoded) (assumptions : Clause) (known : Option Cand) (k limit : ℕ) (start s : SolverState) (found : List Cand)
     (end : ListEnd) : Type 0 where
@@ -80,9 +80,9 @@ pub record HasEndedSearch (e : Encoded) (assumptions : Clause) (known : Option C
   pub cands : AreFound e assumptions known found
   pub with_known : HasKnown known k found
   pub limited : KeepsLimit limit start s
-  pub steps : s.book.problem.steps ≡ start.book.problem.steps ++ assumptions ∷ []
+  pub steps : s.proof.problem.steps ≡ start.proof.problem.steps ++ assumptions ∷ []
   pub ended : EndedBy k limit assumptions s logged.lines (length found) end
-  pub bound : end ≡ Conflicts → (run : List Literal) → IsUnitRun (standing start.book) assumptions run → limit < 2 ^ (start.vars - length run)
+  pub bound : end ≡ Conflicts → (run : List Literal) → IsUnitRun (standing start.proof) assumptions run → limit < 2 ^ (start.vars - length run)
 
 -- the search so far: at most k candidates, a known one among k, and few lemmas in each solve
 pub record IsSearching (e : Encoded) (assumptions : Clause) (known : Option Cand) (k limit : ℕ) (start s : SolverState) (found : List Cand) :

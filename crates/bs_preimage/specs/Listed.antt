@@ -18,7 +18,7 @@ use Rattle.bs_report_good.specs.Step.{listed, Ascend, IsCandidate, IsRightEnd}
 use Rattle.bs_report_good.specs.Valid.{is_right_before, HaveBefores, blocks_due, are_right_blocks, blocks_in, is_right_finish, finishes_in}
 use Rattle.bs_preimage.specs.declared.listing.Listing.{Listing}
 use Rattle.bs_preimage.specs.Asking.{HasAsked}
-use Rattle.bs_preimage.specs.Preimage.{PreimageState, encoding_in, next_guard, assumptions_in, GoesOn}
+use Rattle.bs_preimage.specs.Preimage.{PreimageState, encoding_in, next_activation, assumptions_in, GoesOn}
 
 -- a predecessor with an input under which it leads to the present state, and with the right state before it
 pub record IsRightCand (c : Circuit) (choice : Chosen) (present stored : List Bool) (older : Option (List Bool)) (cand : Cand) : Type 0 where
@@ -41,7 +41,7 @@ pub record HasListed (old new : PreimageState) (present stored : List Bool) (old
   pub candidates : All (IsCandidate old.circuit old.choice present (stored ∷ option_to_list older)) listing.cands
   pub befores : HaveBefores old.circuit old.choice older listing.cands
   pub ends : IsRightEnd (predecessors old.circuit old.choice present (stored ∷ option_to_list older)) k b lines listing.cands listing.end
-  pub blocks : are_right_blocks (blocks_due (next_guard old.problem) (block_for (encoding_in old)) listing.cands) (blocks_in lines) ≡ true
+  pub blocks : are_right_blocks (blocks_due (next_activation old.problem) (block_for (encoding_in old)) listing.cands) (blocks_in lines) ≡ true
   pub finish : is_right_finish b (assumptions_in old present stored older) lines listing.end (finishes_in lines) ≡ true
   pub with_known : (cand : Cand) → known ≡ Some cand → listing.end ≡ Candidates → is_listed (listed listing.cands) cand.state ≡ true
   pub few : HasFewLemmas b old.history → HasFewLemmas b new.history

@@ -2,7 +2,7 @@
 use Rattle.std.specs.Prelude.{◌≡◌, ◌⊎◌, ℕ, ◌+◌, Bool, false, List, [], ◌∷◌, ◌++◌, length, Option}
 use Rattle.bs_clause.specs.Literal.{Literal, Clause}
 use Rattle.bs_log.specs.declared.line.Line.{Line}
-use Rattle.bs_log.specs.History.{Problem, History, guard_of}
+use Rattle.bs_log.specs.History.{Problem, History, activation_of}
 use Rattle.bs_net.specs.Circuit.{Circuit}
 use Rattle.bs_scan.specs.Choice.{Chosen}
 use Rattle.bs_encode.specs.Encoded.{Encoded}
@@ -34,13 +34,13 @@ fresh c choice =
       failed = false;
     }
 
--- the guard of the next step
-abbrev pub next_guard : Problem → Literal
-next_guard p = guard_of p (length p.steps + 1)
+-- the activation literal of the next step
+abbrev pub next_activation : Problem → Literal
+next_activation p = activation_of p (length p.steps + 1)
 
 -- what the next step assumes
 abbrev pub assumptions_in : PreimageState → List Bool → List Bool → Option (List Bool) → Clause
-assumptions_in s present stored older = assumptions_for (encoding_in s) (next_guard s.problem) (asking present stored older)
+assumptions_in s present stored older = assumptions_for (encoding_in s) (next_activation s.problem) (asking present stored older)
 
 -- further lines were logged, about the same clauses
 pub record GoesOn (old new : PreimageState) : Type 0 where

@@ -12,14 +12,14 @@ use Rattle.bs_scan.specs.Signature.{predecessors}
 use Rattle.bs_encode.specs.Encoded.{Encoded}
 use Rattle.bs_encode.specs.Assuming.{signed, assumptions_for, asking, AreWide}
 use Rattle.bs_solve_recording.specs.declared.stage.Stage.TheVariants.{Idle}
-use Rattle.bs_solve_recording.specs.Book.{Book}
+use Rattle.bs_solve_recording.specs.ProofLog.{ProofLog}
 use Rattle.bs_solve_recording.specs.Solver.{SolverState, HasEnded}
 use Rattle.bs_preimage.specs.declared.probe.Engine.{Engine}
 use Rattle.bs_preimage.specs.declared.probe.Probed.{Probed}
 use Rattle.bs_preimage.specs.declared.probe.Probed.TheVariants.{Predecessor, NoPredecessor, Unknown}
 use Rattle.bs_preimage.specs.declared.turn.TurnEnd.{TurnEnd}
 use Rattle.bs_preimage.specs.declared.turn.TurnEnd.TheVariants.{Listed, Refuted, Spent}
-use Rattle.bs_preimage.specs.Preimage.{next_guard}
+use Rattle.bs_preimage.specs.Preimage.{next_activation}
 use Rattle.bs_preimage.specs.Listed.{IsRightCand}
 use Rattle.bs_preimage.specs.Rest.{IsAbout, AxiomsStand}
 use Rattle.bs_preimage.specs.Turn.{TurnsTo}
@@ -43,20 +43,20 @@ MayProbe choice (Some older) = depth_of choice ≡ 2
 
 -- what a step assumes that is about one state
 abbrev pub probing_for : Encoded → Literal → Present → List Bool → Clause
-probing_for e guard q state = assumptions_for e guard q ++ signed e.states state
+probing_for e activation q state = assumptions_for e activation q ++ signed e.states state
 
 -- the same of the next step
-abbrev pub probing_at : Encoded → Book → List Bool → List Bool → Option (List Bool) → List Bool → Clause
-probing_at e b present stored older state = probing_for e (next_guard b.problem) (asking present stored older) state
+abbrev pub probing_at : Encoded → ProofLog → List Bool → List Bool → Option (List Bool) → List Bool → Clause
+probing_at e b present stored older state = probing_for e (next_activation b.problem) (asking present stored older) state
 
 -- no step is under way, and the next one has no block
 pub record IsPaused (s : SolverState) : Type 0 where
   pub well : s.failed ≡ false
   pub idle : s.stage ≡ Idle
-  pub guards : s.vars ≡ s.book.problem.vars + length s.book.problem.steps
-  pub number : step_of s.book.history ≡ length s.book.problem.steps + 1
-  pub stand : AxiomsStand s.book
-  pub clear : blocks_of s.book.history (step_of s.book.history) ≡ []
+  pub activations : s.vars ≡ s.proof.problem.vars + length s.proof.problem.steps
+  pub number : step_of s.proof.history ≡ length s.proof.problem.steps + 1
+  pub stand : AxiomsStand s.proof
+  pub clear : blocks_of s.proof.history (step_of s.proof.history) ≡ []
 
 -- the lemma that ends a step, if there is one
 abbrev pub last_of : TurnEnd → Option ℕ
@@ -77,9 +77,9 @@ pub record HasProbed (e : Encoded) (old new : SolverState) (assumptions : Clause
 
 -- the solver pauses, and has made so many steps about the circuit's encoding
 pub record IsReadyFor (c : Circuit) (choice : Chosen) (e : Encoded) (s : SolverState) (count : ℕ) : Type 0 where
-  pub about : IsAbout c choice e s.book
+  pub about : IsAbout c choice e s.proof
   pub rest : IsPaused s
-  pub steps : length s.book.problem.steps ≡ count
+  pub steps : length s.proof.problem.steps ≡ count
 
 -- the same of an engine
 abbrev pub IsReadyEngine : Circuit → Chosen → Engine → Type 0
@@ -102,5 +102,5 @@ pub record IsQuestion (c : Circuit) (choice : Chosen) (present stored : List Boo
 -- a question was answered in a step of its own
 pub record HasAnswered (c : Circuit) (choice : Chosen) (e : Encoded) (old new : SolverState) (present stored : List Bool)
     (older : Option (List Bool)) (state : List Bool) (answer : Probed) : Type 0 where
-  pub ready : IsReadyFor c choice e new (length old.book.problem.steps + 1)
+  pub ready : IsReadyFor c choice e new (length old.proof.problem.steps + 1)
   pub probed : IsProbed c choice present stored older state answer

@@ -9,10 +9,10 @@ use Rattle.bs_report.specs.declared.report.Cand.{Cand}
 use Rattle.bs_report.specs.declared.report.ListEnd.{ListEnd}
 use Rattle.bs_report.specs.declared.report.ListEnd.TheVariants.{Finished, Candidates, Conflicts}
 use Rattle.bs_solve_recording.specs.declared.stage.Stage.TheVariants.{Begun}
-use Rattle.bs_solve_recording.specs.Book.{Book}
+use Rattle.bs_solve_recording.specs.ProofLog.{ProofLog}
 use Rattle.bs_solve_recording.specs.Solver.{SolverState, HasEnded}
 use Rattle.bs_preimage.specs.declared.listing.Listing.{Listing}
-use Rattle.bs_preimage.specs.Preimage.{PreimageState, next_guard}
+use Rattle.bs_preimage.specs.Preimage.{PreimageState, next_activation}
 use Rattle.bs_preimage.specs.Listed.{HasListed}
 use Rattle.bs_preimage.specs.Rest.{IsAtRest}
 use Rattle.bs_preimage.specs.Finding.{HasEndedSearch}
@@ -25,27 +25,27 @@ ending_of Conflicts = None
 
 -- a step has begun
 abbrev pub begun : SolverState → SolverState
-begun s = record { book = s.book; vars = s.vars + 1; stage = Begun; failed = false }
+begun s = record { proof = s.proof; vars = s.vars + 1; stage = Begun; failed = false }
 
 -- what the next step assumes of a state and its stored signatures
-abbrev pub assumptions_at : Encoded → Book → List Bool → List Bool → Option (List Bool) → Clause
-assumptions_at e b present stored older = assumptions_for e (next_guard b.problem) (asking present stored older)
+abbrev pub assumptions_at : Encoded → ProofLog → List Bool → List Bool → Option (List Bool) → Clause
+assumptions_at e b present stored older = assumptions_for e (next_activation b.problem) (asking present stored older)
 
 -- a step was begun, searched and ended
 pub record HasSought (e : Encoded) (old new : SolverState) (present stored : List Bool) (older : Option (List Bool)) (known : Option Cand)
     (k b : ℕ) (found : List Cand) (end : ListEnd) : Type 0 where
   pub middle : SolverState
-  pub search : HasEndedSearch e (assumptions_at e old.book present stored older) known k b (begun old) middle found end
+  pub search : HasEndedSearch e (assumptions_at e old.proof present stored older) known k b (begun old) middle found end
   pub ended : HasEnded middle new (ending_of end)
 
--- a book of a circuit and its signature
-abbrev pub seen : Circuit → Chosen → Book → PreimageState
-seen c choice book =
+-- a proof log of a circuit and its signature
+abbrev pub seen : Circuit → Chosen → ProofLog → PreimageState
+seen c choice proof =
     record {
       circuit = c;
       choice = choice;
-      problem = book.problem;
-      history = book.history;
+      problem = proof.problem;
+      history = proof.history;
       calls = 0;
       failed = false;
     }
@@ -54,5 +54,5 @@ seen c choice book =
 pub record HasMadeStep (c : Circuit) (choice : Chosen) (old new : SolverState) (present stored : List Bool) (older : Option (List Bool))
     (known : Option Cand) (k b : ℕ) (listing : Listing) : Type 0 where
   pub rest : IsAtRest new
-  pub count : length new.book.problem.steps ≡ length old.book.problem.steps + 1
-  pub listed : HasListed (seen c choice old.book) (seen c choice new.book) present stored older known k b listing
+  pub count : length new.proof.problem.steps ≡ length old.proof.problem.steps + 1
+  pub listed : HasListed (seen c choice old.proof) (seen c choice new.proof) present stored older known k b listing

@@ -9,10 +9,10 @@ use Rattle.bs_clause.specs.UnitRun.{IsUnitRun}
 use Rattle.bs_clause.specs.Range.{HasVariables}
 use Rattle.bs_log.specs.declared.line.Line.{Line}
 use Rattle.bs_log.specs.declared.line.Line.TheVariants.{Solve}
-use Rattle.bs_log.specs.History.{step_of, guard_of}
+use Rattle.bs_log.specs.History.{step_of, activation_of}
 use Rattle.bs_log.specs.Refusal.{has_distinct_variables}
 use Rattle.bs_log.specs.Steps.{is_lemma_line}
-use Rattle.bs_encode.specs.declared.encoding.TheConstants.{MAX_GUARDS}
+use Rattle.bs_encode.specs.declared.encoding.TheConstants.{MAX_ACTIVATIONS}
 use Rattle.bs_encode.specs.Encoded.{Encoded}
 use Rattle.bs_encode.specs.Assuming.{block_for, assumptions_for}
 use Rattle.bs_encode.specs.Cycle.{bits_on}
@@ -23,7 +23,7 @@ use Rattle.bs_report.specs.declared.report.Before.{Before}
 use Rattle.bs_report.specs.declared.report.Cand.{Cand}
 use Rattle.bs_report_good.specs.Step.{listed}
 use Rattle.bs_solve_recording.specs.declared.stage.Stage.TheVariants.{Ended, Stopped}
-use Rattle.bs_solve_recording.specs.Book.{Book, standing}
+use Rattle.bs_solve_recording.specs.ProofLog.{ProofLog, standing}
 use Rattle.bs_solve_recording.specs.Search.{assumed}
 use Rattle.bs_solve_recording.specs.Ending.{is_open_lemma}
 use Rattle.bs_solve_recording.specs.Stages.{is_begun}
@@ -35,7 +35,7 @@ use Rattle.bs_preimage.specs.Rest.{AxiomsStand}
 
 -- ---- what an assignment shows
 
--- the state and the input of the cycle before that an assignment shows, where it joins the copies
+-- the state and the input of the cycle before that an assignment shows, where it joins the time frames
 abbrev pub before_on : Encoded → (ℕ → Bool) → Option Before
 before_on e value =
     if joins value e.link then Some (record { state = bits_on value e.older_states; input = bits_on value e.older_inputs }) else None
@@ -49,10 +49,10 @@ pub record IsShownIn (e : Encoded) (assumptions : Clause) (cand : Cand) : Type 0
   pub input : cand.input ≡ bits_on value e.inputs
   pub before : cand.before ≡ before_on e value
 
--- ---- the book
+-- ---- the proof log
 
 -- Further lines were logged, about the same clauses; and where a step has just begun, its assumptions may have been added.
-pub record Extends (first : Bool) (old new : Book) (assumptions : Clause) : Type 0 where
+pub record Extends (first : Bool) (old new : ProofLog) (assumptions : Clause) : Type 0 where
   pub vars : new.problem.vars ≡ old.problem.vars
   pub clauses : new.problem.clauses ≡ old.problem.clauses
   pub more : List Line
@@ -60,16 +60,16 @@ pub record Extends (first : Bool) (old new : Book) (assumptions : Clause) : Type
   pub steps : (new.problem.steps ≡ old.problem.steps) ⊎ ((first ≡ true) × (new.problem.steps ≡ old.problem.steps ++ assumptions ∷ []))
 
 -- what stood still stands
-abbrev pub Keeps : Book → Book → Type 0
+abbrev pub Keeps : ProofLog → ProofLog → Type 0
 Keeps old new = (c : Clause) → Contains (standing old) c → Contains (standing new) c
 
--- the guard of the step under way
-abbrev pub guard_in : Book → Literal
-guard_in b = guard_of b.problem (step_of b.history)
+-- the activation literal of the step under way
+abbrev pub activation_in : ProofLog → Literal
+activation_in b = activation_of b.problem (step_of b.history)
 
 -- what keeps a state from being found again in the step under way
-abbrev pub block_in : Encoded → Book → List Bool → Clause
-block_in e b state = negation (guard_in b) ∷ block_for e state
+abbrev pub block_in : Encoded → ProofLog → List Bool → Clause
+block_in e b state = negation (activation_in b) ∷ block_for e state
 
 -- the steps after a solve: the first solve of a step brings its assumptions
 abbrev pub steps_after : Bool → List Clause → Clause → List Clause
@@ -79,23 +79,23 @@ steps_after first steps assumptions = cond first (steps ++ assumptions ∷ []) s
 pub record HasSearched (old new : SolverState) (assumptions : Clause) (lemmas : List Line) : Type 0 where
   pub was_well : old.failed ≡ false
   pub well : new.failed ≡ false
-  pub vars : new.book.problem.vars ≡ old.book.problem.vars
-  pub clauses : new.book.problem.clauses ≡ old.book.problem.clauses
-  pub steps : new.book.problem.steps ≡ steps_after (is_begun old.stage) old.book.problem.steps assumptions
-  pub history : new.book.history ≡ lemmas ++ Solve ∷ old.book.history
+  pub vars : new.proof.problem.vars ≡ old.proof.problem.vars
+  pub clauses : new.proof.problem.clauses ≡ old.proof.problem.clauses
+  pub steps : new.proof.problem.steps ≡ steps_after (is_begun old.stage) old.proof.problem.steps assumptions
+  pub history : new.proof.history ≡ lemmas ++ Solve ∷ old.proof.history
   pub are_lemmas : AllByRecursion (λ line. is_lemma_line line ≡ true) lemmas
-  pub stand : Keeps old.book new.book
-  pub assumed_is : assumed new.book ≡ assumptions
-  pub guards : new.vars ≡ old.vars
+  pub stand : Keeps old.proof new.proof
+  pub assumed_is : assumed new.proof ≡ assumptions
+  pub activations : new.vars ≡ old.vars
 
 -- ---- a turn
 
--- there is room for the guards of `MAX_GUARDS` steps; state, inputs and blocks are over the encoding's variables, and what a step
--- assumes also over its guard; and no variable stands twice in a block or in what a step assumes
+-- there is room for the activation literals of `MAX_ACTIVATIONS` steps; state, inputs and blocks are over the encoding's variables, and what a step
+-- assumes also over its activation literal; and no variable stands twice in a block or in what a step assumes
 pub record IsReadable (e : Encoded) : Type 0 where
-  pub room : e.variables + MAX_GUARDS < VARIABLE_LIMIT
-  pub assumptions_range : (guard : Literal) (q : Present) → e.variables < guard.variable → HasVariables guard.variable (assumptions_for e guard q)
-  pub assumptions_distinct : (guard : Literal) (q : Present) → e.variables < guard.variable → has_distinct_variables (assumptions_for e guard q) ≡ true
+  pub room : e.variables + MAX_ACTIVATIONS < VARIABLE_LIMIT
+  pub assumptions_range : (activation : Literal) (q : Present) → e.variables < activation.variable → HasVariables activation.variable (assumptions_for e activation q)
+  pub assumptions_distinct : (activation : Literal) (q : Present) → e.variables < activation.variable → has_distinct_variables (assumptions_for e activation q) ≡ true
   pub states : HasVariables e.variables e.states
   pub inputs : HasVariables e.variables e.inputs
   pub link : HasVariables e.variables (option_to_list e.link)
@@ -109,11 +109,11 @@ pub record MayTurn (e : Encoded) (s : SolverState) (assumptions : Clause) : Type
   pub may : MaySolve s assumptions
   pub range : HasVariables s.vars assumptions
   pub distinct : has_distinct_variables assumptions ≡ true
-  pub guard : Contains assumptions (guard_in s.book)
-  pub vars : s.book.problem.vars ≡ e.variables
-  pub guards : e.variables ≤ s.vars
-  pub clauses : s.book.problem.clauses ≡ e.clauses
-  pub stand : AxiomsStand s.book
+  pub activation : Contains assumptions (activation_in s.proof)
+  pub vars : s.proof.problem.vars ≡ e.variables
+  pub activations : e.variables ≤ s.vars
+  pub clauses : s.proof.problem.clauses ≡ e.clauses
+  pub stand : AxiomsStand s.proof
 
 -- the candidate is the one that the values show, and its state is blocked
 pub record HasShownCand (e : Encoded) (values : List (Option Bool)) (old new : SolverState) (cand : Cand) : Type 0 where
@@ -136,7 +136,7 @@ pub record HasListedOne (e : Encoded) (assumptions : Clause) (limit : ℕ) (old 
   pub id : ℕ
   pub blocked : HasBlocked middle new (block_for e cand.state) id
   pub shown : IsShownIn e assumptions cand
-  pub apart : (t : List Bool) → Contains (standing old.book) (block_in e old.book t) → cand.state ≢ t
+  pub apart : (t : List Bool) → Contains (standing old.proof) (block_in e old.proof t) → cand.state ≢ t
 
 -- the last lemma of the solve, within its limit, ends the step
 pub record HasRefutedAll (assumptions : Clause) (limit : ℕ) (old new : SolverState) (id : ℕ) : Type 0 where
@@ -152,7 +152,7 @@ pub record HasSpent (assumptions : Clause) (limit : ℕ) (old new : SolverState)
   pub searched : HasSearched old new assumptions lemmas
   pub stopped : new.stage ≡ Stopped
   pub all : length lemmas ≡ limit
-  pub bound : (run : List Literal) → IsUnitRun (standing old.book) assumptions run → limit < 2 ^ (old.vars - length run)
+  pub bound : (run : List Literal) → IsUnitRun (standing old.proof) assumptions run → limit < 2 ^ (old.vars - length run)
   pub open_yet : AllByRecursion (λ line. is_open_lemma assumptions line ≡ true) lemmas
 
 abbrev pub TurnsTo : Encoded → Clause → ℕ → SolverState → SolverState → TurnEnd → Type 0
@@ -197,7 +197,7 @@ pub record HasNext (e : Encoded) (assumptions : Clause) (limit : ℕ) (found : L
   pub id : ℕ
   pub blocked : HasBlocked middle new (block_for e cand.state) id
   pub right : IsOneOf e assumptions known cand
-  pub apart : ((t : List Bool) → Contains (standing old.book) (block_in e old.book t) → cand.state ≢ t) ⊎ (is_listed (listed found) cand.state ≡ false)
+  pub apart : ((t : List Bool) → Contains (standing old.proof) (block_in e old.proof t) → cand.state ≢ t) ⊎ (is_listed (listed found) cand.state ≡ false)
   pub last : (c : Cand) → known ≡ Some c → (is_listed (listed found) c.state ≡ true) ⊎ (c ≡ cand)
 
 abbrev pub GoesTo : Encoded → Clause → ℕ → List Cand → Option Cand → SolverState → SolverState → TurnEnd → Type 0

@@ -43,7 +43,7 @@ fn holds(values: &Solution, literal: Lit) -> bool
     value(values, literal.var()) == literal.positive()
 }
 
-/// Whether an assignment joins the second copy to the first.
+/// Whether an assignment joins the second time frame to the first.
 fn is_joined(encoding: &Encoding, values: &Solution) -> bool
     requires { HasVariables (length values.now) (option_to_list encoding.now.link) }
     ensures { result ≡ joins (value_of values.now) encoding.now.link }
@@ -54,7 +54,7 @@ fn is_joined(encoding: &Encoding, values: &Solution) -> bool
     }
 }
 
-/// The state and the input of the cycle before that an assignment shows, where it joins the copies.
+/// The state and the input of the cycle before that an assignment shows, where it joins the time frames.
 fn before(alloc: Global, encoding: &Encoding, values: &Solution) -> Result<Option<Before>, NoMemory>
     requires link { HasVariables (length values.now) (option_to_list encoding.now.link) }
     requires states { HasVariables (length values.now) encoding.now.older_states }

@@ -32,7 +32,7 @@ fn find_most(
     requires candidates { 1 ≤ k }
     requires conflicts { 1 ≤ b }
     ensures ok { IfOk result (HasComeTo encoding.now assumptions.now k b solver.old solver.new found.new.items) }
-    ensures lines { Extends true solver.old.book solver.new.book assumptions.now }
+    ensures lines { Extends true solver.old.proof solver.new.proof assumptions.now }
 {
     let most = k - 1;
     'turns: while (found.len() as u64) < most {
@@ -68,7 +68,7 @@ fn fill(
     requires width { IfSome known.now (λ cand. length cand.state ≡ length encoding.now.states) }
     requires conflicts { 1 ≤ b }
     ensures ok { IfOk result (HasFilled encoding.now assumptions.now b found.old.items known.now solver.old solver.new found.new.items) }
-    ensures lines { Extends (is_begun solver.old.stage) solver.old.book solver.new.book assumptions.now }
+    ensures lines { Extends (is_begun solver.old.stage) solver.old.proof solver.new.proof assumptions.now }
 {
     match last_turn(
         alloc,
@@ -101,7 +101,7 @@ fn fill_asking<S: Source>(
     requires right { KnowsRight S.knows source.old (λ cand. length cand.state ≡ length encoding.now.states) }
     requires conflicts { 1 ≤ b }
     ensures ok { IfOk result (λ end. IsTold S.knows source.old source.new (λ known. HasFilled encoding.now assumptions.now b found.old.items known solver.old solver.new found.new.items end)) }
-    ensures lines { Extends (is_begun solver.old.stage) solver.old.book solver.new.book assumptions.now }
+    ensures lines { Extends (is_begun solver.old.stage) solver.old.proof solver.new.proof assumptions.now }
     ensures source { S.stays source.old source.new }
 {
     let known = source.known(alloc)?;
@@ -131,7 +131,7 @@ pub(crate) fn find<S: Source>(
     requires candidates { 1 ≤ k }
     requires conflicts { 1 ≤ b }
     ensures ok { IfOk result (λ end. HasAsked S.knows source.old source.new (λ known. HasEndedSearch encoding.now assumptions.now known k b solver.old solver.new found.new.items end) k (length found.new.items) end) }
-    ensures lines { Extends true solver.old.book solver.new.book assumptions.now }
+    ensures lines { Extends true solver.old.proof solver.new.proof assumptions.now }
     ensures source { KeepsSource S.stays source.old source.new }
 {
     match find_most(alloc, encoding, solver, assumptions, found, k, b)? {

@@ -9,7 +9,7 @@ ghost use Rattle.bs_clause.specs.Range.{HasVariables};
 ghost use Rattle.bs_scan.specs.Choice.{depth_of};
 ghost use Rattle.bs_encode.specs.Assuming.{AreWide};
 ghost use Rattle.bs_encode.specs.Depth.{encoding_by};
-ghost use Rattle.bs_encode.specs.declared.encoding.TheConstants.{MAX_GUARDS};
+ghost use Rattle.bs_encode.specs.declared.encoding.TheConstants.{MAX_ACTIVATIONS};
 ghost use Rattle.bs_preimage.specs.Preimage.{fresh, assumptions_in, GoesOn, MayHaveStep};
 ghost use Rattle.bs_preimage.specs.Rest.{made};
 ghost use Rattle.bs_preimage.specs.Asking.{KeepsSource, KnowsRight};
@@ -93,7 +93,7 @@ impl<'a> Model for Preimage<'a> {
 
     ghost Value = { PreimageState };
 
-    ghost view = { λ p. record { circuit = circuit p.net.now; choice = p.choice.now; problem = p.solver.book.problem; history = p.solver.book.history; calls = p.calls; failed = p.failed } };
+    ghost view = { λ p. record { circuit = circuit p.net.now; choice = p.choice.now; problem = p.solver.proof.problem; history = p.solver.proof.history; calls = p.calls; failed = p.failed } };
 
     ghost invariant = { λ p. IsPrepared (circuit p.net.now) p.choice.now p.encoding p.solver p.calls p.failed };
 }
@@ -156,7 +156,7 @@ impl<'a> Preimage<'a> {
         requires known { IfSome known.now (IsRightCand self.old.circuit self.old.choice present.now stored.now (option_map (λ bits. bits.now) older)) }
         requires candidates { 1 ≤ k }
         requires conflicts { 1 ≤ b }
-        requires calls { self.old.calls < MAX_GUARDS }
+        requires calls { self.old.calls < MAX_ACTIVATIONS }
         ensures ok { IfOk result (HasListed self.old self.new present.now stored.now (option_map (λ bits. bits.now) older.entry) known.now k b) }
         ensures err { IfErr result (λ _. self.new.failed ≡ true) }
         ensures goes_on { GoesOn self.old self.new }
@@ -189,7 +189,7 @@ impl<'a> Preimage<'a> {
         requires right { KnowsRight S.knows source.old (IsRightCand self.old.circuit self.old.choice present.now stored.now (option_map (λ bits. bits.now) older)) }
         requires candidates { 1 ≤ k }
         requires conflicts { 1 ≤ b }
-        requires calls { self.old.calls < MAX_GUARDS }
+        requires calls { self.old.calls < MAX_ACTIVATIONS }
         ensures ok { IfOk result (HasListedAsking S.knows source.old source.new self.old self.new present.now stored.now (option_map (λ bits. bits.now) older.entry) k b) }
         ensures err { IfErr result (λ _. self.new.failed ≡ true) }
         ensures goes_on { GoesOn self.old self.new }

@@ -5,7 +5,7 @@ ghost use Rattle.bs_net.specs.Netlist.{circuit};
 ghost use Rattle.bs_log.specs.Refusal.{has_distinct_variables};
 ghost use Rattle.bs_encode.specs.Assuming.{asking, AreWide};
 ghost use Rattle.bs_encode.specs.Depth.{encoding_by};
-ghost use Rattle.bs_encode.specs.declared.encoding.TheConstants.{MAX_GUARDS};
+ghost use Rattle.bs_encode.specs.declared.encoding.TheConstants.{MAX_ACTIVATIONS};
 ghost use Rattle.bs_preimage.specs.Rest.{IsAbout};
 ghost use Rattle.bs_preimage.specs.Turn.{IsReadable, MayTurn, TurnsTo};
 ghost use Rattle.bs_preimage.specs.Probe.{last_of, probed_of, probing_at, probing_for, HasAnswered, HasProbed, IsPaused, IsProbed, IsQuestion, IsReadyEngine, IsReadyFor, MayProbe};
@@ -41,7 +41,7 @@ pub enum Probed {
 /// What is asked: whether a state that agrees with the stored signature and the older one leads to the present one, with at
 /// most `b` lemmas.
 #[derive(Clone, Copy)]
-struct Asked<'a> {
+struct ProbeRequest<'a> {
     present: &'a Bits,
     stored: &'a Bits,
     older: Option<&'a Bits>,
@@ -53,16 +53,16 @@ struct Asked<'a> {
 fn assumed(
     alloc: Global,
     encoding: &Encoding,
-    guard: Lit,
-    asked: &Asked<'_>,
+    activation: Lit,
+    asked: &ProbeRequest<'_>,
 ) -> Result<Lits, NoMemory>
     requires present { length asked.now.present.now ≡ length encoding.now.next }
     requires stored { length asked.now.stored.now ≡ length encoding.now.signatures }
     requires older { AreWide (length encoding.now.older_signatures) (option_map (λ bits. bits.now) asked.now.older) }
     requires state { length encoding.now.states ≡ length asked.now.state.now }
-    ensures { IfOk result (λ all. all ≡ probing_for encoding.now guard (asking asked.now.present.now asked.now.stored.now (option_map (λ bits. bits.now) asked.now.older)) asked.now.state.now) }
+    ensures { IfOk result (λ all. all ≡ probing_for encoding.now activation (asking asked.now.present.now asked.now.stored.now (option_map (λ bits. bits.now) asked.now.older)) asked.now.state.now) }
 {
-    let mut all = encoding.assumptions(alloc, guard, asked.present, asked.stored, asked.older)?;
+    let mut all = encoding.assumptions(alloc, activation, asked.present, asked.stored, asked.older)?;
     push_signed(&mut all, encoding.states(), asked.state)?;
     Ok(all)
 }
@@ -72,19 +72,19 @@ fn probe_turn(
     alloc: Global,
     encoding: &Encoding,
     solver: &mut Solver,
-    guard: Lit,
-    asked: &Asked<'_>,
+    activation: Lit,
+    asked: &ProbeRequest<'_>,
 ) -> Result<TurnEnd, NoMemory>
     requires readable { IsReadable encoding.now }
-    requires may { MayTurn encoding.now solver.old (probing_for encoding.now guard (asking asked.now.present.now asked.now.stored.now (option_map (λ bits. bits.now) asked.now.older)) asked.now.state.now) }
+    requires may { MayTurn encoding.now solver.old (probing_for encoding.now activation (asking asked.now.present.now asked.now.stored.now (option_map (λ bits. bits.now) asked.now.older)) asked.now.state.now) }
     requires present { length asked.now.present.now ≡ length encoding.now.next }
     requires stored { length asked.now.stored.now ≡ length encoding.now.signatures }
     requires older { AreWide (length encoding.now.older_signatures) (option_map (λ bits. bits.now) asked.now.older) }
     requires state { length encoding.now.states ≡ length asked.now.state.now }
     requires limit { 1 ≤ asked.now.b }
-    ensures ok { IfOk result (TurnsTo encoding.now (probing_for encoding.now guard (asking asked.now.present.now asked.now.stored.now (option_map (λ bits. bits.now) asked.now.older)) asked.now.state.now) asked.now.b solver.old solver.new) }
+    ensures ok { IfOk result (TurnsTo encoding.now (probing_for encoding.now activation (asking asked.now.present.now asked.now.stored.now (option_map (λ bits. bits.now) asked.now.older)) asked.now.state.now) asked.now.b solver.old solver.new) }
 {
-    let assumptions = assumed(alloc, encoding, guard, asked)?;
+    let assumptions = assumed(alloc, encoding, activation, asked)?;
     let end = take_turn(alloc, encoding, solver, &assumptions, asked.b)?;
     Ok(end)
 }
@@ -105,23 +105,23 @@ fn probe_once(
     alloc: Global,
     encoding: &Encoding,
     solver: &mut Solver,
-    asked: &Asked<'_>,
+    asked: &ProbeRequest<'_>,
 ) -> Result<TurnEnd, NoMemory>
     requires readable { IsReadable encoding.now }
-    requires vars { solver.old.book.problem.vars ≡ encoding.now.variables }
-    requires clauses { solver.old.book.problem.clauses ≡ encoding.now.clauses }
+    requires vars { solver.old.proof.problem.vars ≡ encoding.now.variables }
+    requires clauses { solver.old.proof.problem.clauses ≡ encoding.now.clauses }
     requires rest { IsPaused solver.old }
-    requires few { length solver.old.book.problem.steps < MAX_GUARDS }
-    requires distinct { has_distinct_variables (probing_at encoding.now solver.old.book asked.now.present.now asked.now.stored.now (option_map (λ bits. bits.now) asked.now.older) asked.now.state.now) ≡ true }
+    requires few { length solver.old.proof.problem.steps < MAX_ACTIVATIONS }
+    requires distinct { has_distinct_variables (probing_at encoding.now solver.old.proof asked.now.present.now asked.now.stored.now (option_map (λ bits. bits.now) asked.now.older) asked.now.state.now) ≡ true }
     requires present { length asked.now.present.now ≡ length encoding.now.next }
     requires stored { length asked.now.stored.now ≡ length encoding.now.signatures }
     requires older { AreWide (length encoding.now.older_signatures) (option_map (λ bits. bits.now) asked.now.older) }
     requires state { length encoding.now.states ≡ length asked.now.state.now }
     requires limit { 1 ≤ asked.now.b }
-    ensures ok { IfOk result (HasProbed encoding.now solver.old solver.new (probing_at encoding.now solver.old.book asked.now.present.now asked.now.stored.now (option_map (λ bits. bits.now) asked.now.older) asked.now.state.now) asked.now.b) }
+    ensures ok { IfOk result (HasProbed encoding.now solver.old solver.new (probing_at encoding.now solver.old.proof asked.now.present.now asked.now.stored.now (option_map (λ bits. bits.now) asked.now.older) asked.now.state.now) asked.now.b) }
 {
-    let guard = solver.begin_step()?;
-    let end = probe_turn(alloc, encoding, solver, guard, asked)?;
+    let activation = solver.begin_step()?;
+    let end = probe_turn(alloc, encoding, solver, activation, asked)?;
     solver.end_step(alloc, ending(&end))?;
     Ok(end)
 }
@@ -144,11 +144,11 @@ fn probe_step(
     choice: &Choice,
     encoding: &Encoding,
     solver: &mut Solver,
-    asked: &Asked<'_>,
+    asked: &ProbeRequest<'_>,
 ) -> Result<Probed, NoMemory>
-    requires about { IsAbout (circuit net.now) choice.now encoding.now solver.old.book }
+    requires about { IsAbout (circuit net.now) choice.now encoding.now solver.old.proof }
     requires rest { IsPaused solver.old }
-    requires few { length solver.old.book.problem.steps < MAX_GUARDS }
+    requires few { length solver.old.proof.problem.steps < MAX_ACTIVATIONS }
     requires present { length asked.now.present.now ≡ length (circuit net.now).flops }
     requires stored { length asked.now.stored.now ≡ length choice.now.items }
     requires older { AreWide (length choice.now.items) (option_map (λ bits. bits.now) asked.now.older) }
@@ -254,7 +254,7 @@ fn answer_by(
     net: &Netlist,
     choice: &Choice,
     engine: &mut Engine,
-    asked: &Asked<'_>,
+    asked: &ProbeRequest<'_>,
 ) -> Result<Probed, NoMemory>
     requires ready { IsReadyEngine (circuit net.now) choice.now engine.old }
     requires question { IsQuestion (circuit net.now) choice.now asked.now.present.now asked.now.stored.now (option_map (λ bits. bits.now) asked.now.older) asked.now.state.now asked.now.b }
@@ -287,7 +287,7 @@ fn answer_first(
     net: &Netlist,
     choice: &Choice,
     place: &mut Option<Engine>,
-    asked: &Asked<'_>,
+    asked: &ProbeRequest<'_>,
 ) -> Result<Probed, NoMemory>
     requires width { choice.now.width ≡ length (circuit net.now).flops }
     requires question { IsQuestion (circuit net.now) choice.now asked.now.present.now asked.now.stored.now (option_map (λ bits. bits.now) asked.now.older) asked.now.state.now asked.now.b }
@@ -306,7 +306,7 @@ fn answer_in(
     net: &Netlist,
     choice: &Choice,
     place: &mut Option<Engine>,
-    asked: &Asked<'_>,
+    asked: &ProbeRequest<'_>,
 ) -> Result<Probed, NoMemory>
     requires width { choice.now.width ≡ length (circuit net.now).flops }
     requires ready { IfSome place.old (IsReadyEngine (circuit net.now) choice.now) }
@@ -378,7 +378,7 @@ impl<'a> Probe<'a> {
         if !may_ask(self.choice, older) {
             return Ok(Probed::Unknown);
         }
-        let asked = Asked {
+        let asked = ProbeRequest {
             present,
             stored,
             older,
@@ -389,7 +389,7 @@ impl<'a> Probe<'a> {
     }
 
     /// Answers a question, where one signature is kept or both are there.
-    fn answer(&mut self, alloc: Global, asked: &Asked<'_>) -> Result<Probed, NoMemory>
+    fn answer(&mut self, alloc: Global, asked: &ProbeRequest<'_>) -> Result<Probed, NoMemory>
         requires { IsQuestion self.old.circuit self.old.choice asked.now.present.now asked.now.stored.now (option_map (λ bits. bits.now) asked.now.older) asked.now.state.now asked.now.b }
         ensures probed { IfOk result (IsProbed self.old.circuit self.old.choice asked.now.present.now asked.now.stored.now (option_map (λ bits. bits.now) asked.now.older) asked.now.state.now) }
         ensures kept { self.new ≡ self.old }

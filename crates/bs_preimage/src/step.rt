@@ -3,7 +3,7 @@ ghost use Rattle.std.specs.Prelude.{◌≡◌, ◌≤◌, ◌<◌, [], true, len
 ghost use Rattle.bs_net.specs.Netlist.{circuit};
 ghost use Rattle.bs_scan.specs.Choice.{depth_of};
 ghost use Rattle.bs_encode.specs.Assuming.{AreWide};
-ghost use Rattle.bs_encode.specs.declared.encoding.TheConstants.{MAX_GUARDS};
+ghost use Rattle.bs_encode.specs.declared.encoding.TheConstants.{MAX_ACTIVATIONS};
 ghost use Rattle.bs_preimage.specs.Asking.{HasAsked, KeepsSource, KnowsRight};
 ghost use Rattle.bs_preimage.specs.Listed.{IsRightCand};
 ghost use Rattle.bs_preimage.specs.Rest.{IsAbout, IsAtRest};
@@ -55,10 +55,10 @@ fn seek<S: Source>(
     found: &mut Vec<Cand>,
 ) -> Result<ListEnd, NoMemory>
     requires readable { IsReadable encoding.now }
-    requires vars { solver.old.book.problem.vars ≡ encoding.now.variables }
-    requires clauses { solver.old.book.problem.clauses ≡ encoding.now.clauses }
+    requires vars { solver.old.proof.problem.vars ≡ encoding.now.variables }
+    requires clauses { solver.old.proof.problem.clauses ≡ encoding.now.clauses }
     requires rest { IsAtRest solver.old }
-    requires few { length solver.old.book.problem.steps < MAX_GUARDS }
+    requires few { length solver.old.proof.problem.steps < MAX_ACTIVATIONS }
     requires state { length asked.now.present.now ≡ length encoding.now.next }
     requires signature { length asked.now.stored.now ≡ length encoding.now.signatures }
     requires older { AreWide (length encoding.now.older_signatures) (option_map (λ bits. bits.now) asked.now.older) }
@@ -68,11 +68,11 @@ fn seek<S: Source>(
     requires conflicts { 1 ≤ asked.now.b }
     requires none { found.old.items ≡ [] }
     ensures ok { IfOk result (λ end. HasAsked S.knows source.old source.new (λ known. HasSought encoding.now solver.old solver.new asked.now.present.now asked.now.stored.now (option_map (λ bits. bits.now) asked.now.older) known asked.now.k asked.now.b found.new.items end) asked.now.k (length found.new.items) end) }
-    ensures lines { Extends true solver.old.book solver.new.book (assumptions_at encoding.now solver.old.book asked.now.present.now asked.now.stored.now (option_map (λ bits. bits.now) asked.now.older)) }
+    ensures lines { Extends true solver.old.proof solver.new.proof (assumptions_at encoding.now solver.old.proof asked.now.present.now asked.now.stored.now (option_map (λ bits. bits.now) asked.now.older)) }
     ensures source { KeepsSource S.stays source.old source.new }
 {
-    let guard = solver.begin_step()?;
-    let assumptions = encoding.assumptions(alloc, guard, asked.present, asked.stored, asked.older)?;
+    let activation = solver.begin_step()?;
+    let assumptions = encoding.assumptions(alloc, activation, asked.present, asked.stored, asked.older)?;
     let end = find(
         alloc,
         encoding,
@@ -97,9 +97,9 @@ pub(crate) fn list_step<S: Source>(
     asked: &Question<'_>,
     source: &mut S,
 ) -> Result<Listing, NoMemory>
-    requires about { IsAbout (circuit net.now) choice.now encoding.now solver.old.book }
+    requires about { IsAbout (circuit net.now) choice.now encoding.now solver.old.proof }
     requires rest { IsAtRest solver.old }
-    requires few { length solver.old.book.problem.steps < MAX_GUARDS }
+    requires few { length solver.old.proof.problem.steps < MAX_ACTIVATIONS }
     requires state { length asked.now.present.now ≡ length (circuit net.now).flops }
     requires signature { length asked.now.stored.now ≡ length choice.now.items }
     requires older { AreWide (length choice.now.items) (option_map (λ bits. bits.now) asked.now.older) }
@@ -109,7 +109,7 @@ pub(crate) fn list_step<S: Source>(
     requires candidates { 1 ≤ asked.now.k }
     requires conflicts { 1 ≤ asked.now.b }
     ensures ok { IfOk result (λ listing. HasAsked S.knows source.old source.new (λ known. HasMadeStep (circuit net.now) choice.now solver.old solver.new asked.now.present.now asked.now.stored.now (option_map (λ bits. bits.now) asked.now.older) known asked.now.k asked.now.b listing) asked.now.k (length listing.cands) listing.end) }
-    ensures lines { Extends true solver.old.book solver.new.book (assumptions_at encoding.now solver.old.book asked.now.present.now asked.now.stored.now (option_map (λ bits. bits.now) asked.now.older)) }
+    ensures lines { Extends true solver.old.proof solver.new.proof (assumptions_at encoding.now solver.old.proof asked.now.present.now asked.now.stored.now (option_map (λ bits. bits.now) asked.now.older)) }
     ensures source { KeepsSource S.stays source.old source.new }
 {
     encodings_are_tidy(net, choice);

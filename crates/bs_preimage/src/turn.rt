@@ -38,7 +38,7 @@ pub(crate) fn take_turn(
     requires may { MayTurn encoding.now solver.old assumptions.now }
     requires limit { 1 ≤ limit }
     ensures ok { IfOk result (TurnsTo encoding.now assumptions.now limit solver.old solver.new) }
-    ensures lines { Extends (is_begun solver.old.stage) solver.old.book solver.new.book assumptions.now }
+    ensures lines { Extends (is_begun solver.old.stage) solver.old.proof solver.new.proof assumptions.now }
 {
     match solver.solve(alloc, assumptions, limit)? {
         Answer::Found(values) => list_one(alloc, encoding, solver, &values),
@@ -56,10 +56,10 @@ fn block_state(
 ) -> Result<(), NoMemory>
     requires readable { IsReadable encoding.now }
     requires stage { solver.old.failed ≡ false → solver.old.stage ≡ Solved }
-    requires vars { solver.old.book.problem.vars ≡ encoding.now.variables }
+    requires vars { solver.old.proof.problem.vars ≡ encoding.now.variables }
     requires width { length state.now ≡ length encoding.now.states }
     ensures ok { IfOk result (λ _. HasBlockedState encoding.now state.now solver.old solver.new) }
-    ensures lines { Extends false solver.old.book solver.new.book [] }
+    ensures lines { Extends false solver.old.proof solver.new.proof [] }
 {
     let clause = encoding.block(alloc, state)?;
     let _id = solver.block(alloc, &clause)?;
@@ -75,10 +75,10 @@ fn list_one(
 ) -> Result<TurnEnd, NoMemory>
     requires readable { IsReadable encoding.now }
     requires stage { solver.old.failed ≡ false → solver.old.stage ≡ Solved }
-    requires vars { solver.old.book.problem.vars ≡ encoding.now.variables }
+    requires vars { solver.old.proof.problem.vars ≡ encoding.now.variables }
     requires values { encoding.now.variables ≤ length values.now }
     ensures ok { IfOk result (HasShown encoding.now values.now solver.old solver.new) }
-    ensures lines { Extends false solver.old.book solver.new.book [] }
+    ensures lines { Extends false solver.old.proof solver.new.proof [] }
 {
     let cand = candidate(alloc, encoding, values)?;
     block_state(alloc, encoding, solver, &cand.state)?;
@@ -104,7 +104,7 @@ fn block_known(
     requires may { MayTurn encoding.now solver.old assumptions.now }
     requires width { length state.now ≡ length encoding.now.states }
     ensures ok { IfOk result (λ _. HasBlockedKnown encoding.now assumptions.now state.now solver.old solver.new) }
-    ensures lines { Extends (is_begun solver.old.stage) solver.old.book solver.new.book assumptions.now }
+    ensures lines { Extends (is_begun solver.old.stage) solver.old.proof solver.new.proof assumptions.now }
 {
     solver.solve_unsearched(alloc, assumptions)?;
     block_state(alloc, encoding, solver, state)?;
@@ -123,7 +123,7 @@ fn list_known(
     requires may { MayTurn encoding.now solver.old assumptions.now }
     requires width { length known.now.state ≡ length encoding.now.states }
     ensures ok { IfOk result (HasTakenKnown encoding.now assumptions.now known.now solver.old solver.new) }
-    ensures lines { Extends (is_begun solver.old.stage) solver.old.book solver.new.book assumptions.now }
+    ensures lines { Extends (is_begun solver.old.stage) solver.old.proof solver.new.proof assumptions.now }
 {
     block_known(alloc, encoding, solver, assumptions, &known.state)?;
     let listed = copied(known)?;
@@ -145,7 +145,7 @@ fn turn_beside(
     requires width { length known.now.state ≡ length encoding.now.states }
     requires limit { 1 ≤ limit }
     ensures ok { IfOk result (GoesTo encoding.now assumptions.now limit found.now (Some known.now) solver.old solver.new) }
-    ensures lines { Extends (is_begun solver.old.stage) solver.old.book solver.new.book assumptions.now }
+    ensures lines { Extends (is_begun solver.old.stage) solver.old.proof solver.new.proof assumptions.now }
 {
     if is_found(found, &known.state) {
         take_turn(alloc, encoding, solver, assumptions, limit)
@@ -169,7 +169,7 @@ pub(crate) fn last_turn(
     requires width { IfSome known.now (λ cand. length cand.state ≡ length encoding.now.states) }
     requires limit { 1 ≤ limit }
     ensures ok { IfOk result (GoesTo encoding.now assumptions.now limit found.now known.now solver.old solver.new) }
-    ensures lines { Extends (is_begun solver.old.stage) solver.old.book solver.new.book assumptions.now }
+    ensures lines { Extends (is_begun solver.old.stage) solver.old.proof solver.new.proof assumptions.now }
 {
     match known {
         None => take_turn(alloc, encoding, solver, assumptions, limit),

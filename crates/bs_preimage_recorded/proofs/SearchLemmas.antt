@@ -20,7 +20,7 @@ use Rattle.bs_report_good.proofs.GoodLemmas.{listed_member, filter_member, passi
 use Rattle.bs_chip_forward.specs.Forward.{LeadsNowhere, NoneLeadBefore}
 use Rattle.bs_chip.specs.Lockstep.{IsLongest, IsLowest, NoneAmong, NoneBefore}
 use Rattle.bs_chip.specs.Replay.{lists}
-use Rattle.bs_chip.specs.Signs.{signature_at, NoneAlike, IsNextAlike}
+use Rattle.bs_chip.specs.SignatureHashes.{signature_at, NoneAlike, IsNextAlike}
 use Rattle.bs_chip.proofs.TrackLemmas.{behind_all}
 use Rattle.bs_preimage.specs.declared.probe.Probed.{Probed}
 use Rattle.bs_preimage.specs.declared.probe.Probed.TheVariants.{Predecessor, NoPredecessor, Unknown}

@@ -3,7 +3,7 @@ use Rattle.std.specs.Prelude.{◌≡◌, ℕ, ◌≤◌, Bool, List, length, Opt
 use Rattle.bs_encode.specs.Assuming.{AreWide}
 use Rattle.bs_scan.specs.Crash.{Recording}
 use Rattle.bs_scan.specs.Moments.{run_of, state_at}
-use Rattle.bs_chip.specs.Prints.{print_of}
+use Rattle.bs_chip.specs.Hashes.{hash_of}
 use Rattle.bs_chip_forward.specs.declared.forward.Aim.{Aim}
 use Rattle.bs_chip_forward.specs.Forward.{Ahead, IsAim, LeadsNowhere, NoneLeadBefore}
 use Rattle.bs_preimage.specs.Probe.{Prober}
@@ -21,11 +21,11 @@ pub record IsAimed (r : Recording) (present : List Bool) (aim : Aim) (f : Ahead)
   pub aim_is : IsAim f present aim
 
 -- the parts of a finder are of the recording's chip
-pub record IsFinder (r : Recording) (p : Prober) (forward : Option Ahead) (present : List Bool) (aim : Aim) (stored : List Bool) (print : ℕ) :
+pub record IsFinder (r : Recording) (p : Prober) (forward : Option Ahead) (present : List Bool) (aim : Aim) (stored : List Bool) (hash : ℕ) :
     Type 0 where
   pub prober : p ≡ record { circuit = r.circuit; choice = r.choice }
   pub forward_is : IfSome forward (IsAimed r present aim)
-  pub print_is : print ≡ print_of stored
+  pub hash_is : hash ≡ hash_of stored
 
 -- it is known where the state of a moment leads, and that is under no input to the present
 abbrev pub LeadsAway : Option Ahead → ℕ → ℕ → List Bool → Type 0

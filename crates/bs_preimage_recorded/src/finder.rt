@@ -4,12 +4,12 @@ ghost use Rattle.bs_scan.specs.Moments.{IsMoment, moment, run_of, state_at};
 ghost use Rattle.bs_stim.specs.declared.limits.TheConstants.{MAX_CYCLES};
 ghost use Rattle.bs_chip_forward.specs.Forward.{IsAim, LeadsNowhere, NoneLeadBefore};
 ghost use Rattle.bs_chip.specs.Lockstep.{IsLongest};
-ghost use Rattle.bs_chip.specs.Signs.{IsNextAlike, NoneAlike};
+ghost use Rattle.bs_chip.specs.SignatureHashes.{IsNextAlike, NoneAlike};
 ghost use Rattle.bs_preimage.specs.Probe.{IsProbed};
 ghost use Rattle.bs_preimage_recorded.specs.Finder.{IsAsking, LeadsAway, StartsBy};
 
 use bs_bits::{Bits, NoMemory};
-use bs_chip::{Chip, Signs, print_of};
+use bs_chip::{Chip, SignatureHashes, hash_of};
 use bs_chip_forward::{Aim, Forward};
 use bs_preimage::{Probe, Probed};
 use std::alloc::Global;
@@ -124,12 +124,12 @@ fn start_by(forward: &mut Option<Forward<'_>>, present: &Bits, aim: Aim) -> Resu
 /// What looks for recorded predecessors. Contracts see the recording, and the present that it stands at with its stored signature.
 #[derive(Drop)]
 pub struct Finder<'a, 'p> {
-    signs: Signs<'a>,
+    signature_hashes: SignatureHashes<'a>,
     probe: Probe<'p>,
     forward: Option<Forward<'a>>,
     present: Bits,
     stored: Bits,
-    print: u64,
+    hash: u64,
     aim: Aim,
 }
 
@@ -138,9 +138,9 @@ impl<'a, 'p> Model for Finder<'a, 'p> {
 
     ghost Value = { Seeker };
 
-    ghost view = { λ f. record { recording = f.signs; present = f.present; stored = f.stored } };
+    ghost view = { λ f. record { recording = f.signature_hashes; present = f.present; stored = f.stored } };
 
-    ghost invariant = { λ f. IsFinder f.signs f.probe f.forward f.present f.aim f.stored f.print };
+    ghost invariant = { λ f. IsFinder f.signature_hashes f.probe f.forward f.present f.aim f.stored f.hash };
 }
 
 impl<'a, 'p> Finder<'a, 'p> {
@@ -149,14 +149,14 @@ impl<'a, 'p> Finder<'a, 'p> {
         requires { probe ≡ record { circuit = chip.now.recording.circuit; choice = chip.now.recording.choice } }
         ensures { IfOk result (λ f. f.recording ≡ chip.now.recording) }
     {
-        match chip.signs(alloc) {
-            Ok(signs) => Ok(Finder {
-                signs,
+        match chip.signature_hashes(alloc) {
+            Ok(signature_hashes) => Ok(Finder {
+                signature_hashes,
                 probe,
                 forward: None,
                 present: Bits::new(alloc),
                 stored: Bits::new(alloc),
-                print: 0,
+                hash: 0,
                 aim: Aim { low: 0, high: 0 },
             }),
             Err(want) => Err(want),
@@ -171,11 +171,11 @@ impl<'a, 'p> Finder<'a, 'p> {
     {
         let seen = present.copy()?;
         let held = stored.copy()?;
-        let print = print_of(stored);
+        let hash = hash_of(stored);
         let aim = aim_of(&self.forward, present);
         self.present = seen;
         self.stored = held;
-        self.print = print;
+        self.hash = hash;
         self.aim = aim;
         Ok(())
     }
@@ -184,7 +184,7 @@ impl<'a, 'p> Finder<'a, 'p> {
     pub(crate) fn runs(&self) -> u32
         ensures { result ≡ length self.now.recording.runs }
     {
-        self.signs.runs()
+        self.signature_hashes.runs()
     }
 
     /// The number of cycles of the longest run.
@@ -192,7 +192,7 @@ impl<'a, 'p> Finder<'a, 'p> {
         ensures all { IsLongest self.now.recording.runs result }
         ensures few { result ≤ MAX_CYCLES }
     {
-        self.signs.longest()
+        self.signature_hashes.longest()
     }
 
     /// The first run behind a number that lasts to a cycle and whose state there may have the stored signature; none where no
@@ -211,9 +211,9 @@ impl<'a, 'p> Finder<'a, 'p> {
         ensures kept { self.new ≡ self.old }
     {
         chip.keep_to(alloc, cycle)?;
-        chip.lend_signs(alloc, &mut self.signs, cycle)?;
-        self.signs
-            .next_printed(alloc, &self.stored, self.print, cycle, from)
+        chip.lend_signature_hashes(alloc, &mut self.signature_hashes, cycle)?;
+        self.signature_hashes
+            .next_by_hash(alloc, &self.stored, self.hash, cycle, from)
     }
 
     /// Whether it is known where the recorded states lead.

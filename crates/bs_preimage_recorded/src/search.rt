@@ -4,7 +4,7 @@ ghost use Rattle.bs_preimage_recorded.specs.declared.search.TheConstants.{MAX_AS
 ghost use Rattle.bs_scan.specs.Moments.{IsMoment, moment};
 ghost use Rattle.bs_stim.specs.declared.limits.TheConstants.{MAX_CYCLES};
 ghost use Rattle.bs_chip.specs.Lockstep.{NoneBefore};
-ghost use Rattle.bs_chip.specs.Signs.{IsNextAlike};
+ghost use Rattle.bs_chip.specs.SignatureHashes.{IsNextAlike};
 ghost use Rattle.bs_preimage_recorded.specs.Finder.{IsAsking};
 ghost use Rattle.bs_preimage_recorded.specs.Search.{asked_in, place_of, turn_by, HasTried, HasTurned, IsCutAt, SoughtAt, SoughtBefore, SoughtOfAll, SoughtSooner, SoughtWithin, TurnsTo};
 
@@ -54,7 +54,7 @@ enum Turn {
 
 /// The runs behind one number, up to another, at a cycle.
 #[derive(Clone, Copy)]
-struct Span {
+struct RunRange {
     cycle: u32,
     from: u32,
     below: u32,
@@ -77,7 +77,7 @@ fn ask_run(
     chip: &mut Chip<'_>,
     finder: &mut Finder<'_, '_>,
     query: &Query<'_>,
-    span: Span,
+    span: RunRange,
     run: u32,
     tries: &mut u64,
 ) -> Result<Turn, NoMemory>
@@ -105,7 +105,7 @@ fn try_run(
     chip: &mut Chip<'_>,
     finder: &mut Finder<'_, '_>,
     query: &Query<'_>,
-    span: Span,
+    span: RunRange,
     run: u32,
     tries: &mut u64,
 ) -> Result<Turn, NoMemory>
@@ -134,7 +134,7 @@ fn next_turn(
     chip: &mut Chip<'_>,
     finder: &mut Finder<'_, '_>,
     query: &Query<'_>,
-    span: Span,
+    span: RunRange,
     tries: &mut u64,
 ) -> Result<Turn, NoMemory>
     requires few { span.cycle ≤ MAX_CYCLES }
@@ -172,7 +172,7 @@ fn lowest_at(
 {
     let mut from = 0;
     'runs: for _ in 0..below {
-        let span = Span { cycle, from, below };
+        let span = RunRange { cycle, from, below };
         match next_turn(alloc, chip, finder, query, span, tries)? {
             Turn::GoOn(run) => from = run,
             Turn::End(sought) => return Ok(sought),

@@ -10,7 +10,7 @@ use Rattle.bs_clause.specs.Literal.{Literal, negation}
 use Rattle.bs_clause.proofs.Literals.{literal_from_parts}
 use Rattle.bs_log.specs.declared.line.Line.TheVariants.{Solve, Lemma, Block, Finish, Retire, Delete}
 use Rattle.bs_log.specs.declared.origin.Origin.TheVariants.{Learnt, Blocked, Retired}
-use Rattle.bs_log.specs.History.{Problem, History, Entry, axioms_from, step_of, guard_of, added, live, is_deleted}
+use Rattle.bs_log.specs.History.{Problem, History, Entry, axioms_from, step_of, activation_of, added, live, is_deleted}
 use Rattle.bs_log.specs.Refusal.{entry_of}
 use Rattle.bs_log.proofs.Laws.{step_of-positive}
 use Rattle.bs_reach.specs.declared.shift.Shift.{Shift}
@@ -83,7 +83,7 @@ abbrev pub own : Problem → History → List Entry
 own p [] = []
 own p (Lemma id lits hints ∷ h) = own p h ++ record { id = id; origin = Learnt; literals = lits } ∷ []
 own p (Block id lits ∷ h) = own p h ++ record { id = id; origin = Blocked; literals = lits } ∷ []
-own p (Retire id ∷ h) = own p h ++ record { id = id; origin = Retired; literals = negation (guard_of p (step_of h)) ∷ [] } ∷ []
+own p (Retire id ∷ h) = own p h ++ record { id = id; origin = Retired; literals = negation (activation_of p (step_of h)) ∷ [] } ∷ []
 own p (line ∷ h) = own p h
 
 one_more : (p : Problem) (h : History) (e : Entry) → added p h ≡ axioms_from 1 p.clauses ++ own p h →
@@ -138,14 +138,14 @@ pub live_is : (p : Problem) (h : History) → live p h ≡ axioms_left p h ++ ow
 live_is p h = ap (filter (stands h)) (added_is p h) ∙ filter-append (stands h) (axioms_from 1 p.clauses) (own p h)
 
 module _ (s : Shift) (p q : Problem) (stay : s.vars ≡ p.vars) (go : q.vars ≡ p.vars + s.vars_by) where
-  pub new_guard : (n : ℕ) → 1 ≤ n → guard_of q n ≡ new_literal s (guard_of p n)
-  new_guard n low =
+  pub new_activation : (n : ℕ) → 1 ≤ n → activation_of q n ≡ new_literal s (activation_of p n)
+  new_activation n low =
       let above : s.vars < p.vars + n = omega (arith, stay, low) in
       let climbs : new_variable s (p.vars + n) ≡ p.vars + n + s.vars_by = variable_climbs s (p.vars + n) above in
-      literal_from_parts (guard_of q n) (new_literal s (guard_of p n)) (omega (arith, climbs, go)) refl
+      literal_from_parts (activation_of q n) (new_literal s (activation_of p n)) (omega (arith, climbs, go)) refl
 
-  new_retired : (h : History) → negation (guard_of q (step_of (new_lines s h))) ≡ new_literal s (negation (guard_of p (step_of h)))
-  new_retired h = ap (λ n. negation (guard_of q n)) (same_step s h) ∙ ap negation (new_guard (step_of h) (step_of-positive h))
+  new_retired : (h : History) → negation (activation_of q (step_of (new_lines s h))) ≡ new_literal s (negation (activation_of p (step_of h)))
+  new_retired h = ap (λ n. negation (activation_of q n)) (same_step s h) ∙ ap negation (new_activation (step_of h) (step_of-positive h))
 
   pub new_own : (h : History) → own q (new_lines s h) ≡ map (new_entry s) (own p h)
   new_own [] = refl
@@ -158,7 +158,7 @@ module _ (s : Shift) (p q : Problem) (stay : s.vars ≡ p.vars) (go : q.vars ≡
       ap (λ (es : List Entry). es ++ new_entry s e ∷ []) (new_own h) ∙ sym (map_push (new_entry s) (own p h) e)
   new_own (Finish id ∷ h) = new_own h
   new_own (Retire id ∷ h) =
-      let e : Entry = record { id = id; origin = Retired; literals = negation (guard_of p (step_of h)) ∷ [] } in
+      let e : Entry = record { id = id; origin = Retired; literals = negation (activation_of p (step_of h)) ∷ [] } in
       ap (λ (l : Literal). own q (new_lines s h) ++ record { id = new_id s id; origin = Retired; literals = l ∷ [] } ∷ []) (new_retired h)
       ∙ (ap (λ (es : List Entry). es ++ new_entry s e ∷ []) (new_own h) ∙ sym (map_push (new_entry s) (own p h) e))
   new_own (Delete ids ∷ h) = new_own h

@@ -13,19 +13,19 @@ use Rattle.bs_clause.specs.UnitRun.{IsUnitRun}
 use Rattle.bs_clause.specs.Range.{HasVariables}
 use Rattle.bs_log.specs.declared.line.Line.{Line}
 use Rattle.bs_log.specs.declared.line.Line.TheVariants.{Solve, Lemma, Block, Finish, Retire, Delete}
-use Rattle.bs_log.specs.History.{Problem, History, step_of, guard_of}
+use Rattle.bs_log.specs.History.{Problem, History, step_of, activation_of}
 use Rattle.bs_log.specs.Refusal.{NoneRefused}
 use Rattle.bs_log.specs.Steps.{is_lemma_line, HasNoBlock, finished_in}
 use Rattle.bs_solve_recording.specs.declared.answer.Answer.TheVariants as answers
 use Rattle.bs_solve_recording.specs.declared.stage.Stage.TheVariants.{Begun}
-use Rattle.bs_solve_recording.specs.Book.{Book, standing, next_id, without}
+use Rattle.bs_solve_recording.specs.ProofLog.{ProofLog, standing, next_id, without}
 use Rattle.bs_solve_recording.specs.Ending.{is_open_lemma}
 use Rattle.bs_solve_recording.specs.Search.{assumed}
-use Rattle.bs_solve_recording.specs.Stages.{begun_book}
+use Rattle.bs_solve_recording.specs.Stages.{begun_proof}
 use Rattle.bs_solve_recording.specs.Solver.{SolverState, HasSolved, HasEnded, finished, retired, leaving}
 use Rattle.bs_solve_recording.specs.Values.{value_of}
 use Rattle.bs_solve_analysis.proofs.Clauses.{all_from, contains_first}
-use Rattle.bs_solve_recording.proofs.CallerLemmas.{open_are_lemmas, solved_keeps, bound_is, axioms_stand_still, guards_stay_retired}
+use Rattle.bs_solve_recording.proofs.CallerLemmas.{open_are_lemmas, solved_keeps, bound_is, axioms_stand_still, activations_stay_retired}
 use Rattle.bs_solve.specs.Budget.{HasFewLemmas}
 use Rattle.bs_solve.proofs.BudgetLemmas.{few_lemmas}
 use Rattle.bs_encode.specs.Tables.{lit}
@@ -56,11 +56,11 @@ abbrev delete_lines : List ℕ → List Line
 delete_lines [] = []
 delete_lines (id ∷ ids) = Delete (id ∷ ids) ∷ []
 
-without_history : (b : Book) (ids : List ℕ) → (without b ids).history ≡ delete_lines ids ++ b.history
+without_history : (b : ProofLog) (ids : List ℕ) → (without b ids).history ≡ delete_lines ids ++ b.history
 without_history b [] = refl
 without_history b (id ∷ ids) = refl
 
-without_problem : (b : Book) (ids : List ℕ) → (without b ids).problem ≡ b.problem
+without_problem : (b : ProofLog) (ids : List ℕ) → (without b ids).problem ≡ b.problem
 without_problem b [] = refl
 without_problem b (id ∷ ids) = refl
 
@@ -79,7 +79,7 @@ retired_step ids id h = (deleted_same ids (Retire id ∷ h)).step
 -- ---- a length
 
 abbrev pub begun : SolverState → SolverState
-begun s = record { book = s.book; vars = s.vars + 1; stage = Begun; failed = false }
+begun s = record { proof = s.proof; vars = s.vars + 1; stage = Begun; failed = false }
 
 module _ (cs : List Clause) (e : Encoded) (k : ℕ) (p : List Bool) (limit c : ℕ) (old : SolverState) (between : IsBetween cs e k p limit c old) where
   abbrev n : ℕ
@@ -88,36 +88,36 @@ module _ (cs : List Clause) (e : Encoded) (k : ℕ) (p : List Bool) (limit c : �
   abbrev due : Clause
   due = length_assumes e k p (c + 1)
 
-  vars_are : old.book.problem.vars ≡ n
+  vars_are : old.proof.problem.vars ≡ n
   vars_are = ap (λ (q : Problem). q.vars) between.tried.problem
 
-  pub guard_is : (guard : Literal) → guard ≡ guard_of old.book.problem (step_of old.book.history) → guard ≡ lit (n + (c + 1)) true
-  guard_is guard is =
-      is ∙ (ap (λ (v : ℕ). lit (v + step_of old.book.history) true) vars_are ∙ ap (λ (m : ℕ). lit (n + m) true) between.number)
+  pub activation_is : (activation : Literal) → activation ≡ activation_of old.proof.problem (step_of old.proof.history) → activation ≡ lit (n + (c + 1)) true
+  activation_is activation is =
+      is ∙ (ap (λ (v : ℕ). lit (v + step_of old.proof.history) true) vars_are ∙ ap (λ (m : ℕ). lit (n + m) true) between.number)
 
-  pub due_is : (guard : Literal) (a : Clause) → guard ≡ guard_of old.book.problem (step_of old.book.history) → a ≡ guard ∷ signed (next_at e c) p → a ≡ due
-  due_is guard a is are =
+  pub due_is : (activation : Literal) (a : Clause) → activation ≡ activation_of old.proof.problem (step_of old.proof.history) → a ≡ activation ∷ signed (next_at e c) p → a ≡ due
+  due_is activation a is are =
       let back : c ≡ (c + 1) - 1 = omega arith in
-      are ∙ (ap (λ (l : Literal). l ∷ signed (next_at e c) p) (guard_is guard is) ∙ ap (λ (m : ℕ). lit (n + (c + 1)) true ∷ signed (next_at e m) p) back)
+      are ∙ (ap (λ (l : Literal). l ∷ signed (next_at e c) p) (activation_is activation is) ∙ ap (λ (m : ℕ). lit (n + (c + 1)) true ∷ signed (next_at e m) p) back)
 
-  -- what the log is about stands, and the guards of the lengths before are retired
-  stands : NoneRefused old.book.problem old.book.history → (d : Clause) → Contains cs d → Contains (standing old.book) d
+  -- what the log is about stands, and the activation literals of the lengths before are retired
+  stands : NoneRefused old.proof.problem old.proof.history → (d : Clause) → Contains cs d → Contains (standing old.proof) d
   stands right d there =
-      axioms_stand_still old.book.problem old.book.history d right (subst (λ (q : Problem). Contains q.clauses d) (sym between.tried.problem) there)
+      axioms_stand_still old.proof.problem old.proof.history d right (subst (λ (q : Problem). Contains q.clauses d) (sym between.tried.problem) there)
 
-  are_retired : NoneRefused old.book.problem old.book.history → (i : ℕ) → 1 ≤ i → i ≤ c →
-      Contains (standing old.book) (negation (guard_of old.book.problem i) ∷ [])
-  are_retired right i from to = guards_stay_retired old.book.problem old.book.history i right from (omega (arith, to, between.number))
+  are_retired : NoneRefused old.proof.problem old.proof.history → (i : ℕ) → 1 ≤ i → i ≤ c →
+      Contains (standing old.proof) (negation (activation_of old.proof.problem i) ∷ [])
+  are_retired right i from to = activations_stay_retired old.proof.problem old.proof.history i right from (omega (arith, to, between.number))
 
   -- the line of the solve was logged, and then these lemmas
   record Searched (s : SolverState) (lines : List Line) : Type 0 where
-    problem : s.book.problem ≡ problem_over cs e k p (c + 1)
-    history : s.book.history ≡ lines ++ Solve ∷ old.book.history
+    problem : s.proof.problem ≡ problem_over cs e k p (c + 1)
+    history : s.proof.history ≡ lines ++ Solve ∷ old.proof.history
     lemmas : Each (λ line. is_lemma_line line ≡ true) lines
     count : length lines ≤ limit
 
-  searched : (s : SolverState) (a : Clause) (lines : List Line) → a ≡ due → s.book.problem ≡ (begun_book true old.book a).problem →
-      s.book.history ≡ lines ++ Solve ∷ old.book.history → Each (λ line. is_lemma_line line ≡ true) lines → length lines ≤ limit → Searched s lines
+  searched : (s : SolverState) (a : Clause) (lines : List Line) → a ≡ due → s.proof.problem ≡ (begun_proof true old.proof a).problem →
+      s.proof.history ≡ lines ++ Solve ∷ old.proof.history → Each (λ line. is_lemma_line line ≡ true) lines → length lines ≤ limit → Searched s lines
   searched s a lines is problem history all count =
       let one : 1 + c ≡ c + 1 = omega arith in
       record {
@@ -132,31 +132,31 @@ module _ (cs : List Clause) (e : Encoded) (k : ℕ) (p : List Bool) (limit c : �
       }
 
   few_then : (lines : List Line) → Each (λ line. is_lemma_line line ≡ true) lines → length lines ≤ limit →
-      HasFewLemmas limit (lines ++ Solve ∷ old.book.history)
-  few_then lines all count = few_lemmas limit lines old.book.history all count between.tried.few
+      HasFewLemmas limit (lines ++ Solve ∷ old.proof.history)
+  few_then lines all count = few_lemmas limit lines old.proof.history all count between.tried.few
 
   -- ---- the end of the step
 
   abbrev gone : SolverState → Option ℕ → List ℕ
-  gone s end = leaving (finished s.book end)
+  gone s end = leaving (finished s.proof end)
 
-  ended_problem : (s new : SolverState) (end : Option ℕ) (lines : List Line) → Searched s lines → (finished s.book end).problem ≡ s.book.problem →
-      HasEnded s new end → new.book.problem ≡ problem_over cs e k p (c + 1)
+  ended_problem : (s new : SolverState) (end : Option ℕ) (lines : List Line) → Searched s lines → (finished s.proof end).problem ≡ s.proof.problem →
+      HasEnded s new end → new.proof.problem ≡ problem_over cs e k p (c + 1)
   ended_problem s new end lines found same ended =
-      ap (λ (b : Book). b.problem) ended.book ∙ (without_problem (retired (finished s.book end)) (gone s end) ∙ (same ∙ found.problem))
+      ap (λ (b : ProofLog). b.problem) ended.proof ∙ (without_problem (retired (finished s.proof end)) (gone s end) ∙ (same ∙ found.problem))
 
   open_history : (s new : SolverState) (lines : List Line) → Searched s lines → HasEnded s new None →
-      new.book.history ≡ delete_lines (gone s None) ++ Retire (next_id s.book) ∷ (lines ++ Solve ∷ old.book.history)
+      new.proof.history ≡ delete_lines (gone s None) ++ Retire (next_id s.proof) ∷ (lines ++ Solve ∷ old.proof.history)
   open_history s new lines found ended =
-      ap (λ (b : Book). b.history) ended.book
-      ∙ (without_history (retired s.book) (gone s None) ∙ ap (λ (h : History). delete_lines (gone s None) ++ Retire (next_id s.book) ∷ h) found.history)
+      ap (λ (b : ProofLog). b.history) ended.proof
+      ∙ (without_history (retired s.proof) (gone s None) ∙ ap (λ (h : History). delete_lines (gone s None) ++ Retire (next_id s.proof) ∷ h) found.history)
 
   -- it has no finish line
   tried_open : (s new : SolverState) (lines : List Line) → Searched s lines → HasEnded s new None → IsTried cs e k p limit (c + 1) c new
   tried_open s new lines found ended =
-      let inner : History = lines ++ Solve ∷ old.book.history in
-      let same = lemmas_same lines old.book.history found.lemmas in
-      let last = deleted_same (gone s None) (Retire (next_id s.book) ∷ inner) in
+      let inner : History = lines ++ Solve ∷ old.proof.history in
+      let same = lemmas_same lines old.proof.history found.lemmas in
+      let last = deleted_same (gone s None) (Retire (next_id s.proof) ∷ inner) in
       record {
         well = ended.well;
         idle = ended.stage;
@@ -164,51 +164,51 @@ module _ (cs : List Clause) (e : Encoded) (k : ℕ) (p : List Bool) (limit c : �
         no_block = subst HasNoBlock (sym (open_history s new lines found ended)) (last.blocks (same.blocks between.tried.no_block));
         finished = ap finished_in (open_history s new lines found ended) ∙ (last.finished ∙ (same.finished ∙ between.tried.finished));
         few = subst (HasFewLemmas limit) (sym (open_history s new lines found ended))
-            (deleted_few limit (gone s None) (Retire (next_id s.book) ∷ inner) (few_then lines found.lemmas found.count));
+            (deleted_few limit (gone s None) (Retire (next_id s.proof) ∷ inner) (few_then lines found.lemmas found.count));
       }
 
-  shown : (s new : SolverState) (a : Clause) (guard : Literal) (values : List (Option Bool)) → NoneRefused old.book.problem old.book.history →
-      a ≡ due → a ≡ guard ∷ signed (next_at e c) p → HasSolved (begun old) s a limit (answers.Found values) → HasEnded s new None →
+  shown : (s new : SolverState) (a : Clause) (activation : Literal) (values : List (Option Bool)) → NoneRefused old.proof.problem old.proof.history →
+      a ≡ due → a ≡ activation ∷ signed (next_at e c) p → HasSolved (begun old) s a limit (answers.Found values) → HasEnded s new None →
       HasShown cs e k p limit c values new
-  shown s new a guard values right is are solved ended =
+  shown s new a activation values right is are solved ended =
       let found = solved.ends in
       let lines : List Line = found.lemmas.lines in
       let got : Searched s lines = searched s a lines is found.lemmas.problem found.lemmas.history (open_are_lemmas _ lines found.lemmas.open_yet)
       (omega (arith, found.lemmas.length_is, found.under)) in
       let v : ℕ → Bool = value_of values in
-      let holds : All (λ l. literal_value v l ≡ true) (guard ∷ signed (next_at e c) p) =
+      let holds : All (λ l. literal_value v l ≡ true) (activation ∷ signed (next_at e c) p) =
       subst (λ (d : Clause). All (λ l. literal_value v l ≡ true) d) (solved.step ∙ are) found.solution.assumptions_met in
       record {
         tried = tried_open s new lines got ended;
-        wide = omega (arith, found.solution.length_is, between.guards);
+        wide = omega (arith, found.solution.length_is, between.activations);
         met = all_from (Satisfies v) cs
-            (λ d there. All-contains (Satisfies v) (standing s.book) d found.solution.clauses_met
+            (λ d there. All-contains (Satisfies v) (standing s.proof) d found.solution.clauses_met
             (solved_keeps (begun old) s a limit (answers.Found values) solved d (stands right d there)));
-        ends = All-tail (λ l. literal_value v l ≡ true) guard (signed (next_at e c) p) holds;
+        ends = All-tail (λ l. literal_value v l ≡ true) activation (signed (next_at e c) p) holds;
       }
 
-  spent : (s new : SolverState) (a : Clause) → NoneRefused old.book.problem old.book.history → a ≡ due →
+  spent : (s new : SolverState) (a : Clause) → NoneRefused old.proof.problem old.proof.history → a ≡ due →
       HasSolved (begun old) s a limit answers.Spent → HasEnded s new None → HasSpent cs e k p limit c new
   spent s new a right is solved ended =
       let lemmas = solved.ends.lemmas in
       let lines : List Line = lemmas.lines in
       let got : Searched s lines = searched s a lines is lemmas.problem lemmas.history (open_are_lemmas _ lines lemmas.open_yet)
       (omega (arith, lemmas.length_is)) in
-      let assumed_is : assumed (begun_book true old.book a) ≡ due = solved.assumed_is ∙ is in
-      let guard_there : Contains due (guard_of old.book.problem (c + 1)) =
+      let assumed_is : assumed (begun_proof true old.proof a) ≡ due = solved.assumed_is ∙ is in
+      let activation_there : Contains due (activation_of old.proof.problem (c + 1)) =
       subst (λ (v : ℕ). Contains due (lit (v + (c + 1)) true)) (sym vars_are) (contains_first (lit (n + (c + 1)) true) _) in
-      let bound : (run : List Literal) → HasVariables old.book.problem.vars run → IsUnitRun cs due run → limit < 2 ^ (old.book.problem.vars - length run) =
-      bound_is old.book.problem cs (standing old.book) due limit c (old.vars + 1) (stands right) (are_retired right) guard_there
-      (omega (arith, between.guards, vars_are))
+      let bound : (run : List Literal) → HasVariables old.proof.problem.vars run → IsUnitRun cs due run → limit < 2 ^ (old.proof.problem.vars - length run) =
+      bound_is old.proof.problem cs (standing old.proof) due limit c (old.vars + 1) (stands right) (are_retired right) activation_there
+      (omega (arith, between.activations, vars_are))
       (λ run unit.
       solved.ends.bound run
-      (subst (λ (ds : List Clause). IsUnitRun ds (assumed (begun_book true old.book a)) run) (sym solved.stands)
-      (subst (λ (d : Clause). IsUnitRun (standing old.book) d run) (sym assumed_is) unit))) in
+      (subst (λ (ds : List Clause). IsUnitRun ds (assumed (begun_proof true old.proof a)) run) (sym solved.stands)
+      (subst (λ (d : Clause). IsUnitRun (standing old.proof) d run) (sym assumed_is) unit))) in
       record {
         tried = tried_open s new lines got ended;
-        earlier = old.book.history;
+        earlier = old.proof.history;
         lemmas = lines;
-        id = next_id s.book;
+        id = next_id s.proof;
         later = delete_lines (gone s None);
         history = open_history s new lines got ended;
         step = between.number;
@@ -224,18 +224,18 @@ module _ (cs : List Clause) (e : Encoded) (k : ℕ) (p : List Bool) (limit c : �
       let r = solved.ends in
       let lines : List Line = Lemma id r.last.lemma r.last.logged.hints ∷ r.before.lines in
       let got : Searched s lines = searched s a lines is
-      (ap (λ (b : Book). b.problem) r.last.logged.book ∙ r.before.problem)
-      (ap (λ (b : Book). b.history) r.last.logged.book
+      (ap (λ (b : ProofLog). b.problem) r.last.logged.proof ∙ r.before.problem)
+      (ap (λ (b : ProofLog). b.history) r.last.logged.proof
       ∙ ap (λ (h : List Line). Lemma id r.last.lemma r.last.logged.hints ∷ h) r.before.history)
       (refl, open_are_lemmas _ r.before.lines r.before.open_yet) (omega (arith, r.before.length_is, r.under)) in
-      let inner : History = lines ++ Solve ∷ old.book.history in
+      let inner : History = lines ++ Solve ∷ old.proof.history in
       let ids : List ℕ = gone s (Some id) in
-      let rid : ℕ = next_id (finished s.book (Some id)) in
-      let same = lemmas_same lines old.book.history got.lemmas in
+      let rid : ℕ = next_id (finished s.proof (Some id)) in
+      let same = lemmas_same lines old.proof.history got.lemmas in
       let last = deleted_same ids (Retire rid ∷ Finish id ∷ inner) in
-      let history : new.book.history ≡ delete_lines ids ++ Retire rid ∷ Finish id ∷ inner =
-      ap (λ (b : Book). b.history) ended.book
-      ∙ (without_history (retired (finished s.book (Some id))) ids ∙ ap (λ (h : History). delete_lines ids ++ Retire rid ∷ Finish id ∷ h) got.history) in
+      let history : new.proof.history ≡ delete_lines ids ++ Retire rid ∷ Finish id ∷ inner =
+      ap (λ (b : ProofLog). b.history) ended.proof
+      ∙ (without_history (retired (finished s.proof (Some id))) ids ∙ ap (λ (h : History). delete_lines ids ++ Retire rid ∷ Finish id ∷ h) got.history) in
       let step : step_of inner ≡ c + 1 = same.step ∙ between.number in
       let one : c + 1 ≡ 1 + c = omega arith in
       record {
@@ -252,32 +252,32 @@ module _ (cs : List Clause) (e : Encoded) (k : ℕ) (p : List Bool) (limit c : �
           few = subst (HasFewLemmas limit) (sym history)
               (deleted_few limit ids (Retire rid ∷ Finish id ∷ inner) (few_then lines got.lemmas got.count));
         };
-        guards = ended.vars ∙ (solved.vars ∙ omega (arith, between.guards));
+        activations = ended.vars ∙ (solved.vars ∙ omega (arith, between.activations));
         number = ap step_of history ∙ (retired_step ids rid (Finish id ∷ inner) ∙ ap (λ (m : ℕ). m + 1) step);
       }
 
-  pub shown_by : (s1 s new : SolverState) (a : Clause) (guard : Literal) (values : List (Option Bool)) →
-      NoneRefused old.book.problem old.book.history → s1 ≡ begun old → guard ≡ guard_of old.book.problem (step_of old.book.history) →
-      a ≡ guard ∷ signed (next_at e c) p → HasSolved s1 s a limit (answers.Found values) → HasEnded s new None → HasShown cs e k p limit c values new
-  shown_by s1 s new a guard values right start is are solved ended =
-      shown s new a guard values right (due_is guard a is are) are
+  pub shown_by : (s1 s new : SolverState) (a : Clause) (activation : Literal) (values : List (Option Bool)) →
+      NoneRefused old.proof.problem old.proof.history → s1 ≡ begun old → activation ≡ activation_of old.proof.problem (step_of old.proof.history) →
+      a ≡ activation ∷ signed (next_at e c) p → HasSolved s1 s a limit (answers.Found values) → HasEnded s new None → HasShown cs e k p limit c values new
+  shown_by s1 s new a activation values right start is are solved ended =
+      shown s new a activation values right (due_is activation a is are) are
       (subst (λ (t : SolverState). HasSolved t s a limit (answers.Found values)) start solved) ended
 
-  pub spent_by : (s1 s new : SolverState) (a : Clause) (guard : Literal) → NoneRefused old.book.problem old.book.history → s1 ≡ begun old →
-      guard ≡ guard_of old.book.problem (step_of old.book.history) →
-      a ≡ guard ∷ signed (next_at e c) p → HasSolved s1 s a limit answers.Spent → HasEnded s new None → HasSpent cs e k p limit c new
-  spent_by s1 s new a guard right start is are solved ended =
-      spent s new a right (due_is guard a is are) (subst (λ (t : SolverState). HasSolved t s a limit answers.Spent) start solved) ended
+  pub spent_by : (s1 s new : SolverState) (a : Clause) (activation : Literal) → NoneRefused old.proof.problem old.proof.history → s1 ≡ begun old →
+      activation ≡ activation_of old.proof.problem (step_of old.proof.history) →
+      a ≡ activation ∷ signed (next_at e c) p → HasSolved s1 s a limit answers.Spent → HasEnded s new None → HasSpent cs e k p limit c new
+  spent_by s1 s new a activation right start is are solved ended =
+      spent s new a right (due_is activation a is are) (subst (λ (t : SolverState). HasSolved t s a limit answers.Spent) start solved) ended
 
-  pub refuted_by : (s1 s new : SolverState) (a : Clause) (guard : Literal) (id : ℕ) → s1 ≡ begun old →
-      guard ≡ guard_of old.book.problem (step_of old.book.history) →
-      a ≡ guard ∷ signed (next_at e c) p → HasSolved s1 s a limit (answers.Refuted id) → HasEnded s new (Some id) → IsBetween cs e k p limit (c + 1) new
-  refuted_by s1 s new a guard id start is are solved ended =
-      refuted s new a id (due_is guard a is are) (subst (λ (t : SolverState). HasSolved t s a limit (answers.Refuted id)) start solved) ended
+  pub refuted_by : (s1 s new : SolverState) (a : Clause) (activation : Literal) (id : ℕ) → s1 ≡ begun old →
+      activation ≡ activation_of old.proof.problem (step_of old.proof.history) →
+      a ≡ activation ∷ signed (next_at e c) p → HasSolved s1 s a limit (answers.Refuted id) → HasEnded s new (Some id) → IsBetween cs e k p limit (c + 1) new
+  refuted_by s1 s new a activation id start is are solved ended =
+      refuted s new a id (due_is activation a is are) (subst (λ (t : SolverState). HasSolved t s a limit (answers.Refuted id)) start solved) ended
 
 pub begun_vars : (cs : List Clause) (e : Encoded) (k : ℕ) (p : List Bool) (b c : ℕ) (old s : SolverState) → IsBetween cs e k p b c old → s ≡ begun old →
     s.vars ≡ k * e.variables + (c + 1)
-begun_vars cs e k p b c old s between is = ap (λ (t : SolverState). t.vars) is ∙ omega (arith, between.guards)
+begun_vars cs e k p b c old s between is = ap (λ (t : SolverState). t.vars) is ∙ omega (arith, between.activations)
 
 -- no line of the log so far is refused
 pub right_in : (q : Problem) (h lines : History) → lines ≡ h → NoneRefused q lines → NoneRefused q h

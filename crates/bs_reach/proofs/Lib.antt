@@ -9,7 +9,7 @@ pub mod StepLemmas
 pub mod LeanLemmas
 pub mod RoomLemmas
 pub mod LogLemmas
-pub mod DenialLemmas
+pub mod FailedAssumptionLemmas
 pub mod RefutedLemmas
 pub mod SoughtLemmas
 pub mod ShownLemmas

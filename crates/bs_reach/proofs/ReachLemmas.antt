@@ -27,14 +27,14 @@ use Rattle.bs_reach.specs.declared.reach.Outcome.{Outcome}
 use Rattle.bs_reach.specs.declared.reach.Outcome.TheVariants as outcomes
 use Rattle.bs_reach.specs.declared.search.End.{End}
 use Rattle.bs_reach.specs.declared.search.End.TheVariants.{Reached, Unreached, Unknown}
-use Rattle.bs_reach.specs.declared.telling.Told.{Told}
+use Rattle.bs_reach.specs.declared.telling.Verdict.{Verdict}
 use Rattle.bs_scan.specs.Moments.{state_at}
 use Rattle.bs_reach_unrolled.specs.Execution.{ReachedIn, NotBefore, IsExecution}
 use Rattle.bs_reach_unrolled.specs.Unrolled.{next_at, unrolled, reach_problem}
 use Rattle.bs_reach_unrolled.specs.Laws.{inputs_shown, SolutionsAreExecutions, FinishedIsNotReached}
 use Rattle.bs_reach.specs.Search.{problem_over, IsTried, IsBetween, fresh_over}
 use Rattle.bs_reach.specs.Ends.{EndsAs}
-use Rattle.bs_reach.specs.Told.{Tells, EndFits}
+use Rattle.bs_reach.specs.Verdict.{Tells, EndFits}
 use Rattle.bs_reach.specs.Reach.{IsReach}
 use Rattle.bs_log.proofs.Finishes.{no_block_reversed}
 
@@ -94,25 +94,25 @@ in_range a n j low high =
     (j - a, rw (length-range_with_len a n) (omega (arith, low, high)), get_or-range_with_len a n (j - a) j (omega (arith, low, high)) ∙ back)
 
 module _ (c : Circuit) (k : ℕ) (p : List Bool) (law : FinishedIsNotReached c (encoding_of c [])) (s : SolverState) (log : List Line)
-    (lines : history_of log ≡ s.book.history) where
+    (lines : history_of log ≡ s.proof.history) where
   abbrev e : Encoded
   e = encoding_of c []
 
   abbrev cs : List Clause
   cs = unrolled e (reset_state c) k
 
-  log_is : log ≡ reverse s.book.history
+  log_is : log ≡ reverse s.proof.history
   log_is = sym (twice log) ∙ ap reverse lines
 
   pub none_in : (b tried refuted : ℕ) → IsTried cs e k p b tried refuted s → HasNoBlock log
-  none_in b tried refuted t = subst HasNoBlock (sym log_is) (no_block_reversed s.book.history t.no_block)
+  none_in b tried refuted t = subst HasNoBlock (sym log_is) (no_block_reversed s.proof.history t.no_block)
 
   not_reached : (b tried refuted : ℕ) → IsTried cs e k p b tried refuted s → tried ≤ k → IsAccepted (problem_over cs e k p tried) log → (j : ℕ) → 1 ≤ j →
       j ≤ refuted → ReachedIn c j p → ⊥
   not_reached b tried refuted t few ok j from to reached =
-      let there : Contains (finished_in s.book.history) j =
+      let there : Contains (finished_in s.proof.history) j =
       subst (λ (ns : List ℕ). Contains ns j) (sym t.finished) (in_range 1 refuted j from (omega (arith, to))) in
-      let spot : Split s.book.history j = split_at s.book.history j there in
+      let spot : Split s.proof.history j = split_at s.proof.history j there in
       let before : List Line = reverse spot.earlier in
       let parts : log ≡ before ++ Finish spot.id ∷ reverse spot.newer =
       log_is ∙ (ap reverse spot.is ∙ (reverse-append spot.newer (Finish spot.id ∷ spot.earlier)
@@ -136,8 +136,8 @@ module _ (c : Circuit) (k : ℕ) (p : List Bool) (law : FinishedIsNotReached c (
     finished : finished_in (history_of log) ≡ range_with_len 1 refuted
     few : HasFewLemmas b (history_of log)
 
-  logged : (b tried refuted : ℕ) → IsTried cs e k p b tried refuted s → (s.failed ≡ false → IsLean s.book.problem (history_of log)) →
-      (s.failed ≡ false → s.stage ≡ Idle → IsAccepted s.book.problem log) →
+  logged : (b tried refuted : ℕ) → IsTried cs e k p b tried refuted s → (s.failed ≡ false → IsLean s.proof.problem (history_of log)) →
+      (s.failed ≡ false → s.stage ≡ Idle → IsAccepted s.proof.problem log) →
       Logged b tried refuted
   logged b tried refuted t lean ok =
       record {
@@ -148,9 +148,9 @@ module _ (c : Circuit) (k : ℕ) (p : List Bool) (law : FinishedIsNotReached c (
         few = subst (HasFewLemmas b) (sym lines) t.few;
       }
 
-  pub reach_is : (b : ℕ) (end : End) (told : Told) → SolutionsAreExecutions c e → length p ≡ length c.flops → reset_state c ≢ p → EndsAs cs e k p b s end →
+  pub reach_is : (b : ℕ) (end : End) (told : Verdict) → SolutionsAreExecutions c e → length p ≡ length c.flops → reset_state c ≢ p → EndsAs cs e k p b s end →
       Tells e end told →
-      (s.failed ≡ false → IsLean s.book.problem (history_of log)) → All HasText log → (s.failed ≡ false → s.stage ≡ Idle → IsAccepted s.book.problem log) →
+      (s.failed ≡ false → IsLean s.proof.problem (history_of log)) → All HasText log → (s.failed ≡ false → s.stage ≡ Idle → IsAccepted s.proof.problem log) →
       IsReach c p k b (record { asked = k; conflicts = b; outcome = told.outcome; states = told.states; inputs = told.inputs; log = log })
   reach_is b (Reached i values) told sound wide other (lt, h) tells lean texts ok =
       let l : Logged b (i + 1) i = logged b (i + 1) i h.tried lean ok in
@@ -275,31 +275,31 @@ never_is c p b states inputs log other l =
 -- ---- the start of a search
 
 pub starts_between : (cs : List Clause) (e : Encoded) (k : ℕ) (p : List Bool) (b : ℕ) (s : SolverState) → s ≡ fresh_over cs e k →
-    IsBetween s.book.problem.clauses e k p b 0 s
+    IsBetween s.proof.problem.clauses e k p b 0 s
 starts_between cs e k p b s is =
-    subst (λ (t : SolverState). IsBetween t.book.problem.clauses e k p b 0 t) (sym is)
+    subst (λ (t : SolverState). IsBetween t.proof.problem.clauses e k p b 0 t) (sym is)
     (record {
       tried = record { well = refl; idle = refl; problem = refl; no_block = refl; finished = refl; few = tt };
-      guards = omega arith;
+      activations = omega arith;
       number = refl;
     })
 
 pub ends_over : (cs : List Clause) (e : Encoded) (k : ℕ) (p : List Bool) (b : ℕ) (s1 s : SolverState) (end : End) → s1 ≡ fresh_over cs e k →
-    EndsAs s1.book.problem.clauses e k p b s end → EndsAs cs e k p b s end
-ends_over ds e k p b s1 s end is h = subst (λ (t : SolverState). EndsAs t.book.problem.clauses e k p b s end) is h
+    EndsAs s1.proof.problem.clauses e k p b s end → EndsAs cs e k p b s end
+ends_over ds e k p b s1 s end is h = subst (λ (t : SolverState). EndsAs t.proof.problem.clauses e k p b s end) is h
 
 pub end_fits : (cs : List Clause) (e : Encoded) (k : ℕ) (p : List Bool) (b : ℕ) (s : SolverState) (end : End) → EndsAs cs e k p b s end → EndFits e k end
 end_fits ds e k p b s (Reached c values) h = (h.0, h.1.wide)
 end_fits ds e k p b s Unreached h = tt
 end_fits ds e k p b s (Unknown c) h = h.0
 
-pub look_is : (c : Circuit) (k b : ℕ) (p reset : List Bool) (enc : Encoded) (s1 s : SolverState) (log : List Line) (end : End) (told : Told) →
+pub look_is : (c : Circuit) (k b : ℕ) (p reset : List Bool) (enc : Encoded) (s1 s : SolverState) (log : List Line) (end : End) (told : Verdict) →
     enc ≡ encoding_of c [] → reset ≡ reset_state c →
     FinishedIsNotReached c (encoding_of c []) → SolutionsAreExecutions c (encoding_of c []) → length p ≡ length c.flops → reset_state c ≢ p →
     s1 ≡ fresh_over (unrolled enc reset k) enc k →
-    EndsAs s1.book.problem.clauses enc k p b s end → Tells enc end told → history_of log ≡ s.book.history →
-    (s.failed ≡ false → IsLean s.book.problem (history_of log)) → All HasText log →
-    (s.failed ≡ false → s.stage ≡ Idle → IsAccepted s.book.problem log) →
+    EndsAs s1.proof.problem.clauses enc k p b s end → Tells enc end told → history_of log ≡ s.proof.history →
+    (s.failed ≡ false → IsLean s.proof.problem (history_of log)) → All HasText log →
+    (s.failed ≡ false → s.stage ≡ Idle → IsAccepted s.proof.problem log) →
     IsReach c p k b (record { asked = k; conflicts = b; outcome = told.outcome; states = told.states; inputs = told.inputs; log = log })
 look_is c k b p reset enc s1 s log end told is starts law sound wide other fresh ends tells lines lean texts ok =
     let over : EndsAs (unrolled enc reset k) enc k p b s end = ends_over (unrolled enc reset k) enc k p b s1 s end fresh ends in

@@ -9,7 +9,7 @@ use Rattle.bs_clause.specs.Literal.{Literal, Clause, negation, same_literal}
 use Rattle.bs_log.specs.declared.line.Line.{Line}
 use Rattle.bs_log.specs.declared.line.Line.TheVariants.{Solve, Lemma, Block, Finish, Retire, Delete}
 use Rattle.bs_log.specs.declared.phase.Phase.{Phase}
-use Rattle.bs_log.specs.History.{Problem, History, Entry, live, last_id, phase_of, step_of, state_of, guard_of}
+use Rattle.bs_log.specs.History.{Problem, History, Entry, live, last_id, phase_of, step_of, state_of, activation_of}
 use Rattle.bs_log.specs.Propagation.{hints_are_unit, last_is_false}
 use Rattle.bs_log.specs.Refusal.{NoneRefused, entry_of, clauses_of, passes, is_lemma, is_lemma_or_block, is_block_of, denies, assumptions_of, is_ascending, in_solve, is_after_block, is_after_retire, is_between_steps, is_complete}
 use Rattle.bs_log.proofs.Laws.{step_of-positive}
@@ -20,7 +20,7 @@ use Rattle.bs_reach.specs.Renamed.{new_id, new_variable, new_literal, new_clause
 use Rattle.bs_reach.specs.Widened.{IsWidened}
 use Rattle.bs_reach.proofs.ShiftLemmas.{IsShift, same_test, less_id, variable_place, VariablePlace, same_new_literal}
 use Rattle.bs_reach.proofs.PropagationLemmas.{same_distinct, same_denies, same_some, still_unit, still_false}
-use Rattle.bs_reach.proofs.EntryLemmas.{new_entry, new_lines, same_step, new_guard}
+use Rattle.bs_reach.proofs.EntryLemmas.{new_entry, new_lines, same_step, new_activation}
 use Rattle.bs_reach.proofs.AxiomLemmas.{shift_is}
 use Rattle.bs_reach.proofs.StateLemmas.{same_phase, named, new_hints, next_still}
 
@@ -77,10 +77,10 @@ module _ (s : Shift) (p q : Problem) (w : IsWidened s p q) where
   still_block h [] = refl
   still_block h (l ∷ c) =
       let within : Bool = list_all (λ (m : Literal). leb m.variable q.vars) (new_clause s c) in
-      ap (λ n. same_literal (new_literal s l) (negation (guard_of q n)) && within) (same_step s h)
-      ∙ (ap (λ (g : Literal). same_literal (new_literal s l) (negation g) && within) (new_guard s p q w.vars_stay w.vars_go (step_of h) (step_of-positive h))
-      ∙ (ap (λ t. t && within) (same_new_literal s l (negation (guard_of p (step_of h))))
-      ∙ ap (λ t. same_literal l (negation (guard_of p (step_of h))) && t) (all_below c)))
+      ap (λ n. same_literal (new_literal s l) (negation (activation_of q n)) && within) (same_step s h)
+      ∙ (ap (λ (g : Literal). same_literal (new_literal s l) (negation g) && within) (new_activation s p q w.vars_stay w.vars_go (step_of h) (step_of-positive h))
+      ∙ (ap (λ t. t && within) (same_new_literal s l (negation (activation_of p (step_of h))))
+      ∙ ap (λ t. same_literal l (negation (activation_of p (step_of h))) && t) (all_below c)))
 
   -- ---- names
 

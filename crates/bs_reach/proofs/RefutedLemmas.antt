@@ -12,22 +12,22 @@ use Rattle.bs_clause.specs.Range.{IsWithin, HasVariables}
 use Rattle.bs_log.specs.declared.line.Line.{Line}
 use Rattle.bs_log.specs.declared.line.Line.TheVariants.{Solve, Lemma, Finish, Retire}
 use Rattle.bs_log.specs.declared.origin.Origin.TheVariants.{Learnt, Retired}
-use Rattle.bs_log.specs.History.{Problem, History, Entry, axioms_from, is_deleted, live, state_of, phase_of, step_of, guard_of}
+use Rattle.bs_log.specs.History.{Problem, History, Entry, axioms_from, is_deleted, live, state_of, phase_of, step_of, activation_of}
 use Rattle.bs_log.specs.Refusal.{assumptions_of, denies, entry_of, clauses_of, passes, is_lemma, is_lemma_or_block, in_order, is_between_steps, is_after_block}
-use Rattle.bs_log.specs.Kept.{is_kept, is_free_lemma, has_retired_guard, is_long, newer_long}
+use Rattle.bs_log.specs.Kept.{is_kept, is_free_lemma, has_retired_activation, is_long, newer_long}
 use Rattle.bs_log.specs.Lean.{StepsLeaveKept}
 use Rattle.bs_log.specs.LineForms.{HasVariable}
 use Rattle.bs_log.proofs.Histories.{same_live, with_step}
 use Rattle.bs_solve_reduction.proofs.Deletions.{nothing_leaves_kept}
 use Rattle.bs_solve_analysis.proofs.Clauses.{nothing_in, contains_cases, contains_first, cons_contains, all_from, map_contains}
-use Rattle.bs_solve_recording.specs.Book.{Book, IsRecorded, lemma_ids, with_line, with_lemma}
-use Rattle.bs_solve_recording.proofs.Books.{recorded_solve, recorded_lemma, recorded_finish, recorded_retire, lemma_stands, retired_stands}
+use Rattle.bs_solve_recording.specs.ProofLog.{ProofLog, IsRecorded, lemma_ids, with_line, with_lemma}
+use Rattle.bs_solve_recording.proofs.ProofLogs.{recorded_solve, recorded_lemma, recorded_finish, recorded_retire, lemma_stands, retired_stands}
 use Rattle.bs_solve_recording.proofs.Entries.{found_last, found_stands}
 use Rattle.bs_solve_recording.proofs.Leavings.{leaves_begun}
 use Rattle.bs_solve_recording.proofs.Lines.{recorded_member}
 use Rattle.bs_solve_recording.proofs.Standing.{learnt_of_axioms}
-use Rattle.bs_solve.specs.declared.denying.Denial.{Denial}
-use Rattle.bs_solve.specs.Denying.{Denies}
+use Rattle.bs_solve.specs.declared.failure.FailedAssumption.{FailedAssumption}
+use Rattle.bs_solve.specs.Failure.{FailsBy}
 use Rattle.bs_solve.proofs.Startings.{axiom_clauses}
 use Rattle.bs_encode.specs.Encoded.{Encoded}
 use Rattle.bs_reach_unrolled.specs.Unrolled.{unrolled, length_assumes}
@@ -66,10 +66,10 @@ any_of P (x ∷ xs) (suc n, y, h, e, p) = let r = any_of P xs (n, y, omega (arit
 
 -- a lemma of one literal of the clauses' own variables is kept
 module _ (q : Problem) where
-  no_guard : (step : ℕ) (c : Clause) → AllByRecursion (IsWithin q.vars) c → has_retired_guard q step c ≡ false
-  no_guard step [] all = refl
-  no_guard step (l ∷ c) all =
-      ap (λ t. t && leb l.variable (q.vars + step) || has_retired_guard q step c) (le-ltb q.vars l.variable (omega (arith, all.0.1))) ∙ no_guard step c all.1
+  no_activation : (step : ℕ) (c : Clause) → AllByRecursion (IsWithin q.vars) c → has_retired_activation q step c ≡ false
+  no_activation step [] all = refl
+  no_activation step (l ∷ c) all =
+      ap (λ t. t && leb l.variable (q.vars + step) || has_retired_activation q step c) (le-ltb q.vars l.variable (omega (arith, all.0.1))) ∙ no_activation step c all.1
 
   short : (c : Clause) (e : Entry) → e.literals ≡ c → length c < 2 → is_long e ≡ false
   short c e is few = ap (λ (d : Clause). is_long (record { id = e.id; origin = e.origin; literals = d })) is ∙ le-ltb 8 (length c) (omega (arith, few))
@@ -77,7 +77,7 @@ module _ (q : Problem) where
   own_kept : (e : Entry) → e.origin ≡ Learnt → length e.literals < 2 → AllByRecursion (IsWithin q.vars) e.literals →
       (step : ℕ) (entries : List Entry) → is_kept q step entries e ≡ true
   own_kept e learnt few own step entries =
-      and_from (is_free_lemma q step e) (not (is_long e) || nat_lt (newer_long q step entries e) 20000) (and_from (is_lemma e) (not (has_retired_guard q step e.literals)) (lemma e learnt) (ap not (no_guard step e.literals own)))
+      and_from (is_free_lemma q step e) (not (is_long e) || nat_lt (newer_long q step entries e) 20000) (and_from (is_lemma e) (not (has_retired_activation q step e.literals)) (lemma e learnt) (ap not (no_activation step e.literals own)))
       (ap (λ t. not t || nat_lt (newer_long q step entries e) 20000) (short e.literals e refl few))
     where
       lemma : (x : Entry) → x.origin ≡ Learnt → is_lemma x ≡ true
@@ -110,7 +110,7 @@ module _ (e : Encoded) (reset p : List Bool) (k b : ℕ) (u : IsUnrollable e k) 
   q n = problem_over (unrolled e reset k) e k p n
 
   -- the literal of a lemma is of the clauses' own variables
-  own : (a : Clause) (d : Denial) → Denies (unrolled e reset k) a d → HasVariables (k * e.variables) d.lits
+  own : (a : Clause) (d : FailedAssumption) → FailsBy (unrolled e reset k) a d → HasVariables (k * e.variables) d.lits
   own a d r = all_from (IsWithin (k * e.variables)) d.lits (λ l there.
       let (c, in_hints, in_c) = any_of (λ x. Contains x l) (clauses_of (axioms_from 1 (unrolled e reset k)) d.hints) ((r.learnt.resolvent.literals l).0 there).0 in
       let in_all : Contains (unrolled e reset k) c =
@@ -178,7 +178,7 @@ module _ (e : Encoded) (reset p : List Bool) (k b : ℕ) (u : IsUnrollable e k) 
       AllByRecursion (IsPlain (q n)) (live (q n) h) → AllByRecursion (IsPlain (q n)) (live (q n) (Retire id ∷ h))
   ended_plain n last id ids h r is plain =
       subst (AllByRecursion (IsPlain (q n))) (sym (retired_stands (record { problem = q n; history = h }) id r.kept (is ∙ ap (λ m. m + 1) r.last_is)))
-      (push_plain (q n) (live (q n) h) (record { id = id; origin = Retired; literals = negation (guard_of (q n) (step_of h)) ∷ [] }) plain
+      (push_plain (q n) (live (q n) h) (record { id = id; origin = Retired; literals = negation (activation_of (q n) (step_of h)) ∷ [] }) plain
       (λ other. absurd (false≢true other)))
 
   ended_leaves : (n id : ℕ) (h : History) → AllByRecursion (IsPlain (q n)) (live (q n) (Retire id ∷ h)) → StepsLeaveKept (q n) h →
@@ -189,10 +189,10 @@ module _ (e : Encoded) (reset p : List Bool) (k b : ℕ) (u : IsUnrollable e k) 
     leaves,
   )
 
-  pub refuted_more : (c last : ℕ) (h : History) (d : Denial) → AreRefuted e reset p k b c last h → last + 2 < 2 ^ 64 →
-      Denies (unrolled e reset k) (length_assumes e k p (c + 1)) d →
+  pub refuted_more : (c last : ℕ) (h : History) (d : FailedAssumption) → AreRefuted e reset p k b c last h → last + 2 < 2 ^ 64 →
+      FailsBy (unrolled e reset k) (length_assumes e k p (c + 1)) d →
       AreRefuted e reset p k b (c + 1) (last + 2) (Retire (last + 1 + 1) ∷ Finish (last + 1) ∷ Lemma (last + 1) d.lits d.hints ∷ Solve ∷ h)
-  refuted_more c last h d r room denial = record {
+  refuted_more c last h d r room failed_assumption = record {
     tried = record {
       ids = ids;
       recorded = subst (λ n. IsRecorded n ids b4) (let z : last + 1 + 1 ≡ last + 2 = omega arith in z) r4;
@@ -211,36 +211,36 @@ module _ (e : Encoded) (reset p : List Bool) (k b : ℕ) (u : IsUnrollable e k) 
       f : Ready c last r.tried.ids h
       f = ready c last h r
 
-      b0 : Book
+      b0 : ProofLog
       b0 = record { problem = q (c + 1); history = h }
 
-      b1 : Book
+      b1 : ProofLog
       b1 = with_line b0 Solve
 
-      b2 : Book
+      b2 : ProofLog
       b2 = with_lemma b1 (last + 1) d.lits d.hints
 
-      b3 : Book
+      b3 : ProofLog
       b3 = with_line b2 (Finish (last + 1))
 
-      b4 : Book
+      b4 : ProofLog
       b4 = with_line b3 (Retire (last + 1 + 1))
 
       ids : List ℕ
       ids = r.tried.ids ++ (last + 1) ∷ []
 
       range : HasVariables (k * e.variables) d.lits
-      range = own (length_assumes e k p (c + 1)) d denial
+      range = own (length_assumes e k p (c + 1)) d failed_assumption
 
       r1 : IsRecorded last r.tried.ids b1
       r1 = recorded_solve last r.tried.ids b0 f.recorded f.order
 
       ends : denies (assumptions_of (q (c + 1)) (step_of h)) d.lits ≡ true
-      ends = ap (λ a. denies a d.lits) f.assumed ∙ denial.ends
+      ends = ap (λ a. denies a d.lits) f.assumed ∙ failed_assumption.ends
 
       r2 : IsRecorded (last + 1) ids b2
       r2 = recorded_lemma last (last + 1) r.tried.ids b1 d.lits d.hints r1 refl (omega (arith, room)) refl
-          (learnt_of_axioms (q (c + 1)) (Solve ∷ h) d.lits d.hints r1.kept.right denial.learnt)
+          (learnt_of_axioms (q (c + 1)) (Solve ∷ h) d.lits d.hints r1.kept.right failed_assumption.learnt)
           (all_from HasVariable d.lits (λ l there.
           let w = All-contains (IsWithin (k * e.variables)) d.lits l range there in
           let most = u.room in (w.0, let z = w.1 in omega (arith, z, most))))
@@ -266,7 +266,7 @@ module _ (e : Encoded) (reset p : List Bool) (k b : ℕ) (u : IsUnrollable e k) 
       plain = ended_plain (c + 1) (last + 1) (last + 1 + 1) ids b3.history r3 refl
           (subst (AllByRecursion (IsPlain (q (c + 1)))) (sym stands)
           (push_plain (q (c + 1)) (live (q (c + 1)) b1.history) entry f.plain
-          (λ some. own_kept (q (c + 1)) entry refl denial.few (recursion_from_All (IsWithin (k * e.variables)) d.lits range))))
+          (λ some. own_kept (q (c + 1)) entry refl failed_assumption.few (recursion_from_All (IsWithin (k * e.variables)) d.lits range))))
 
   -- a further length, which is tried and not refuted
   pub tried_more : (c last : ℕ) (h : History) → AreRefuted e reset p k b c last h → last + 1 < 2 ^ 64 →
@@ -285,14 +285,14 @@ module _ (e : Encoded) (reset p : List Bool) (k b : ℕ) (u : IsUnrollable e k) 
       f : Ready c last r.tried.ids h
       f = ready c last h r
 
-      b1 : Book
+      b1 : ProofLog
       b1 = with_line (record { problem = q (c + 1); history = h }) Solve
 
       r1 : IsRecorded last r.tried.ids b1
       r1 = recorded_solve last r.tried.ids (record { problem = q (c + 1); history = h }) f.recorded f.order
 
 -- the lines of a length at the end of a log
-pub more_lines : (log : List Line) (id : ℕ) (d : Denial) →
+pub more_lines : (log : List Line) (id : ℕ) (d : FailedAssumption) →
     reverse (log ++ step_lines id d) ≡ Retire (id + 1) ∷ Finish id ∷ Lemma id d.lits d.hints ∷ Solve ∷ reverse log
 more_lines log id d = reverse-append log (step_lines id d)
 

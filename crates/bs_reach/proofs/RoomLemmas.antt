@@ -11,7 +11,7 @@ use Rattle.bs_clause.specs.Range.{IsWithin, HasVariables}
 use Rattle.bs_clause.proofs.Literals.{same_literal-true}
 use Rattle.bs_log.specs.declared.line.Line.{Line}
 use Rattle.bs_log.specs.declared.line.Line.TheVariants.{Solve, Lemma, Block, Finish, Retire, Delete}
-use Rattle.bs_log.specs.History.{Problem, History, Entry, axioms_from, added, live, is_deleted, last_id, phase_of, step_of, state_of, guard_of}
+use Rattle.bs_log.specs.History.{Problem, History, Entry, axioms_from, added, live, is_deleted, last_id, phase_of, step_of, state_of, activation_of}
 use Rattle.bs_log.specs.Lean.{IsResolventOf, LemmasAreLean}
 use Rattle.bs_log.specs.Refusal.{NoneRefused, entry_of, clauses_of, passes, is_lemma, is_lemma_or_block, is_block_of, in_solve, is_between_steps}
 use Rattle.bs_log.proofs.Elements.{AllByRecursion-find, AllByRecursion-filter}
@@ -71,8 +71,8 @@ rest_below v m (l ∷ c) le all =
 block_below : (p : Problem) (step m : ℕ) (c : Clause) → p.vars + step ≤ m → is_block_of p step c ≡ true → AllByRecursion (AtMost m) c
 block_below p step m [] le fits = absurd (false≢true fits)
 block_below p step m (first ∷ rest) le fits =
-    let parts = and_parts (same_literal first (negation (guard_of p step))) (list_all (λ (l : Literal). leb l.variable p.vars) rest) fits in
-    let is : first.variable ≡ p.vars + step = ap (λ (l : Literal). l.variable) (same_literal-true first (negation (guard_of p step)) parts.0) in
+    let parts = and_parts (same_literal first (negation (activation_of p step))) (list_all (λ (l : Literal). leb l.variable p.vars) rest) fits in
+    let is : first.variable ≡ p.vars + step = ap (λ (l : Literal). l.variable) (same_literal-true first (negation (activation_of p step)) parts.0) in
     (omega (arith, is, le), rest_below p.vars m rest (omega (arith, le)) parts.1)
 
 module _ (p : Problem) (range : AllByRecursion (HasVariables p.vars) p.clauses) where
@@ -106,7 +106,7 @@ module _ (p : Problem) (range : AllByRecursion (HasVariables p.vars) p.clauses) 
   added_below (Retire id ∷ h) right lean =
       let r = right_from_none p (state_of p h) (Retire id) right.0 in
       let inside = retire_inside h (eqb id (last_id p h + 1)) right.1 r.order in
-      let unit : Clause = negation (guard_of p (step_of h)) ∷ [] in
+      let unit : Clause = negation (activation_of p (step_of h)) ∷ [] in
       push_one (Below top) (added p h) _ (added_below h right.1 lean)
       (All-from_recursion (AtMost top) unit (omega (arith, inside), tt))
 

@@ -12,14 +12,14 @@ use Rattle.bs_log.specs.Lean.{IsLean}
 use Rattle.bs_log.specs.LineForms.{HasText}
 use Rattle.bs_solve_recording.specs.declared.stage.Stage.TheVariants.{Idle}
 use Rattle.bs_solve_recording.specs.Solver.{SolverState}
-use Rattle.bs_solve_recording.proofs.Books.{texts_in_order}
+use Rattle.bs_solve_recording.proofs.ProofLogs.{texts_in_order}
 use Rattle.bs_encode.specs.Encoded.{Encoded, encoding_of}
 use Rattle.bs_reach_unrolled.specs.Unrolled.{unrolled, length_assumes}
 use Rattle.bs_reach_unrolled.specs.Laws.{SolutionsAreExecutions, FinishedIsNotReached}
 use Rattle.bs_reach.specs.declared.reach.Reach.{Reach}
 use Rattle.bs_reach.specs.declared.reach.Outcome.TheVariants.{Unreached}
 use Rattle.bs_reach.specs.declared.search.End.TheVariants as ends
-use Rattle.bs_reach.specs.declared.telling.Told.{Told}
+use Rattle.bs_reach.specs.declared.telling.Verdict.{Verdict}
 use Rattle.bs_reach.specs.Reach.{IsReach}
 use Rattle.bs_reach.specs.Search.{problem_over, fresh_over, IsTried, IsBetween}
 use Rattle.bs_reach.specs.Sought.{HasSought}
@@ -30,7 +30,7 @@ use Rattle.bs_reach.proofs.RefutedLemmas.{length_range}
 -- the state that a solver would be in behind a log of so many lengths
 abbrev pub state_behind : Encoded → List Bool → List Bool → ℕ → ℕ → List Line → SolverState
 state_behind e reset p k count log = record {
-  book = record { problem = problem_over (unrolled e reset k) e k p count; history = reverse log };
+  proof = record { problem = problem_over (unrolled e reset k) e k p count; history = reverse log };
   vars = k * e.variables + count;
   stage = Idle;
   failed = false;
@@ -60,13 +60,13 @@ behind e reset p k b count refuted log l =
       };
     }
 
-pub refuted_sought : (e : Encoded) (reset p : List Bool) (k b : ℕ) (log : List Line) (told : Told) (r : Reach) → told.outcome ≡ Unreached →
+pub refuted_sought : (e : Encoded) (reset p : List Bool) (k b : ℕ) (log : List Line) (told : Verdict) (r : Reach) → told.outcome ≡ Unreached →
     r ≡ record { asked = k; conflicts = b; outcome = told.outcome; states = told.states; inputs = told.inputs; log = log } →
     IsLogOfLengths e reset p k b k k log → HasSought e reset p k b r
 refuted_sought e reset p k b log told r unreached is l =
     let known : Behind e reset p k b k k log = behind e reset p k b k k log l in
     let between : IsBetween (unrolled e reset k) e k p b k (state_behind e reset p k k log) =
-    record { tried = known.tried; guards = refl; number = l.tried.step } in
+    record { tried = known.tried; activations = refl; number = l.tried.step } in
     subst (HasSought e reset p k b) (sym is) (record {
       start = fresh_over (unrolled e reset k) e k;
       solver = state_behind e reset p k k log;

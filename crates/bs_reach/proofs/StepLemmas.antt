@@ -10,7 +10,7 @@ use Rattle.bs_log.specs.declared.line.Line.TheVariants.{Solve, Lemma, Block, Fin
 use Rattle.bs_log.specs.declared.origin.Origin.TheVariants.{Axiom}
 use Rattle.bs_log.specs.History.{Problem, History, Entry, axioms_from, live, step_of}
 use Rattle.bs_log.specs.Refusal.{is_lemma}
-use Rattle.bs_log.specs.Kept.{has_retired_guard, is_free_lemma, is_long, newer_long, is_kept, kept_lemmas}
+use Rattle.bs_log.specs.Kept.{has_retired_activation, is_free_lemma, is_long, newer_long, is_kept, kept_lemmas}
 use Rattle.bs_log.specs.Lean.{is_block, LeavesKept, StepsLeaveKept}
 use Rattle.bs_reach.specs.declared.shift.Shift.{Shift}
 use Rattle.bs_reach.specs.Renamed.{new_id, new_variable, new_literal, new_clause}
@@ -69,7 +69,7 @@ module _ (s : Shift) (p q : Problem) (w : IsWidened s p q) where
       ∙ (filter-append t (axioms_left p h) (own_left p h)
       ∙ ap (λ (es : List Entry). es ++ filter t (own_left p h)) (passes_none t (stands h) none_t 1 p.clauses))))))))
 
-  -- ---- guards of earlier steps
+  -- ---- activation literals of earlier steps
 
   abbrev IsRetired : Problem → ℕ → ℕ → Bool
   IsRetired r step v = ltb r.vars v && leb v (r.vars + step)
@@ -91,10 +91,10 @@ module _ (s : Shift) (p q : Problem) (w : IsWidened s p q) where
       (λ t. le-leb new (q.vars + step) (let le = leb-true v (p.vars + step) t in omega (arith, le, a.1, go))) in
       ap (λ t. t && leb new (q.vars + step)) above ∙ ap (λ t. ltb p.vars v && t) below
 
-  same_retired : (step : ℕ) (c : Clause) → has_retired_guard q step (new_clause s c) ≡ has_retired_guard p step c
+  same_retired : (step : ℕ) (c : Clause) → has_retired_activation q step (new_clause s c) ≡ has_retired_activation p step c
   same_retired step [] = refl
   same_retired step (l ∷ c) =
-      ap (λ t. t || has_retired_guard q step (new_clause s c)) (retired_at step l.variable (new_variable s l.variable) (variable_place s l.variable))
+      ap (λ t. t || has_retired_activation q step (new_clause s c)) (retired_at step l.variable (new_variable s l.variable) (variable_place s l.variable))
       ∙ ap (λ t. IsRetired p step l.variable || t) (same_retired step c)
 
   -- ---- lemmas that are kept

@@ -1,4 +1,4 @@
--- The unrolled clauses of k cycles are those of j cycles with more copies and more links.
+-- The unrolled clauses of k cycles are those of j cycles with more time frames and more links.
 use Rattle.std.proofs.Common.{◌≡◌, ℕ, zero, suc, ◌+◌, ◌-◌, ◌*◌, ◌<◌, ◌≤◌, Bool, true, false, List, [], ◌∷◌, ◌++◌, map, length, refl, ap, sym, subst, ◌∙◌, ◌⊎◌, inl, inr, arith}
 use Rattle.std.specs.Prelude.{Any, Contains}
 use Rattle.std.specs.List.{AllByRecursion, range_with_len, flat_map}
@@ -13,14 +13,14 @@ use Rattle.bs_log.specs.History.{Problem}
 use Rattle.bs_encode.specs.Tables.{lit}
 use Rattle.bs_encode.specs.Encoded.{Encoded}
 use Rattle.bs_encode.specs.Assuming.{signed}
-use Rattle.bs_encode.specs.Copy.{raised, raised_all, links}
-use Rattle.bs_encode.proofs.CopyLemmas.{raised_within, length-raised_all}
+use Rattle.bs_encode.specs.Frame.{raised, raised_all, links}
+use Rattle.bs_encode.proofs.FrameLemmas.{raised_within, length-raised_all}
 use Rattle.bs_encode.proofs.DistinctLemmas.{signed_all}
 use Rattle.bs_encode.proofs.RangeLemmas.{InRange}
 use Rattle.bs_solve_analysis.proofs.Clauses.{nothing_in, contains_first, cons_contains, contains_cases, all_from, map_cases, map_contains, any_first, any_later}
-use Rattle.bs_reach_unrolled.specs.Unrolled.{base_of, copy_of, states_at, next_at, links_of, reset_units, unrolled, length_assumes, reach_problem}
+use Rattle.bs_reach_unrolled.specs.Unrolled.{base_of, frame_of, states_at, next_at, links_of, reset_units, unrolled, length_assumes, reach_problem}
 use Rattle.bs_reach_unrolled.specs.Room.{IsUnrollable}
-use Rattle.bs_reach_unrolled.proofs.UnrollLemmas.{copies_fit}
+use Rattle.bs_reach_unrolled.proofs.UnrollLemmas.{frames_fit}
 use Rattle.bs_reach_unrolled.proofs.UnrolledLemmas.{unrolled_range}
 use Rattle.bs_reach.specs.declared.shift.Shift.{Shift}
 use Rattle.bs_reach.specs.Renamed.{new_variable, new_literal, new_clause}
@@ -120,13 +120,13 @@ module _ (e : Encoded) (reset : List Bool) (p : List Bool) (j k count : ℕ) (u 
   s = shift_between e j k
 
   abbrev head : List Clause
-  head = flat_map (copy_of e) (range_with_len 0 j)
+  head = flat_map (frame_of e) (range_with_len 0 j)
 
   abbrev tail : List Clause
   tail = reset_units e reset j ++ flat_map (links_of e) (range_with_len 0 (j - 1))
 
   abbrev more : List Clause
-  more = flat_map (copy_of e) (range_with_len j (k - j))
+  more = flat_map (frame_of e) (range_with_len j (k - j))
 
   abbrev later : List Clause
   later = flat_map (links_of e) (range_with_len (j - 1) (k - j))
@@ -146,11 +146,11 @@ module _ (e : Encoded) (reset : List Bool) (p : List Bool) (j k count : ℕ) (u 
   wide_is =
       let R : List Clause = reset_units e reset j in
       let L : List Clause = flat_map (links_of e) (range_with_len 0 (j - 1)) in
-      let copies : flat_map (copy_of e) (range_with_len 0 k) ≡ head ++ more =
-      flat_split (copy_of e) 0 j (k - j) j k (omega arith) (omega (arith, fewer)) in
+      let frames : flat_map (frame_of e) (range_with_len 0 k) ≡ head ++ more =
+      flat_split (frame_of e) 0 j (k - j) j k (omega arith) (omega (arith, fewer)) in
       let between : flat_map (links_of e) (range_with_len 0 (k - 1)) ≡ L ++ later =
       flat_split (links_of e) 0 (j - 1) (k - j) (j - 1) (k - 1) (omega arith) (omega (arith, fewer, some)) in
-      ap (λ (cs : List Clause). cs ++ (reset_units e reset k ++ flat_map (links_of e) (range_with_len 0 (k - 1)))) copies
+      ap (λ (cs : List Clause). cs ++ (reset_units e reset k ++ flat_map (links_of e) (range_with_len 0 (k - 1)))) frames
       ∙ (ap (λ (cs : List Clause). (head ++ more) ++ (cs ++ flat_map (links_of e) (range_with_len 0 (k - 1))))
       (same_units k j (omega (arith, some, fewer)) some)
       ∙ (ap (λ (cs : List Clause). (head ++ more) ++ (R ++ cs)) between
@@ -185,7 +185,7 @@ module _ (e : Encoded) (reset : List Bool) (p : List Bool) (j k count : ℕ) (u 
       clause_stays_by_recursion (signed (next_at e c) p)
       (signed_all (InRange (j * e.variables)) (next_at e c) p
       (raised_within (base_of e c) e.variables (j * e.variables) e.next (recursion_from_All (IsWithin e.variables) e.next u.next)
-      (copies_fit e.variables j c lt)))
+      (frames_fit e.variables j c lt)))
     where
       clause_stays_by_recursion : (c : Clause) → AllByRecursion (IsWithin (j * e.variables)) c → new_clause s c ≡ c
       clause_stays_by_recursion c all = clause_stays s (j * e.variables) c (omega arith) (All-from_recursion (IsWithin (j * e.variables)) c all)
@@ -194,10 +194,10 @@ module _ (e : Encoded) (reset : List Bool) (p : List Bool) (j k count : ℕ) (u 
   step_goes i low high =
       let above : s.vars < j * e.variables + i = omega (arith, low) in
       let climbs : new_variable s (j * e.variables + i) ≡ j * e.variables + i + (k - j) * e.variables = variable_climbs s (j * e.variables + i) above in
-      let guard : lit (k * e.variables + i) true ≡ new_literal s (lit (j * e.variables + i) true) =
+      let activation : lit (k * e.variables + i) true ≡ new_literal s (lit (j * e.variables + i) true) =
       literal_from_parts (lit (k * e.variables + i) true) (new_literal s (lit (j * e.variables + i) true)) (omega (arith, climbs, more_variables)) refl in
       let rest : signed (next_at e (i - 1)) p ≡ new_clause s (signed (next_at e (i - 1)) p) = sym (shown_stays (i - 1) (omega (arith, low, high))) in
-      ap (λ (g : Literal). g ∷ signed (next_at e (i - 1)) p) guard ∙ ap (λ (c : Clause). new_literal s (lit (j * e.variables + i) true) ∷ c) rest
+      ap (λ (g : Literal). g ∷ signed (next_at e (i - 1)) p) activation ∙ ap (λ (c : Clause). new_literal s (lit (j * e.variables + i) true) ∷ c) rest
 
   steps_go : (a n : ℕ) → 1 ≤ a → a + n ≤ j + 1 →
       map (length_assumes e k p) (range_with_len a n) ≡ map (new_clause s) (map (length_assumes e j p) (range_with_len a n))
@@ -212,15 +212,15 @@ module _ (e : Encoded) (reset : List Bool) (p : List Bool) (j k count : ℕ) (u 
   above_base c le = mul-le j e.variables c e.variables le (omega arith)
 
   empty_there : (d : Clause) → Contains e.clauses d → d ≡ [] → Contains (unrolled e reset j) []
-  empty_there d there is = first_copy j some
+  empty_there d there is = first_frame j some
     where
-      first_copy : (n : ℕ) → 1 ≤ n → Contains (unrolled e reset n) []
-      first_copy zero h = absurd (omega (arith, h))
-      first_copy (suc n) h =
-          Contains-append_left (flat_map (copy_of e) (range_with_len 0 (suc n)))
+      first_frame : (n : ℕ) → 1 ≤ n → Contains (unrolled e reset n) []
+      first_frame zero h = absurd (omega (arith, h))
+      first_frame (suc n) h =
+          Contains-append_left (flat_map (frame_of e) (range_with_len 0 (suc n)))
           (reset_units e reset (suc n) ++ flat_map (links_of e) (range_with_len 0 (suc n - 1))) []
-          (Contains-append_left (copy_of e 0) (flat_map (copy_of e) (range_with_len 1 n)) []
-          (subst (Contains (copy_of e 0)) (ap (raised_all (base_of e 0)) is) (map_contains (raised_all (base_of e 0)) e.clauses d there)))
+          (Contains-append_left (frame_of e 0) (flat_map (frame_of e) (range_with_len 1 n)) []
+          (subst (Contains (frame_of e 0)) (ap (raised_all (base_of e 0)) is) (map_contains (raised_all (base_of e 0)) e.clauses d there)))
 
   abbrev IsApart : Clause → Type 0
   IsApart c = Contains narrow.clauses c ⊎ Any (IsNewVariable narrow wide) c
@@ -230,13 +230,13 @@ module _ (e : Encoded) (reset : List Bool) (p : List Bool) (j k count : ℕ) (u 
   raised_apart c (l ∷ d) low high there range =
       let first : IsWithin e.variables l = All-head (IsWithin e.variables) l d range in
       let base = above_base c low in
-      let fits = copies_fit e.variables k c high in
+      let fits = frames_fit e.variables k c high in
       inr (any_first (IsNewVariable narrow wide) (raised (base_of e c) l) (raised_all (base_of e c) d)
       (omega (arith, base, first.0), omega (arith, fits, first.1)))
 
-  copy_apart : (x : Clause) → Contains more x → IsApart x
-  copy_apart x there =
-      let at = flat_cases (copy_of e) j (k - j) x there in
+  frame_apart : (x : Clause) → Contains more x → IsApart x
+  frame_apart x there =
+      let at = flat_cases (frame_of e) j (k - j) x there in
       let low = at.low in
       let high = at.high in
       let d = map_cases (raised_all (base_of e at.place)) e.clauses x at.there in
@@ -254,7 +254,7 @@ module _ (e : Encoded) (reset : List Bool) (p : List Bool) (j k count : ℕ) (u 
       let within : IsWithin e.variables o.0 = All-contains (IsWithin e.variables) e.states o.0 u.states o.1 in
       let is : (r.0).variable ≡ base_of e (c + 1) + (o.0).variable = ap (λ (l : Literal). l.variable) (sym o.2) in
       let base = above_base (c + 1) (omega (arith, low, some)) in
-      let fits = copies_fit e.variables k (c + 1) (omega (arith, high, fewer, some)) in
+      let fits = frames_fit e.variables k (c + 1) (omega (arith, high, fewer, some)) in
       inr (of_variable x (r.0).variable (omega (arith, base, is, within.0)) (omega (arith, fits, is, within.1)) r.2)
     where
       of_variable : (x : Clause) (v : ℕ) → j * e.variables < v → v ≤ k * e.variables → Any (λ l. l.variable ≡ v) x → Any (IsNewVariable narrow wide) x
@@ -265,10 +265,10 @@ module _ (e : Encoded) (reset : List Bool) (p : List Bool) (j k count : ℕ) (u 
   -- ---- the numbers of clauses
 
   head_length : length head ≡ j * length e.clauses
-  head_length = length_flat (copy_of e) (length e.clauses) (λ i. length-map e.clauses (raised_all (base_of e i))) 0 j
+  head_length = length_flat (frame_of e) (length e.clauses) (λ i. length-map e.clauses (raised_all (base_of e i))) 0 j
 
   more_length : length more ≡ (k - j) * length e.clauses
-  more_length = length_flat (copy_of e) (length e.clauses) (λ i. length-map e.clauses (raised_all (base_of e i))) j (k - j)
+  more_length = length_flat (frame_of e) (length e.clauses) (λ i. length-map e.clauses (raised_all (base_of e i))) j (k - j)
 
   links_width : (i : ℕ) → length (links_of e i) ≡ 2 * length e.states
   links_width i =
@@ -308,7 +308,7 @@ module _ (e : Encoded) (reset : List Bool) (p : List Bool) (j k count : ℕ) (u 
         steps_are = steps_go 1 count (omega arith) (omega (arith, tried));
         range = unrolled_range e reset j fewer_unroll;
         apart = all_from IsApart (more ++ later) (λ x there. elim (Contains-append_cases more later x there) [
-          | inl copy ↦ copy_apart x copy
+          | inl copy ↦ frame_apart x copy
           | inr last ↦ link_apart x last
         ]);
         vars_stay = refl;

@@ -1,4 +1,4 @@
--- The answer that few copies gave is one of more.
+-- The answer that few time frames gave is one of more.
 use Rattle.std.proofs.Common.{◌≡◌, ℕ, ◌+◌, ◌-◌, ◌*◌, ◌≤◌, Bool, true, ◌&&◌, leb, List, [], ◌∷◌, map, length, reverse, refl, ap, subst, sym, ◌∙◌, arith}
 use Rattle.std.specs.Prelude.{All}
 use Rattle.std.specs.List.{range_with_len}
@@ -18,7 +18,7 @@ use Rattle.bs_solve.specs.Budget.{last_lemmas, HasFewLemmas}
 use Rattle.bs_encode.specs.Encoded.{Encoded, encoding_of}
 use Rattle.bs_encode.specs.Tables.{lit}
 use Rattle.bs_encode.specs.Transition.{net_var, state_vars}
-use Rattle.bs_reach_unrolled.specs.declared.limits.TheConstants.{MAX_COPIES}
+use Rattle.bs_reach_unrolled.specs.declared.limits.TheConstants.{MAX_FRAMES}
 use Rattle.bs_reach_unrolled.specs.Execution.{NotBefore, IsExecution}
 use Rattle.bs_reach_unrolled.specs.Room.{IsUnrollable}
 use Rattle.bs_reach_unrolled.specs.Unrolled.{length_assumes, reach_problem}
@@ -64,8 +64,8 @@ still_few limit s (Delete ids ∷ h) few = still_few limit s h few
 
 -- ---- room
 
-pub times_small : (n size : ℕ) → n ≤ MAX_COPIES → size ≤ 2 * ID_ROOM → n * size ≤ MAX_COPIES * (2 * ID_ROOM)
-times_small n size few small = mul-le n size MAX_COPIES (2 * ID_ROOM) few small
+pub times_small : (n size : ℕ) → n ≤ MAX_FRAMES → size ≤ 2 * ID_ROOM → n * size ≤ MAX_FRAMES * (2 * ID_ROOM)
+times_small n size few small = mul-le n size MAX_FRAMES (2 * ID_ROOM) few small
 
 pub record HasSmallIds (e : Encoded) (log : List Line) : Type 0 where
   pub clauses : length e.clauses ≤ ID_ROOM

@@ -8,15 +8,15 @@ use Rattle.bs_log.specs.Refusal.{is_between_steps, is_lemma_or_block}
 use Rattle.bs_log.specs.Kept.{is_kept}
 use Rattle.bs_log.specs.Lean.{StepsLeaveKept}
 use Rattle.bs_log.specs.Steps.{HasNoBlock, finished_in}
-use Rattle.bs_solve_recording.specs.Book.{IsRecorded}
-use Rattle.bs_solve.specs.declared.denying.Denial.{Denial}
+use Rattle.bs_solve_recording.specs.ProofLog.{IsRecorded}
+use Rattle.bs_solve.specs.declared.failure.FailedAssumption.{FailedAssumption}
 use Rattle.bs_solve.specs.Budget.{HasFewLemmas}
 use Rattle.bs_encode.specs.Encoded.{Encoded}
 use Rattle.bs_reach_unrolled.specs.Unrolled.{unrolled}
 use Rattle.bs_reach.specs.Search.{problem_over}
 
 -- the lines of a length: a solve, its lemma under this id, and the end
-abbrev pub step_lines : ℕ → Denial → List Line
+abbrev pub step_lines : ℕ → FailedAssumption → List Line
 step_lines id d = Solve ∷ Lemma id d.lits d.hints ∷ Finish id ∷ Retire (id + 1) ∷ []
 
 -- those of a length that no lemma refutes

@@ -10,7 +10,7 @@ use Rattle.bs_reach.specs.declared.shift.Shift.{Shift}
 abbrev pub new_id : Shift → ℕ → ℕ
 new_id s id = cond (nat_le id s.front) id (cond (nat_le id s.listed) (id + s.front_by) (id + s.listed_by))
 
--- the variables up to `vars` stay, and the guards above them go `vars_by` up
+-- the variables up to `vars` stay, and the activation literals above them go `vars_by` up
 abbrev pub new_variable : Shift → ℕ → ℕ
 new_variable s v = cond (nat_le v s.vars) v (v + s.vars_by)
 

@@ -32,18 +32,18 @@ problem_over clauses e k p count =
 pub record IsTried (clauses : List Clause) (e : Encoded) (k : ℕ) (p : List Bool) (b tried refuted : ℕ) (s : SolverState) : Type 0 where
   pub well : s.failed ≡ false
   pub idle : s.stage ≡ Idle
-  pub problem : s.book.problem ≡ problem_over clauses e k p tried
-  pub no_block : HasNoBlock s.book.history
-  pub finished : finished_in s.book.history ≡ range_with_len 1 refuted
-  pub few : HasFewLemmas b s.book.history
+  pub problem : s.proof.problem ≡ problem_over clauses e k p tried
+  pub no_block : HasNoBlock s.proof.history
+  pub finished : finished_in s.proof.history ≡ range_with_len 1 refuted
+  pub few : HasFewLemmas b s.proof.history
 
 -- so many lengths were tried, and all of them are refuted
 pub record IsBetween (clauses : List Clause) (e : Encoded) (k : ℕ) (p : List Bool) (b count : ℕ) (s : SolverState) : Type 0 where
   pub tried : IsTried clauses e k p b count count s
-  pub guards : s.vars ≡ k * e.variables + count
-  pub number : step_of s.book.history ≡ count + 1
+  pub activations : s.vars ≡ k * e.variables + count
+  pub number : step_of s.proof.history ≡ count + 1
 
--- the values meet the clauses, and copy number c leads to the state
+-- the values meet the clauses, and time frame number c leads to the state
 pub record HasShown (clauses : List Clause) (e : Encoded) (k : ℕ) (p : List Bool) (b c : ℕ) (values : List (Option Bool)) (s : SolverState) : Type 0 where
   pub tried : IsTried clauses e k p b (c + 1) c s
   pub wide : k * e.variables ≤ length values
@@ -58,7 +58,7 @@ pub record HasSpent (clauses : List Clause) (e : Encoded) (k : ℕ) (p : List Bo
   pub lemmas : List Line
   pub id : ℕ
   pub later : List Line
-  pub history : s.book.history ≡ later ++ Retire id ∷ (lemmas ++ Solve ∷ earlier)
+  pub history : s.proof.history ≡ later ++ Retire id ∷ (lemmas ++ Solve ∷ earlier)
   pub step : step_of earlier ≡ c + 1
   pub count : length lemmas ≡ b
   pub open_yet : AllByRecursion (λ line. is_open_lemma (length_assumes e k p (c + 1)) line ≡ true) lemmas
@@ -75,7 +75,7 @@ TriesTo clauses e k p b c s Spent = HasSpent clauses e k p b c s
 abbrev pub fresh_over : List Clause → Encoded → ℕ → SolverState
 fresh_over clauses e k =
     record {
-      book = record { problem = record { vars = k * e.variables; clauses = clauses; steps = [] }; history = [] };
+      proof = record { problem = record { vars = k * e.variables; clauses = clauses; steps = [] }; history = [] };
       vars = k * e.variables;
       stage = Idle;
       failed = false;

@@ -10,13 +10,13 @@ use Rattle.bs_encode.specs.Encoded.{Encoded}
 use Rattle.bs_reach_unrolled.specs.Unrolled.{unrolled}
 use Rattle.bs_reach.specs.declared.reach.Reach.{Reach}
 use Rattle.bs_reach.specs.declared.search.End.{End}
-use Rattle.bs_reach.specs.declared.telling.Told.{Told}
+use Rattle.bs_reach.specs.declared.telling.Verdict.{Verdict}
 use Rattle.bs_reach.specs.Search.{fresh_over}
 use Rattle.bs_reach.specs.Ends.{EndsAs}
-use Rattle.bs_reach.specs.Told.{Tells}
+use Rattle.bs_reach.specs.Verdict.{Tells}
 
 -- it is told how the search by a solver ended
-pub record TellsEnd (clauses : List Clause) (e : Encoded) (k : ℕ) (p : List Bool) (b : ℕ) (s : SolverState) (t : Told) : Type 0 where
+pub record TellsEnd (clauses : List Clause) (e : Encoded) (k : ℕ) (p : List Bool) (b : ℕ) (s : SolverState) (t : Verdict) : Type 0 where
   pub end : End
   pub ended : EndsAs clauses e k p b s end
   pub tells : Tells e end t
@@ -26,12 +26,12 @@ pub record HasSought (e : Encoded) (reset p : List Bool) (k b : ℕ) (r : Reach)
   pub start : SolverState
   pub solver : SolverState
   pub end : End
-  pub told : Told
+  pub told : Verdict
   pub is : r ≡ record { asked = k; conflicts = b; outcome = told.outcome; states = told.states; inputs = told.inputs; log = r.log }
   pub fresh : start ≡ fresh_over (unrolled e reset k) e k
-  pub ended : EndsAs start.book.problem.clauses e k p b solver end
+  pub ended : EndsAs start.proof.problem.clauses e k p b solver end
   pub tells : Tells e end told
-  pub lines : history_of r.log ≡ solver.book.history
-  pub lean : solver.failed ≡ false → IsLean solver.book.problem (history_of r.log)
+  pub lines : history_of r.log ≡ solver.proof.history
+  pub lean : solver.failed ≡ false → IsLean solver.proof.problem (history_of r.log)
   pub texts : All HasText r.log
-  pub accepted : solver.failed ≡ false → solver.stage ≡ Idle → IsAccepted solver.book.problem r.log
+  pub accepted : solver.failed ≡ false → solver.stage ≡ Idle → IsAccepted solver.proof.problem r.log

@@ -17,7 +17,7 @@ abbrev pub IsNewVariable : Problem → Problem → Literal → Type 0
 IsNewVariable p q l = (p.vars < l.variable) × (l.variable ≤ q.vars)
 
 -- The second problem has the clauses of the first in their order, with `more` between and `later` behind them, more variables
--- below the guards, and the same steps. A clause that it has more stands in the first one too, or has a new variable.
+-- below the activation literals, and the same steps. A clause that it has more stands in the first one too, or has a new variable.
 pub record IsWidened (s : Shift) (p q : Problem) : Type 0 where
   pub head : List Clause
   pub tail : List Clause

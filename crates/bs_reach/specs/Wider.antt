@@ -1,4 +1,4 @@
--- How an answer that few copies gave is one of more copies.
+-- How an answer that few time frames gave is one of more time frames.
 use Rattle.std.specs.Prelude.{ℕ, ◌+◌, ◌-◌, ◌*◌, nat_le, Bool, true, false, ◌&&◌, List, length}
 use Rattle.bs_log.specs.declared.line.Line.{Line}
 use Rattle.bs_net.specs.Circuit.{Circuit}
@@ -8,7 +8,7 @@ use Rattle.bs_reach.specs.declared.reach.Outcome.{Outcome}
 use Rattle.bs_reach.specs.declared.reach.Outcome.TheVariants.{Reached, Unreached, Unknown}
 use Rattle.bs_reach.specs.declared.wider.TheConstants.{ID_ROOM}
 use Rattle.bs_reach.specs.declared.wider.Look.{Look}
-use Rattle.bs_reach.specs.declared.wider.Look.TheVariants.{Told, More, Whole}
+use Rattle.bs_reach.specs.declared.wider.Look.TheVariants.{Verdict, More, Whole}
 use Rattle.bs_reach.specs.Reach.{IsReach}
 
 -- where the unrolled clauses of j cycles, and what a log adds to them, stand in the list of k cycles
@@ -23,7 +23,7 @@ shift_between e j k =
       listed_by = (k - j) * length e.clauses + (k - j) * (2 * length e.states);
     }
 
--- whether the ids of a copy's clauses and of the lines are small
+-- whether the ids of a time frame's clauses and of the lines are small
 abbrev pub has_small_ids : Encoded → List Line → Bool
 has_small_ids e log = nat_le (length e.clauses) ID_ROOM && nat_le (length e.states) ID_ROOM && nat_le (length log) ID_ROOM
 
@@ -34,6 +34,6 @@ is_reached (Unknown j) = false
 
 -- what is told is a right answer
 abbrev pub LookFits : Circuit → List Bool → ℕ → ℕ → Look → Type 0
-LookFits c p k b (Told r) = IsReach c p k b r
+LookFits c p k b (Verdict r) = IsReach c p k b r
 LookFits c p k b More = Unit {0}
 LookFits c p k b Whole = Unit {0}

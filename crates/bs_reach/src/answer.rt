@@ -1,31 +1,31 @@
-//! Answers: of a search over so many copies, and those that want no search.
+//! Answers: of a search over so many time frames, and those that want no search.
 ghost use Rattle.std.specs.Prelude.{◌≡◌, ◌≢◌, ◌*◌, ◌≤◌, [], length, IfOk, IfSome};
 ghost use Rattle.bs_net.specs.Circuit.{reset_state};
 ghost use Rattle.bs_net.specs.Netlist.{circuit};
 ghost use Rattle.bs_encode.specs.Transition.{variables};
 ghost use Rattle.bs_encode.specs.Encoded.{encoding_of};
-ghost use Rattle.bs_reach_unrolled.specs.declared.limits.TheConstants.{MAX_COPIES, MAX_COPY_VARIABLES};
+ghost use Rattle.bs_reach_unrolled.specs.declared.limits.TheConstants.{MAX_FRAMES, MAX_FRAME_VARIABLES};
 ghost use Rattle.bs_reach_unrolled.specs.Room.{IsUnrollable};
 ghost use Rattle.bs_reach_unrolled.specs.Unrolled.{unrolled};
 ghost use Rattle.bs_reach.specs.Search.{fresh_over, IsBetween};
-ghost use Rattle.bs_reach.specs.Denials.{AreDenials};
+ghost use Rattle.bs_reach.specs.FailedAssumptions.{AreFailedAssumptions};
 ghost use Rattle.bs_reach.specs.Refuted.{IsLogOfLengths};
 ghost use Rattle.bs_reach.specs.Reach.{IsReach};
 ghost use Rattle.bs_reach.specs.Sought.{HasSought, TellsEnd};
 
-use crate::denials::first_denials;
+use crate::failed_assumptions::first_failed_assumptions;
 use crate::reach::{Outcome, Reach};
 use crate::refuted::log_of;
 use crate::search::search;
-use crate::telling::{Told, tell, without_states};
+use crate::telling::{Verdict, tell, without_states};
 use bs_bits::{Bits, List};
 use bs_clause::NoMemory;
 use bs_encode::Encoding;
 use bs_log::Log;
 use bs_net::Netlist;
-use bs_reach_implied::Forced;
+use bs_reach_implied::Implied;
 use bs_reach_unrolled::{netlists_unroll, unroll, unrolled_clauses_are_executions};
-use bs_solve::{Denial, Solver};
+use bs_solve::{FailedAssumption, Solver};
 use std::alloc::Global;
 use std::collections::VecDeque;
 
@@ -33,7 +33,7 @@ use std::collections::VecDeque;
 #[derive(Drop)]
 struct Start {
     solver: Solver,
-    denials: VecDeque<Denial>,
+    failed_assumptions: VecDeque<FailedAssumption>,
 }
 
 /// A solver over the unrolled clauses.
@@ -53,7 +53,7 @@ fn start_of(
     alloc: Global,
     encoding: &Encoding,
     reset: &Bits,
-    forced: &Forced,
+    implied: &Implied,
     state: &Bits,
     k: u32,
 ) -> Result<Start, NoMemory>
@@ -62,11 +62,11 @@ fn start_of(
     requires starts { length encoding.now.states ≡ length reset.now }
     requires width { length encoding.now.next ≡ length state.now }
     ensures solver { IfOk result (λ s. s.solver ≡ fresh_over (unrolled encoding.now reset.now k) encoding.now k) }
-    ensures denials { IfOk result (λ s. AreDenials s.solver.book.problem.clauses encoding.now k state.now 0 s.denials.items) }
+    ensures failed_assumptions { IfOk result (λ s. AreFailedAssumptions s.solver.proof.problem.clauses encoding.now k state.now 0 s.failed_assumptions.items) }
 {
-    let denials = first_denials(alloc, encoding, reset, forced, state, k)?;
+    let failed_assumptions = first_failed_assumptions(alloc, encoding, reset, implied, state, k)?;
     let solver = solver_over(alloc, encoding, reset, k)?;
-    Ok(Start { solver, denials })
+    Ok(Start { solver, failed_assumptions })
 }
 
 /// The answer where the state is the one at reset.
@@ -108,7 +108,7 @@ pub(crate) fn never(alloc: Global, net: &Netlist, state: &Bits, b: u64) -> Reach
 }
 
 /// The answer with what the end of a search tells, and its log.
-fn answered(k: u32, b: u64, told: Told, log: Log) -> Reach
+fn answered(k: u32, b: u64, told: Verdict, log: Log) -> Reach
     ensures { result ≡ record { asked = k; conflicts = b; outcome = told.outcome; states = told.states; inputs = told.inputs; log = log } }
 {
     Reach {
@@ -126,19 +126,19 @@ fn sought(
     alloc: Global,
     encoding: &Encoding,
     solver: &mut Solver,
-    denials: &mut VecDeque<Denial>,
+    failed_assumptions: &mut VecDeque<FailedAssumption>,
     state: &Bits,
     k: u32,
     b: u64,
-) -> Result<Told, NoMemory>
+) -> Result<Verdict, NoMemory>
     requires unrollable { IsUnrollable encoding.now k }
     requires width { length encoding.now.next ≡ length state.now }
     requires limit { 1 ≤ b }
-    requires start { IsBetween solver.old.book.problem.clauses encoding.now k state.now b 0 solver.old }
-    requires denials { AreDenials solver.old.book.problem.clauses encoding.now k state.now 0 denials.old.items }
-    ensures { IfOk result (TellsEnd solver.old.book.problem.clauses encoding.now k state.now b solver.new) }
+    requires start { IsBetween solver.old.proof.problem.clauses encoding.now k state.now b 0 solver.old }
+    requires failed_assumptions { AreFailedAssumptions solver.old.proof.problem.clauses encoding.now k state.now 0 failed_assumptions.old.items }
+    ensures { IfOk result (TellsEnd solver.old.proof.problem.clauses encoding.now k state.now b solver.new) }
 {
-    let end = search(alloc, encoding, solver, denials, state, k, b)?;
+    let end = search(alloc, encoding, solver, failed_assumptions, state, k, b)?;
     let told = tell(alloc, encoding, &end, k)?;
     Ok(told)
 }
@@ -148,7 +148,7 @@ fn seek(
     alloc: Global,
     encoding: &Encoding,
     reset: &Bits,
-    forced: &Forced,
+    implied: &Implied,
     state: &Bits,
     k: u32,
     b: u64,
@@ -160,12 +160,12 @@ fn seek(
     requires limit { 1 ≤ b }
     ensures { IfOk result (HasSought encoding.now reset.now state.now k b) }
 {
-    let mut start = start_of(alloc, encoding, reset, forced, state, k)?;
+    let mut start = start_of(alloc, encoding, reset, implied, state, k)?;
     let told = sought(
         alloc,
         encoding,
         &mut start.solver,
-        &mut start.denials,
+        &mut start.failed_assumptions,
         state,
         k,
         b,
@@ -194,7 +194,7 @@ fn seek_refuted(
     alloc: Global,
     encoding: &Encoding,
     reset: &Bits,
-    forced: &Forced,
+    implied: &Implied,
     state: &Bits,
     k: u32,
     b: u64,
@@ -206,7 +206,7 @@ fn seek_refuted(
     requires limit { 1 ≤ b }
     ensures { IfOk result (λ o. IfSome o (HasSought encoding.now reset.now state.now k b)) }
 {
-    let found = log_of(alloc, encoding, reset, forced, state, k, b)?;
+    let found = log_of(alloc, encoding, reset, implied, state, k, b)?;
     match found {
         None => Ok(None),
         Some(log) => Ok(Some(as_refuted(alloc, encoding, reset, state, k, b, log))),
@@ -218,7 +218,7 @@ pub(crate) fn look_refuted(
     alloc: Global,
     net: &Netlist,
     encoding: &Encoding,
-    forced: &Forced,
+    implied: &Implied,
     state: &Bits,
     k: u32,
     b: u64,
@@ -226,15 +226,15 @@ pub(crate) fn look_refuted(
     requires encoded { encoding.now ≡ encoding_of (circuit net.now) [] }
     requires width { length state.now ≡ length (circuit net.now).flops }
     requires some { 1 ≤ k }
-    requires cycles { k ≤ MAX_COPIES }
-    requires room { k * variables (circuit net.now) [] ≤ MAX_COPY_VARIABLES }
+    requires cycles { k ≤ MAX_FRAMES }
+    requires room { k * variables (circuit net.now) [] ≤ MAX_FRAME_VARIABLES }
     requires limit { 1 ≤ b }
     requires other { reset_state (circuit net.now) ≢ state.now }
     ensures { IfOk result (λ o. IfSome o (IsReach (circuit net.now) state.now k b)) }
 {
     unrolled_clauses_are_executions(net);
     netlists_unroll(net, k);
-    let found = seek_refuted(alloc, encoding, net.reset(), forced, state, k, b)?;
+    let found = seek_refuted(alloc, encoding, net.reset(), implied, state, k, b)?;
     Ok(found)
 }
 
@@ -243,7 +243,7 @@ pub(crate) fn look_over(
     alloc: Global,
     net: &Netlist,
     encoding: &Encoding,
-    forced: &Forced,
+    implied: &Implied,
     state: &Bits,
     k: u32,
     b: u64,
@@ -251,14 +251,14 @@ pub(crate) fn look_over(
     requires encoded { encoding.now ≡ encoding_of (circuit net.now) [] }
     requires width { length state.now ≡ length (circuit net.now).flops }
     requires some { 1 ≤ k }
-    requires cycles { k ≤ MAX_COPIES }
-    requires room { k * variables (circuit net.now) [] ≤ MAX_COPY_VARIABLES }
+    requires cycles { k ≤ MAX_FRAMES }
+    requires room { k * variables (circuit net.now) [] ≤ MAX_FRAME_VARIABLES }
     requires limit { 1 ≤ b }
     requires other { reset_state (circuit net.now) ≢ state.now }
     ensures { IfOk result (IsReach (circuit net.now) state.now k b) }
 {
     unrolled_clauses_are_executions(net);
     netlists_unroll(net, k);
-    let reach = seek(alloc, encoding, net.reset(), forced, state, k, b)?;
+    let reach = seek(alloc, encoding, net.reset(), implied, state, k, b)?;
     Ok(reach)
 }

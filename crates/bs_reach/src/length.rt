@@ -2,15 +2,15 @@
 ghost use Rattle.std.specs.Prelude.{◌≡◌, ◌+◌, ◌<◌, ◌≤◌, length, IfOk, OnOk};
 ghost use Rattle.bs_reach_unrolled.specs.Room.{IsUnrollable};
 ghost use Rattle.bs_reach_unrolled.specs.Unrolled.{length_assumes};
-ghost use Rattle.bs_solve.specs.Denying.{Denies};
+ghost use Rattle.bs_solve.specs.Failure.{FailsBy};
 ghost use Rattle.bs_reach.specs.Search.{IsBetween, TriesTo};
-ghost use Rattle.bs_reach.specs.Denials.{AreDenials};
+ghost use Rattle.bs_reach.specs.FailedAssumptions.{AreFailedAssumptions};
 
 use bs_bits::Bits;
 use bs_clause::NoMemory;
 use bs_encode::Encoding;
 use bs_reach_unrolled::assume_length;
-use bs_solve::{Denial, Solver};
+use bs_solve::{FailedAssumption, Solver};
 use bs_solve_recording::{Answer, Solution};
 use std::alloc::Global;
 use std::collections::VecDeque;
@@ -26,7 +26,7 @@ pub(crate) enum Trial {
     Spent,
 }
 
-/// Tries the length `c + 1`, in which copy number `c` leads to the state.
+/// Tries the length `c + 1`, in which time frame number `c` leads to the state.
 fn try_length(
     alloc: Global,
     encoding: &Encoding,
@@ -40,12 +40,12 @@ fn try_length(
     requires within { c < k }
     requires width { length encoding.now.next ≡ length state.now }
     requires limit { 1 ≤ b }
-    requires between { IsBetween solver.old.book.problem.clauses encoding.now k state.now b c solver.old }
-    ensures { IfOk result (TriesTo solver.old.book.problem.clauses encoding.now k state.now b c solver.new) }
+    requires between { IsBetween solver.old.proof.problem.clauses encoding.now k state.now b c solver.old }
+    ensures { IfOk result (TriesTo solver.old.proof.problem.clauses encoding.now k state.now b c solver.new) }
 {
     solver.log();
-    let guard = solver.begin_step()?;
-    let assumptions = assume_length(alloc, encoding, guard, state, c, k)?;
+    let activation = solver.begin_step()?;
+    let assumptions = assume_length(alloc, encoding, activation, state, c, k)?;
     match solver.solve(alloc, &assumptions, b)? {
         Answer::Found(values) => {
             solver.end_step(alloc, None)?;
@@ -67,7 +67,7 @@ fn deny_length(
     alloc: Global,
     encoding: &Encoding,
     solver: &mut Solver,
-    denial: Denial,
+    failed_assumption: FailedAssumption,
     state: &Bits,
     c: u32,
     k: u32,
@@ -77,13 +77,13 @@ fn deny_length(
     requires within { c < k }
     requires width { length encoding.now.next ≡ length state.now }
     requires limit { 1 ≤ _b }
-    requires between { IsBetween solver.old.book.problem.clauses encoding.now k state.now _b c solver.old }
-    requires denial { Denies solver.old.book.problem.clauses (length_assumes encoding.now k state.now (c + 1)) denial }
-    ensures { OnOk result (IsBetween solver.old.book.problem.clauses encoding.now k state.now _b (c + 1) solver.new) }
+    requires between { IsBetween solver.old.proof.problem.clauses encoding.now k state.now _b c solver.old }
+    requires failed_assumption { FailsBy solver.old.proof.problem.clauses (length_assumes encoding.now k state.now (c + 1)) failed_assumption }
+    ensures { OnOk result (IsBetween solver.old.proof.problem.clauses encoding.now k state.now _b (c + 1) solver.new) }
 {
-    let guard = solver.begin_step()?;
-    let assumed = assume_length(alloc, encoding, guard, state, c, k)?;
-    let end = solver.solve_denied(alloc, &assumed, denial)?;
+    let activation = solver.begin_step()?;
+    let assumed = assume_length(alloc, encoding, activation, state, c, k)?;
+    let end = solver.solve_denied(alloc, &assumed, failed_assumption)?;
     solver.end_step(alloc, Some(end))?;
     Ok(())
 }
@@ -93,7 +93,7 @@ pub(crate) fn next_length(
     alloc: Global,
     encoding: &Encoding,
     solver: &mut Solver,
-    denials: &mut VecDeque<Denial>,
+    failed_assumptions: &mut VecDeque<FailedAssumption>,
     state: &Bits,
     c: u32,
     k: u32,
@@ -103,14 +103,14 @@ pub(crate) fn next_length(
     requires within { c < k }
     requires width { length encoding.now.next ≡ length state.now }
     requires limit { 1 ≤ b }
-    requires between { IsBetween solver.old.book.problem.clauses encoding.now k state.now b c solver.old }
-    requires denials { AreDenials solver.old.book.problem.clauses encoding.now k state.now c denials.old.items }
-    ensures tries { IfOk result (TriesTo solver.old.book.problem.clauses encoding.now k state.now b c solver.new) }
-    ensures left { IfOk result (λ _. AreDenials solver.new.book.problem.clauses encoding.now k state.now (c + 1) denials.new.items) }
+    requires between { IsBetween solver.old.proof.problem.clauses encoding.now k state.now b c solver.old }
+    requires failed_assumptions { AreFailedAssumptions solver.old.proof.problem.clauses encoding.now k state.now c failed_assumptions.old.items }
+    ensures tries { IfOk result (TriesTo solver.old.proof.problem.clauses encoding.now k state.now b c solver.new) }
+    ensures left { IfOk result (λ _. AreFailedAssumptions solver.new.proof.problem.clauses encoding.now k state.now (c + 1) failed_assumptions.new.items) }
 {
-    match denials.pop_front() {
-        Some(denial) => {
-            deny_length(alloc, encoding, solver, denial, state, c, k, b)?;
+    match failed_assumptions.pop_front() {
+        Some(failed_assumption) => {
+            deny_length(alloc, encoding, solver, failed_assumption, state, c, k, b)?;
             Ok(Trial::Refuted)
         }
         None => {

@@ -1,20 +1,20 @@
 //! Whether a state is reached from reset in a bounded number of cycles.
 //!
-//! Modules: `copies` (`bounded`, over how many copies), `wider` (few copies first), `renaming` (their log, renamed for all copies),
+//! Modules: `frames` (`bounded`, over how many time frames), `wider` (few time frames first), `renaming` (their log, renamed for all time frames),
 //! `shift` (where its ids and variables go), `renaming_law` (a renamed log stays accepted and lean), `answer` (a search over so many
-//! copies), `count` (`size`), `search` (one length after another, over one solver), `length` (a
-//! step of the log), `denials` (the first lengths, by what follows from reset alone), `refuted` (their
+//! time frames), `count` (`size`), `search` (one length after another, over one solver), `length` (a
+//! step of the log), `failed_assumptions` (the first lengths, by what follows from reset alone), `refuted` (their
 //! log), `shown` (an execution of the length behind them), `telling` (the states and inputs of an
 //! assignment), `reach` (`Reach`, `Outcome`), `text`. Used
 //! above: `IsReach` of `bounded`, and `reach_text` of `Reach::text`. A right answer: `specs/Reach`;
-//! how a length is tried: `length`; a line of the text: `specs/Text`; where ids go: `specs/Renamed`; what the list of all copies
+//! how a length is tried: `length`; a line of the text: `specs/Text`; where ids go: `specs/Renamed`; what the list of all time frames
 //! is to the list of few: `specs/Widened`.
 #![tactic(auto)]
 
 mod answer;
-mod copies;
+mod frames;
 mod count;
-mod denials;
+mod failed_assumptions;
 mod length;
 mod reach;
 mod refuted;
@@ -27,6 +27,6 @@ mod telling;
 mod text;
 mod wider;
 
-pub use copies::bounded;
+pub use frames::bounded;
 pub use count::size;
 pub use reach::{Outcome, Reach};

@@ -1,31 +1,31 @@
 //! The log of lengths that what follows from reset denies: no clause is unrolled, and no solver is made.
 ghost use Rattle.std.specs.Prelude.{◌≡◌, ◌+◌, ◌*◌, ◌^◌, ◌<◌, ◌≤◌, ◌++◌, [], length, reverse, IfOk, OnOk, IfSome};
 ghost use Rattle.std.specs.Bool.{OnTrue};
-ghost use Rattle.bs_reach_unrolled.specs.declared.limits.TheConstants.{MAX_COPIES};
+ghost use Rattle.bs_reach_unrolled.specs.declared.limits.TheConstants.{MAX_FRAMES};
 ghost use Rattle.bs_reach_unrolled.specs.Room.{IsUnrollable};
 ghost use Rattle.bs_reach_unrolled.specs.Unrolled.{length_assumes, unrolled};
-ghost use Rattle.bs_solve.specs.Denying.{Denies};
+ghost use Rattle.bs_solve.specs.Failure.{FailsBy};
 ghost use Rattle.bs_reach.specs.declared.refuted.TheConstants.{COUNT_ROOM};
 ghost use Rattle.bs_reach.specs.Refuted.{step_lines, AreRefuted, IsLogOfLengths};
 
-use crate::denials::denial_at;
+use crate::failed_assumptions::failed_assumption_at;
 use bs_bits::Bits;
 use bs_clause::NoMemory;
 use bs_encode::Encoding;
 use bs_log::{Line, Log};
-use bs_reach_implied::{Forced, Places};
-use bs_solve::Denial;
+use bs_reach_implied::{Implied, Places};
+use bs_solve::FailedAssumption;
 use std::alloc::Global;
 
-/// A copy's clauses and flip-flops are at most so many where those of all copies are counted.
+/// A time frame's clauses and flip-flops are at most so many where those of all time frames are counted.
 const COUNT_ROOM: u64 = 1 << 40;
 
 /// So many times a number.
 fn times(n: u32, size: u64) -> u64
-    requires few { n ≤ MAX_COPIES }
+    requires few { n ≤ MAX_FRAMES }
     requires small { size ≤ 2 * COUNT_ROOM }
     ensures product { result ≡ n * size }
-    ensures small { result ≤ MAX_COPIES * (2 * COUNT_ROOM) }
+    ensures small { result ≤ MAX_FRAMES * (2 * COUNT_ROOM) }
 {
     u64::from(n) * size
 }
@@ -50,9 +50,9 @@ fn count(encoding: &Encoding, _reset: &Bits, k: u32) -> u64
     ensures { result ≡ length (unrolled encoding.now _reset.now k) }
 {
     let states = encoding.states().len() as u64;
-    let copies = times(k, encoding.clauses().len() as u64);
+    let frames = times(k, encoding.clauses().len() as u64);
     let links = times(k - 1, 2 * states);
-    copies + (states + links)
+    frames + (states + links)
 }
 
 /// The id behind another, where there is one.
@@ -66,9 +66,9 @@ pub(crate) fn next_id(last: u64) -> Result<u64, NoMemory>
 }
 
 /// Logs a length that a lemma refutes, and answers the last id that is given then.
-fn log_length(log: &mut Log, last: u64, denial: Denial) -> Result<u64, NoMemory>
+fn log_length(log: &mut Log, last: u64, failed_assumption: FailedAssumption) -> Result<u64, NoMemory>
     ensures id { IfOk result (λ id. id ≡ last + 2) }
-    ensures lines { IfOk result (λ _. log.new ≡ log.old ++ step_lines (last + 1) denial) }
+    ensures lines { IfOk result (λ _. log.new ≡ log.old ++ step_lines (last + 1) failed_assumption) }
 {
     let lemma = next_id(last)?;
     let end = next_id(lemma)?;
@@ -76,8 +76,8 @@ fn log_length(log: &mut Log, last: u64, denial: Denial) -> Result<u64, NoMemory>
         Line::Solve,
         Line::Lemma {
             id: lemma,
-            lits: denial.lits,
-            hints: denial.hints,
+            lits: failed_assumption.lits,
+            hints: failed_assumption.hints,
         },
     )?;
     log.push_two(Line::Finish { id: lemma }, Line::Retire { id: end })?;
@@ -88,7 +88,7 @@ fn log_length(log: &mut Log, last: u64, denial: Denial) -> Result<u64, NoMemory>
 fn log_denied(
     log: &mut Log,
     last: u64,
-    denial: Denial,
+    failed_assumption: FailedAssumption,
     _encoding: &Encoding,
     _reset: &Bits,
     _state: &Bits,
@@ -99,10 +99,10 @@ fn log_denied(
     requires unrollable { IsUnrollable _encoding.now _k }
     requires limit { 1 ≤ _b }
     requires so_far { AreRefuted _encoding.now _reset.now _state.now _k _b _c last (reverse log.old) }
-    requires denial { Denies (unrolled _encoding.now _reset.now _k) (length_assumes _encoding.now _k _state.now (_c + 1)) denial }
+    requires failed_assumption { FailsBy (unrolled _encoding.now _reset.now _k) (length_assumes _encoding.now _k _state.now (_c + 1)) failed_assumption }
     ensures { IfOk result (λ id. AreRefuted _encoding.now _reset.now _state.now _k _b (_c + 1) id (reverse log.new)) }
 {
-    let end = log_length(log, last, denial)?;
+    let end = log_length(log, last, failed_assumption)?;
     Ok(end)
 }
 
@@ -113,7 +113,7 @@ fn add_length(
     last: u64,
     encoding: &Encoding,
     reset: &Bits,
-    forced: &Forced,
+    implied: &Implied,
     places: &mut Places,
     state: &Bits,
     c: u32,
@@ -128,11 +128,11 @@ fn add_length(
     requires so_far { AreRefuted encoding.now reset.now state.now k b c last (reverse log.old) }
     ensures { IfOk result (λ o. IfSome o (λ id. AreRefuted encoding.now reset.now state.now k b (c + 1) id (reverse log.new))) }
 {
-    let found = denial_at(alloc, encoding, reset, forced, places, state, c, k)?;
+    let found = failed_assumption_at(alloc, encoding, reset, implied, places, state, c, k)?;
     match found {
         None => Ok(None),
-        Some(denial) => {
-            let id = log_denied(log, last, denial, encoding, reset, state, c, k, b)?;
+        Some(failed_assumption) => {
+            let id = log_denied(log, last, failed_assumption, encoding, reset, state, c, k, b)?;
             Ok(Some(id))
         }
     }
@@ -145,7 +145,7 @@ fn add_lengths(
     first: u64,
     encoding: &Encoding,
     reset: &Bits,
-    forced: &Forced,
+    implied: &Implied,
     places: &mut Places,
     state: &Bits,
     denied: u32,
@@ -163,7 +163,7 @@ fn add_lengths(
     let mut last = first;
     'lengths: for c in 0..denied {
         let next = add_length(
-            alloc, log, last, encoding, reset, forced, places, state, c, k, b,
+            alloc, log, last, encoding, reset, implied, places, state, c, k, b,
         )?;
         match next {
             None => return Ok(None),
@@ -179,7 +179,7 @@ pub(crate) fn fill(
     log: &mut Log,
     encoding: &Encoding,
     reset: &Bits,
-    forced: &Forced,
+    implied: &Implied,
     state: &Bits,
     denied: u32,
     k: u32,
@@ -197,7 +197,7 @@ pub(crate) fn fill(
     if !is_counted(encoding) {
         return Ok(None);
     }
-    let mut places = Places::new(alloc, forced)?;
+    let mut places = Places::new(alloc, implied)?;
     let first = count(encoding, reset, k);
     let last = add_lengths(
         alloc,
@@ -205,7 +205,7 @@ pub(crate) fn fill(
         first,
         encoding,
         reset,
-        forced,
+        implied,
         &mut places,
         state,
         denied,
@@ -220,7 +220,7 @@ pub(crate) fn log_of(
     alloc: Global,
     encoding: &Encoding,
     reset: &Bits,
-    forced: &Forced,
+    implied: &Implied,
     state: &Bits,
     k: u32,
     b: u64,
@@ -233,7 +233,7 @@ pub(crate) fn log_of(
     ensures { IfOk result (λ o. IfSome o (IsLogOfLengths encoding.now reset.now state.now k b k k)) }
 {
     let mut log = Log::new(alloc);
-    let last = fill(alloc, &mut log, encoding, reset, forced, state, k, k, b)?;
+    let last = fill(alloc, &mut log, encoding, reset, implied, state, k, k, b)?;
     match last {
         None => Ok(None),
         Some(_id) => Ok(Some(log)),

@@ -3,18 +3,18 @@ ghost use Rattle.std.specs.Prelude.{◌≡◌, ◌+◌, ◌<◌, ◌≤◌, leng
 ghost use Rattle.bs_reach_unrolled.specs.Room.{IsUnrollable};
 ghost use Rattle.bs_reach.specs.Search.{IsBetween};
 ghost use Rattle.bs_reach.specs.Ends.{EndsAs};
-ghost use Rattle.bs_reach.specs.Denials.{AreDenials};
+ghost use Rattle.bs_reach.specs.FailedAssumptions.{AreFailedAssumptions};
 
 use crate::length::{Trial, next_length};
 use bs_bits::Bits;
 use bs_clause::NoMemory;
 use bs_encode::Encoding;
-use bs_solve::{Denial, Solver};
+use bs_solve::{FailedAssumption, Solver};
 use bs_solve_recording::Solution;
 use std::alloc::Global;
 use std::collections::VecDeque;
 
-/// How the search ends, with the copy that was to lead to the state.
+/// How the search ends, with the time frame that was to lead to the state.
 #[derive(Drop)]
 pub(crate) enum End {
     /// These values show an execution.
@@ -30,7 +30,7 @@ pub(crate) fn search(
     alloc: Global,
     encoding: &Encoding,
     solver: &mut Solver,
-    denials: &mut VecDeque<Denial>,
+    failed_assumptions: &mut VecDeque<FailedAssumption>,
     state: &Bits,
     k: u32,
     b: u64,
@@ -38,12 +38,12 @@ pub(crate) fn search(
     requires unrollable { IsUnrollable encoding.now k }
     requires width { length encoding.now.next ≡ length state.now }
     requires limit { 1 ≤ b }
-    requires start { IsBetween solver.old.book.problem.clauses encoding.now k state.now b 0 solver.old }
-    requires denials { AreDenials solver.old.book.problem.clauses encoding.now k state.now 0 denials.old.items }
-    ensures { IfOk result (EndsAs solver.old.book.problem.clauses encoding.now k state.now b solver.new) }
+    requires start { IsBetween solver.old.proof.problem.clauses encoding.now k state.now b 0 solver.old }
+    requires failed_assumptions { AreFailedAssumptions solver.old.proof.problem.clauses encoding.now k state.now 0 failed_assumptions.old.items }
+    ensures { IfOk result (EndsAs solver.old.proof.problem.clauses encoding.now k state.now b solver.new) }
 {
     'lengths: for c in 0..k {
-        match next_length(alloc, encoding, solver, denials, state, c, k, b)? {
+        match next_length(alloc, encoding, solver, failed_assumptions, state, c, k, b)? {
             Trial::Shown(values) => return Ok(End::Reached(c, values)),
             Trial::Refuted => {}
             Trial::Spent => return Ok(End::Unknown(c)),

@@ -4,7 +4,7 @@ ghost use Rattle.bs_net.specs.Circuit.{reset_state};
 ghost use Rattle.bs_net.specs.Netlist.{circuit};
 ghost use Rattle.bs_encode.specs.Transition.{variables};
 ghost use Rattle.bs_encode.specs.Encoded.{encoding_of};
-ghost use Rattle.bs_reach_unrolled.specs.declared.limits.TheConstants.{MAX_COPIES, MAX_COPY_VARIABLES};
+ghost use Rattle.bs_reach_unrolled.specs.declared.limits.TheConstants.{MAX_FRAMES, MAX_FRAME_VARIABLES};
 ghost use Rattle.bs_reach_unrolled.specs.Execution.{IsExecution};
 ghost use Rattle.bs_reach_unrolled.specs.Room.{IsUnrollable};
 ghost use Rattle.bs_reach.specs.declared.reach.Outcome.TheVariants.{Reached};
@@ -19,7 +19,7 @@ use bs_encode::Encoding;
 use bs_log::{Line, Log};
 use bs_net::Netlist;
 use bs_reach_execution::{Execution, execution_of};
-use bs_reach_implied::Forced;
+use bs_reach_implied::Implied;
 use bs_reach_unrolled::{netlists_unroll, unrolled_clauses_are_executions};
 use std::alloc::Global;
 
@@ -62,7 +62,7 @@ fn fill_shown(
     log: &mut Log,
     encoding: &Encoding,
     reset: &Bits,
-    forced: &Forced,
+    implied: &Implied,
     state: &Bits,
     c: u32,
     k: u32,
@@ -76,7 +76,7 @@ fn fill_shown(
     requires empty { log.old ≡ [] }
     ensures { IfOk result (λ o. IfSome o (λ id. AreTried encoding.now reset.now state.now k b (c + 1) c id (reverse log.new))) }
 {
-    let found = fill(alloc, log, encoding, reset, forced, state, c, k, b)?;
+    let found = fill(alloc, log, encoding, reset, implied, state, c, k, b)?;
     match found {
         None => Ok(None),
         Some(last) => {
@@ -91,7 +91,7 @@ fn log_shown(
     alloc: Global,
     encoding: &Encoding,
     reset: &Bits,
-    forced: &Forced,
+    implied: &Implied,
     state: &Bits,
     c: u32,
     k: u32,
@@ -105,7 +105,7 @@ fn log_shown(
     ensures { IfOk result (λ o. IfSome o (IsLogOfLengths encoding.now reset.now state.now k b (c + 1) c)) }
 {
     let mut log = Log::new(alloc);
-    let last = fill_shown(alloc, &mut log, encoding, reset, forced, state, c, k, b)?;
+    let last = fill_shown(alloc, &mut log, encoding, reset, implied, state, c, k, b)?;
     match last {
         None => Ok(None),
         Some(_id) => Ok(Some(log)),
@@ -153,7 +153,7 @@ fn tell_shown(
     alloc: Global,
     net: &Netlist,
     encoding: &Encoding,
-    forced: &Forced,
+    implied: &Implied,
     state: &Bits,
     execution: Execution,
     c: u32,
@@ -163,15 +163,15 @@ fn tell_shown(
     requires encoded { encoding.now ≡ encoding_of (circuit net.now) [] }
     requires width { length state.now ≡ length (circuit net.now).flops }
     requires within { c < k }
-    requires cycles { k ≤ MAX_COPIES }
-    requires room { k * variables (circuit net.now) [] ≤ MAX_COPY_VARIABLES }
+    requires cycles { k ≤ MAX_FRAMES }
+    requires room { k * variables (circuit net.now) [] ≤ MAX_FRAME_VARIABLES }
     requires limit { 1 ≤ b }
     requires other { reset_state (circuit net.now) ≢ state.now }
     requires run { IsExecution (circuit net.now) (c + 1) state.now execution.states execution.inputs }
     ensures { IfOk result (λ o. IfSome o (IsReach (circuit net.now) state.now k b)) }
 {
     netlists_unroll(net, k);
-    let found = log_shown(alloc, encoding, net.reset(), forced, state, c, k, b)?;
+    let found = log_shown(alloc, encoding, net.reset(), implied, state, c, k, b)?;
     match found {
         None => Ok(None),
         Some(log) => Ok(Some(as_shown(net, encoding, state, execution, c, k, b, log))),
@@ -183,7 +183,7 @@ pub(crate) fn look_shown(
     alloc: Global,
     net: &Netlist,
     encoding: &Encoding,
-    forced: &Forced,
+    implied: &Implied,
     state: &Bits,
     c: u32,
     k: u32,
@@ -192,8 +192,8 @@ pub(crate) fn look_shown(
     requires encoded { encoding.now ≡ encoding_of (circuit net.now) [] }
     requires width { length state.now ≡ length (circuit net.now).flops }
     requires within { c < k }
-    requires cycles { k ≤ MAX_COPIES }
-    requires room { k * variables (circuit net.now) [] ≤ MAX_COPY_VARIABLES }
+    requires cycles { k ≤ MAX_FRAMES }
+    requires room { k * variables (circuit net.now) [] ≤ MAX_FRAME_VARIABLES }
     requires limit { 1 ≤ b }
     requires other { reset_state (circuit net.now) ≢ state.now }
     ensures { IfOk result (λ o. IfSome o (IsReach (circuit net.now) state.now k b)) }
@@ -202,6 +202,6 @@ pub(crate) fn look_shown(
     let found = execution_of(alloc, net, encoding, state, c + 1, limit)?;
     match found {
         None => Ok(None),
-        Some(execution) => tell_shown(alloc, net, encoding, forced, state, execution, c, k, b),
+        Some(execution) => tell_shown(alloc, net, encoding, implied, state, execution, c, k, b),
     }
 }

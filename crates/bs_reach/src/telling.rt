@@ -2,11 +2,11 @@
 ghost use Rattle.std.specs.Prelude.{◌≡◌, ◌+◌, ◌*◌, ◌<◌, ◌≤◌, [], length, All, IfOk, OnOk};
 ghost use Rattle.bs_solve_recording.specs.Values.{value_of};
 ghost use Rattle.bs_encode.specs.Cycle.{bits_on};
-ghost use Rattle.bs_encode.specs.Copy.{raised_all, HasRoom};
+ghost use Rattle.bs_encode.specs.Frame.{raised_all, HasRoom};
 ghost use Rattle.bs_reach_unrolled.specs.Room.{IsUnrollable};
 ghost use Rattle.bs_reach_unrolled.specs.Unrolled.{states_at, inputs_at, next_at};
 ghost use Rattle.bs_reach_unrolled.specs.Laws.{states_shown, inputs_shown};
-ghost use Rattle.bs_reach.specs.Told.{EndFits, Tells};
+ghost use Rattle.bs_reach.specs.Verdict.{EndFits, Tells};
 
 use crate::reach::Outcome;
 use crate::search::End;
@@ -18,7 +18,7 @@ use std::alloc::Global;
 
 /// The outcome, with the states and inputs of an execution where there is one.
 #[derive(Drop)]
-pub(crate) struct Told {
+pub(crate) struct Verdict {
     pub(crate) outcome: Outcome,
     pub(crate) states: List<Bits>,
     pub(crate) inputs: List<Bits>,
@@ -45,7 +45,7 @@ fn bits_above(alloc: Global, literals: &[Lit], by: u32, values: &Solution) -> Re
     Ok(bits)
 }
 
-/// The state that a copy shows.
+/// The state that a time frame shows.
 fn state_at(
     alloc: Global,
     encoding: &Encoding,
@@ -62,7 +62,7 @@ fn state_at(
     Ok(bits)
 }
 
-/// The input that a copy shows.
+/// The input that a time frame shows.
 fn input_at(
     alloc: Global,
     encoding: &Encoding,
@@ -79,7 +79,7 @@ fn input_at(
     Ok(bits)
 }
 
-/// The next state that a copy shows.
+/// The next state that a time frame shows.
 fn next_state_at(
     alloc: Global,
     encoding: &Encoding,
@@ -96,7 +96,7 @@ fn next_state_at(
     Ok(bits)
 }
 
-/// Puts the states of the execution whose last copy this is into an empty list.
+/// Puts the states of the execution whose last time frame this is into an empty list.
 fn put_states(
     states: &mut List<Bits>,
     alloc: Global,
@@ -111,14 +111,14 @@ fn put_states(
     requires wide { k * encoding.now.variables ≤ length values.now }
     ensures { OnOk result (states.new ≡ states_shown encoding.now (value_of values.now) (c + 1)) }
 {
-    'copies: for i in 0..c + 1 {
+    'frames: for i in 0..c + 1 {
         states.push(state_at(alloc, encoding, values, i, k)?)?;
     }
     states.push(next_state_at(alloc, encoding, values, c, k)?)?;
     Ok(())
 }
 
-/// The states of the execution whose last copy this is.
+/// The states of the execution whose last time frame this is.
 fn states_of(
     alloc: Global,
     encoding: &Encoding,
@@ -136,7 +136,7 @@ fn states_of(
     Ok(states)
 }
 
-/// Puts the inputs of the execution whose last copy this is into an empty list.
+/// Puts the inputs of the execution whose last time frame this is into an empty list.
 fn put_inputs(
     inputs: &mut List<Bits>,
     alloc: Global,
@@ -151,13 +151,13 @@ fn put_inputs(
     requires wide { k * encoding.now.variables ≤ length values.now }
     ensures { OnOk result (inputs.new ≡ inputs_shown encoding.now (value_of values.now) (c + 1)) }
 {
-    'copies: for i in 0..c + 1 {
+    'frames: for i in 0..c + 1 {
         inputs.push(input_at(alloc, encoding, values, i, k)?)?;
     }
     Ok(())
 }
 
-/// The inputs of the execution whose last copy this is.
+/// The inputs of the execution whose last time frame this is.
 fn inputs_of(
     alloc: Global,
     encoding: &Encoding,
@@ -176,10 +176,10 @@ fn inputs_of(
 }
 
 /// An outcome without an execution.
-pub(crate) fn without_states(alloc: Global, outcome: Outcome) -> Told
+pub(crate) fn without_states(alloc: Global, outcome: Outcome) -> Verdict
     ensures { result.outcome ≡ outcome }
 {
-    Told {
+    Verdict {
         outcome,
         states: List::new(alloc),
         inputs: List::new(alloc),
@@ -187,13 +187,13 @@ pub(crate) fn without_states(alloc: Global, outcome: Outcome) -> Told
 }
 
 /// What the end of a search tells.
-pub(crate) fn tell(alloc: Global, encoding: &Encoding, end: &End, k: u32) -> Result<Told, NoMemory>
+pub(crate) fn tell(alloc: Global, encoding: &Encoding, end: &End, k: u32) -> Result<Verdict, NoMemory>
     requires unrollable { IsUnrollable encoding.now k }
     requires fits { EndFits encoding.now k end.now }
     ensures { IfOk result (Tells encoding.now end.now) }
 {
     match end {
-        End::Reached(c, values) => Ok(Told {
+        End::Reached(c, values) => Ok(Verdict {
             outcome: Outcome::Reached(u64::from(*c) + 1),
             states: states_of(alloc, encoding, values, *c, k)?,
             inputs: inputs_of(alloc, encoding, values, *c, k)?,

@@ -1,11 +1,11 @@
-//! Fewer copies first: where they reach the state, their answer is told of all that are asked for.
+//! Fewer time frames first: where they reach the state, their answer is told of all that are asked for.
 ghost use Rattle.std.specs.Prelude.{◌≡◌, ◌≢◌, ◌*◌, ◌≤◌, true, [], length, map, All, IfOk};
 ghost use Rattle.bs_net.specs.Circuit.{reset_state};
 ghost use Rattle.bs_net.specs.Netlist.{circuit};
 ghost use Rattle.bs_encode.specs.Transition.{variables};
 ghost use Rattle.bs_encode.specs.Encoded.{encoding_of};
 ghost use Rattle.bs_reach.specs.Renamed.{new_line, HasRoom};
-ghost use Rattle.bs_reach_unrolled.specs.declared.limits.TheConstants.{MAX_COPIES, MAX_COPY_VARIABLES};
+ghost use Rattle.bs_reach_unrolled.specs.declared.limits.TheConstants.{MAX_FRAMES, MAX_FRAME_VARIABLES};
 ghost use Rattle.bs_reach_unrolled.specs.Room.{IsUnrollable};
 ghost use Rattle.bs_reach.specs.declared.wider.TheConstants.{ID_ROOM};
 ghost use Rattle.bs_reach.specs.Reach.{IsReach};
@@ -21,35 +21,35 @@ use bs_clause::NoMemory;
 use bs_encode::Encoding;
 use bs_log::Log;
 use bs_net::Netlist;
-use bs_reach_implied::Forced;
+use bs_reach_implied::Implied;
 use bs_reach_unrolled::netlists_unroll;
 use std::alloc::Global;
 
-/// The clauses and flip-flops of a copy and the lines of a log are at most so many where the log is renamed.
+/// The clauses and flip-flops of a time frame and the lines of a log are at most so many where the log is renamed.
 pub(crate) const ID_ROOM: u64 = 1 << 40;
 
-/// What fewer copies tell.
+/// What fewer time frames tell.
 #[derive(Drop)]
 pub(crate) enum Look {
     /// The answer.
-    Told(Reach),
+    Verdict(Reach),
     /// The state is not reached within them.
     More,
-    /// Only all copies can tell.
+    /// Only all time frames can tell.
     Whole,
 }
 
 /// So many times a number.
 fn times(n: u32, size: u64) -> u64
-    requires few { n ≤ MAX_COPIES }
+    requires few { n ≤ MAX_FRAMES }
     requires small { size ≤ 2 * ID_ROOM }
     ensures product { result ≡ n * size }
-    ensures small { result ≤ MAX_COPIES * (2 * ID_ROOM) }
+    ensures small { result ≤ MAX_FRAMES * (2 * ID_ROOM) }
 {
     u64::from(n) * size
 }
 
-/// Where the ids and variables of a log over `j` copies go in the list of `k`.
+/// Where the ids and variables of a log over `j` time frames go in the list of `k`.
 fn shift_between(encoding: &Encoding, j: u32, k: u32) -> Shift
     requires unrollable { IsUnrollable encoding.now k }
     requires some { 1 ≤ j }
@@ -74,7 +74,7 @@ fn shift_between(encoding: &Encoding, j: u32, k: u32) -> Shift
     }
 }
 
-/// Whether the ids of a copy's clauses and of the lines are small.
+/// Whether the ids of a time frame's clauses and of the lines are small.
 fn has_small_ids(encoding: &Encoding, log: &Log) -> bool
     ensures { result ≡ has_small_ids encoding.now log.now }
 {
@@ -119,7 +119,7 @@ fn retold(alloc: Global, shift: Shift, reach: Reach, k: u32) -> Result<Reach, No
     Ok(with_log(k, reach, log))
 }
 
-/// The answer that `j` copies gave and in which they reach the state, for `k` cycles.
+/// The answer that `j` time frames gave and in which they reach the state, for `k` cycles.
 fn widened(
     alloc: Global,
     net: &Netlist,
@@ -132,8 +132,8 @@ fn widened(
     requires encoded { encoding.now ≡ encoding_of (circuit net.now) [] }
     requires some { 1 ≤ j }
     requires fewer { j ≤ k }
-    requires cycles { k ≤ MAX_COPIES }
-    requires room { k * variables (circuit net.now) [] ≤ MAX_COPY_VARIABLES }
+    requires cycles { k ≤ MAX_FRAMES }
+    requires room { k * variables (circuit net.now) [] ≤ MAX_FRAME_VARIABLES }
     requires right { IsReach (circuit net.now) state.now j reach.conflicts reach }
     requires reached { is_reached reach.outcome ≡ true }
     requires small { has_small_ids encoding.now reach.log ≡ true }
@@ -146,7 +146,7 @@ fn widened(
     Ok(told)
 }
 
-/// What the answer that `j` copies gave tells of `k` cycles.
+/// What the answer that `j` time frames gave tells of `k` cycles.
 fn told_of(
     alloc: Global,
     net: &Netlist,
@@ -159,14 +159,14 @@ fn told_of(
     requires encoded { encoding.now ≡ encoding_of (circuit net.now) [] }
     requires some { 1 ≤ j }
     requires fewer { j ≤ k }
-    requires cycles { k ≤ MAX_COPIES }
-    requires room { k * variables (circuit net.now) [] ≤ MAX_COPY_VARIABLES }
+    requires cycles { k ≤ MAX_FRAMES }
+    requires room { k * variables (circuit net.now) [] ≤ MAX_FRAME_VARIABLES }
     requires right { IsReach (circuit net.now) state.now j reach.conflicts reach }
     ensures { IfOk result (LookFits (circuit net.now) state.now k reach.conflicts) }
 {
     if is_reached(reach.outcome) && has_small_ids(encoding, &reach.log) {
         let told = widened(alloc, net, encoding, state, reach, j, k)?;
-        return Ok(Look::Told(told));
+        return Ok(Look::Verdict(told));
     }
     Ok(match reach.outcome {
         Outcome::Unreached => Look::More,
@@ -174,12 +174,12 @@ fn told_of(
     })
 }
 
-/// What `j` copies tell of `k` cycles.
+/// What `j` time frames tell of `k` cycles.
 fn look_within(
     alloc: Global,
     net: &Netlist,
     encoding: &Encoding,
-    forced: &Forced,
+    implied: &Implied,
     state: &Bits,
     j: u32,
     k: u32,
@@ -189,26 +189,26 @@ fn look_within(
     requires width { length state.now ≡ length (circuit net.now).flops }
     requires some { 1 ≤ j }
     requires fewer { j ≤ k }
-    requires cycles { k ≤ MAX_COPIES }
-    requires room { k * variables (circuit net.now) [] ≤ MAX_COPY_VARIABLES }
+    requires cycles { k ≤ MAX_FRAMES }
+    requires room { k * variables (circuit net.now) [] ≤ MAX_FRAME_VARIABLES }
     requires limit { 1 ≤ b }
     requires other { reset_state (circuit net.now) ≢ state.now }
     ensures { IfOk result (LookFits (circuit net.now) state.now k b) }
 {
-    let reach = look_over(alloc, net, encoding, forced, state, j, b)?;
+    let reach = look_over(alloc, net, encoding, implied, state, j, b)?;
     let look = told_of(alloc, net, encoding, state, reach, j, k)?;
     Ok(look)
 }
 
-/// How many copies are looked over first. An execution of the first length that what follows from reset does not deny was sought
+/// How many time frames are looked over first. An execution of the first length that what follows from reset does not deny was sought
 /// alone before, so they are four times as many as that has, or all.
-fn first_copies(forced: &Forced, k: u32) -> u32
+fn first_frames(implied: &Implied, k: u32) -> u32
     requires some { 1 ≤ k }
-    requires cycles { k ≤ MAX_COPIES }
+    requires cycles { k ≤ MAX_FRAMES }
     ensures some { 1 ≤ result }
     ensures few { result ≤ k }
 {
-    let denied = forced.len();
+    let denied = implied.len();
     if denied < k as usize && 4 * (denied as u32 + 1) < k {
         4 * (denied as u32 + 1)
     } else {
@@ -216,12 +216,12 @@ fn first_copies(forced: &Forced, k: u32) -> u32
     }
 }
 
-/// The answer by few copies where they tell it, and else by all that are asked for: four times as many each time.
+/// The answer by few time frames where they tell it, and else by all that are asked for: four times as many each time.
 pub(crate) fn look_wider(
     alloc: Global,
     net: &Netlist,
     encoding: &Encoding,
-    forced: &Forced,
+    implied: &Implied,
     state: &Bits,
     k: u32,
     b: u64,
@@ -229,19 +229,19 @@ pub(crate) fn look_wider(
     requires encoded { encoding.now ≡ encoding_of (circuit net.now) [] }
     requires width { length state.now ≡ length (circuit net.now).flops }
     requires some { 1 ≤ k }
-    requires cycles { k ≤ MAX_COPIES }
-    requires room { k * variables (circuit net.now) [] ≤ MAX_COPY_VARIABLES }
+    requires cycles { k ≤ MAX_FRAMES }
+    requires room { k * variables (circuit net.now) [] ≤ MAX_FRAME_VARIABLES }
     requires limit { 1 ≤ b }
     requires other { reset_state (circuit net.now) ≢ state.now }
     ensures { IfOk result (IsReach (circuit net.now) state.now k b) }
 {
-    let mut j = first_copies(forced, k);
+    let mut j = first_frames(implied, k);
     'sizes: while j < k {
-        match look_within(alloc, net, encoding, forced, state, j, k, b)? {
-            Look::Told(reach) => return Ok(reach),
+        match look_within(alloc, net, encoding, implied, state, j, k, b)? {
+            Look::Verdict(reach) => return Ok(reach),
             Look::More => j = 4 * j,
             Look::Whole => break,
         }
     }
-    look_over(alloc, net, encoding, forced, state, k, b)
+    look_over(alloc, net, encoding, implied, state, k, b)
 }

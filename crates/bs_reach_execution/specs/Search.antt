@@ -6,8 +6,8 @@ use Rattle.bs_solve_recording.specs.Solver.{SolverState}
 -- it is over so many variables, and has no line yet
 pub record IsFresh (s : SolverState) (vars : ℕ) : Type 0 where
   pub vars_are : s.vars ≡ vars
-  pub own : s.book.problem.vars ≡ vars
-  pub lines : s.book.history ≡ []
+  pub own : s.proof.problem.vars ≡ vars
+  pub lines : s.proof.history ≡ []
   pub idle : s.stage ≡ Idle
   pub well : s.failed ≡ false
   pub room : vars + 1 < 2 ^ 30

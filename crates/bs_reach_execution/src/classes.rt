@@ -1,4 +1,4 @@
-//! Which variables of one copy are always equal, or one the other's negation.
+//! Which variables of one time frame are always equal, or one the other's negation.
 use crate::numbers::{NONE, filled, number_or, write};
 use crate::template::short;
 use bs_clause::{Lit, Lits, NoMemory, is_same};

@@ -1,7 +1,7 @@
-//! The clauses of all copies, with what is known put in: constants, and one variable for those that are equal.
+//! The clauses of all time frames, with what is known put in: constants, and one variable for those that are equal.
 use crate::classes::{Classes, classes_of};
 use crate::numbers::{FALSE, NONE, TRUE, literal_of, number_or, write};
-use crate::scene::{Scene, begin_copy, known_term, term_of};
+use crate::scene::{Scene, begin_frame, known_term, term_of};
 use crate::template::{Template, template_of};
 use bs_bits::Bits;
 use bs_clause::{Clauses, Lit, Lits, NoMemory};
@@ -11,8 +11,8 @@ use std::alloc::Global;
 /// A clause has at most so many literals where clauses are folded.
 pub(crate) const MAX_WIDE: usize = 32;
 
-/// The folded clauses over the variables 1 to `vars`, as codes with the end of each, and what the inputs of each copy stand for,
-/// one copy after another.
+/// The folded clauses over the variables 1 to `vars`, as codes with the end of each, and what the inputs of each time frame stand for,
+/// one time frame after another.
 #[derive(Drop)]
 pub(crate) struct Folded {
     codes: Vec<u32>,
@@ -21,7 +21,7 @@ pub(crate) struct Folded {
     pub(crate) inputs: Vec<u32>,
 }
 
-/// What the copies are made of.
+/// What the time frames are made of.
 #[derive(Drop)]
 struct Parts<'a> {
     clauses: &'a [Lits],
@@ -93,7 +93,7 @@ fn add_clause(
     Ok(())
 }
 
-/// Puts the clauses of the present copy at the end.
+/// Puts the clauses of the present time frame at the end.
 fn add_clauses(into: &mut Folded, scene: &mut Scene, parts: &Parts<'_>) -> Result<(), NoMemory> {
     for at in parts.classes.clauses.as_slice() {
         let place = *at as usize;
@@ -105,7 +105,7 @@ fn add_clauses(into: &mut Folded, scene: &mut Scene, parts: &Parts<'_>) -> Resul
     Ok(())
 }
 
-/// Notes what the inputs of the present copy stand for.
+/// Notes what the inputs of the present time frame stand for.
 fn add_inputs(
     into: &mut Vec<u32>,
     scene: &Scene,
@@ -118,7 +118,7 @@ fn add_inputs(
     Ok(())
 }
 
-/// The flip-flops stand for what the present copy leads to.
+/// The flip-flops stand for what the present time frame leads to.
 fn lead(scene: &mut Scene, classes: &Classes, next: &[Lit]) {
     for f in 0..next.len() {
         let term = term_of(scene, classes, next[f]);
@@ -126,14 +126,14 @@ fn lead(scene: &mut Scene, classes: &Classes, next: &[Lit]) {
     }
 }
 
-/// One copy more.
-fn add_copy(
+/// One time frame more.
+fn add_frame(
     into: &mut Folded,
     scene: &mut Scene,
     parts: &Parts<'_>,
     encoding: &Encoding,
 ) -> Result<(), NoMemory> {
-    begin_copy(
+    begin_frame(
         scene,
         parts.clauses,
         parts.template,
@@ -145,8 +145,8 @@ fn add_copy(
     add_inputs(&mut into.inputs, scene, parts.classes, encoding.inputs())
 }
 
-/// So many copies.
-fn add_copies(
+/// So many time frames.
+fn add_frames(
     into: &mut Folded,
     scene: &mut Scene,
     parts: &Parts<'_>,
@@ -154,7 +154,7 @@ fn add_copies(
     cycles: u32,
 ) -> Result<(), NoMemory> {
     for _ in 0..cycles {
-        add_copy(into, scene, parts, encoding)?;
+        add_frame(into, scene, parts, encoding)?;
     }
     Ok(())
 }
@@ -193,7 +193,7 @@ fn add_goal(into: &mut Folded, scene: &Scene, state: &Bits) -> Result<(), NoMemo
     Ok(())
 }
 
-/// The clauses of so many copies from one state on, and of the state that they are to lead to.
+/// The clauses of so many time frames from one state on, and of the state that they are to lead to.
 fn fold_by(
     alloc: Global,
     parts: &Parts<'_>,
@@ -210,7 +210,7 @@ fn fold_by(
         inputs: Vec::new(alloc),
     };
     set_state(&mut scene, reset);
-    add_copies(&mut folded, &mut scene, parts, encoding, cycles)?;
+    add_frames(&mut folded, &mut scene, parts, encoding, cycles)?;
     add_goal(&mut folded, &scene, state)?;
     folded.vars = scene.last;
     Ok(folded)
@@ -226,7 +226,7 @@ pub(crate) fn are_narrow(clauses: &[Lits]) -> bool {
     true
 }
 
-/// The same, by the encoding of one copy.
+/// The same, by the encoding of one time frame.
 pub(crate) fn folded_of(
     alloc: Global,
     encoding: &Encoding,
@@ -251,7 +251,7 @@ pub(crate) fn folded_of(
     fold_by(alloc, &parts, encoding, reset, state, cycles)
 }
 
-/// The code over the variables counted from the last one on: those of the last copies are decided first.
+/// The code over the variables counted from the last one on: those of the last time frames are decided first.
 pub(crate) fn backward(vars: u32, code: u32) -> u32 {
     if code == NONE || code / 2 == 0 || code / 2 > vars {
         return code;

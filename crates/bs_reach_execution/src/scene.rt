@@ -1,11 +1,11 @@
-//! What the variables of the present copy stand for: constants that follow from reset, and literals of the folded clauses.
+//! What the variables of the present time frame stand for: constants that follow from reset, and literals of the folded clauses.
 use crate::classes::Classes;
 use crate::numbers::{FALSE, NONE, TRUE, fill, filled, number_or, turned, write};
 use crate::template::Template;
 use bs_clause::{Lit, Lits, NoMemory};
 use std::alloc::Global;
 
-/// The terms of a copy's variables: a constant, the code of a literal, or none yet. The literals that are true in the order in
+/// The terms of a time frame's variables: a constant, the code of a literal, or none yet. The literals that are true in the order in
 /// which they came to be, and the terms of the flip-flops.
 #[derive(Drop)]
 pub(crate) struct Scene {
@@ -60,7 +60,7 @@ fn open_in(terms: &[u32], clause: &[Lit]) -> Option<Lit> {
 }
 
 /// Makes the one literal that a clause leaves open true.
-fn force(scene: &mut Scene, clauses: &[Lits], at: usize) -> Result<(), NoMemory> {
+fn imply(scene: &mut Scene, clauses: &[Lits], at: usize) -> Result<(), NoMemory> {
     if at >= clauses.len() {
         return Ok(());
     }
@@ -77,7 +77,7 @@ fn deny(scene: &mut Scene, clauses: &[Lits], template: &Template, l: Lit) -> Res
     let end = number_or(template.starts.as_slice(), code + 1, 0);
     for place in start..end {
         let at = number_or(template.places.as_slice(), place as usize, NONE) as usize;
-        force(scene, clauses, at)?;
+        imply(scene, clauses, at)?;
     }
     Ok(())
 }
@@ -100,15 +100,15 @@ fn follow(
 }
 
 /// The clauses of one literal make it true.
-fn lay_units(scene: &mut Scene, clauses: &[Lits], units: &[u32]) -> Result<(), NoMemory> {
+fn assign_units(scene: &mut Scene, clauses: &[Lits], units: &[u32]) -> Result<(), NoMemory> {
     for at in units {
-        force(scene, clauses, *at as usize)?;
+        imply(scene, clauses, *at as usize)?;
     }
     Ok(())
 }
 
-/// A flip-flop stands for what the copy before leads to.
-fn lay_state(scene: &mut Scene, state: Lit, f: usize) -> Result<(), NoMemory> {
+/// A flip-flop stands for what the time frame before leads to.
+fn assign_state(scene: &mut Scene, state: Lit, f: usize) -> Result<(), NoMemory> {
     let term = number_or(scene.present.as_slice(), f, NONE);
     if term == TRUE {
         return assign(scene, state);
@@ -120,16 +120,16 @@ fn lay_state(scene: &mut Scene, state: Lit, f: usize) -> Result<(), NoMemory> {
     Ok(())
 }
 
-/// All flip-flops stand for what the copy before leads to.
-fn lay_states(scene: &mut Scene, states: &[Lit]) -> Result<(), NoMemory> {
+/// All flip-flops stand for what the time frame before leads to.
+fn assign_states(scene: &mut Scene, states: &[Lit]) -> Result<(), NoMemory> {
     for f in 0..states.len() {
-        lay_state(scene, states[f], f)?;
+        assign_state(scene, states[f], f)?;
     }
     Ok(())
 }
 
-/// The constants of the next copy.
-pub(crate) fn begin_copy(
+/// The constants of the next time frame.
+pub(crate) fn begin_frame(
     scene: &mut Scene,
     clauses: &[Lits],
     template: &Template,
@@ -138,8 +138,8 @@ pub(crate) fn begin_copy(
 ) -> Result<(), NoMemory> {
     fill(&mut scene.terms, NONE);
     scene.trail.truncate(0);
-    lay_units(scene, clauses, template.units.as_slice())?;
-    lay_states(scene, states)?;
+    assign_units(scene, clauses, template.units.as_slice())?;
+    assign_states(scene, states)?;
     follow(scene, clauses, template, vars)
 }
 

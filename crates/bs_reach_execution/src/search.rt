@@ -104,8 +104,8 @@ fn values_by(
     requires limit { 1 ≤ conflicts }
     ensures { IfOk result (λ o. IfSome o (λ values. solver.old.vars ≤ length values)) }
 {
-    let guard = solver.begin_step()?;
-    let assumptions = one(alloc, guard)?;
+    let activation = solver.begin_step()?;
+    let assumptions = one(alloc, activation)?;
     match solver.solve(alloc, &assumptions, conflicts)? {
         Answer::Found(values) => Ok(Some(values)),
         Answer::Refuted(_) => Ok(None),

@@ -1,5 +1,5 @@
 pub mod RowLemmas
 pub mod NamedLemmas
-pub mod DenialLemmas
+pub mod FailedAssumptionLemmas
 pub mod Reading
 pub mod Chains

@@ -1,4 +1,4 @@
--- Where a copy's clauses, the units at reset and the links stand in the unrolled list.
+-- Where a time frame's clauses, the units at reset and the links stand in the unrolled list.
 use Rattle.std.proofs.Common.{◌≡◌, ℕ, zero, suc, ◌+◌, ◌-◌, ◌*◌, ◌^◌, ◌<◌, ◌≤◌, arith, Bool, true, false, not, List, [], ◌∷◌, ◌++◌, map, length, refl, sym, ap, ◌∙◌, Some}
 use Rattle.std.specs.Prelude.{All, Contains, slice_get, Option}
 use Rattle.std.specs.List.{flat_map, range_with_len}
@@ -10,10 +10,10 @@ use Rattle.bs_log.specs.Refusal.{has_distinct_variables}
 use Rattle.bs_encode.specs.Tables.{lit}
 use Rattle.bs_encode.specs.Encoded.{Encoded}
 use Rattle.bs_encode.specs.Assuming.{signed}
-use Rattle.bs_encode.specs.Copy.{raised, raised_all, links, HasRoom}
-use Rattle.bs_reach_unrolled.specs.Unrolled.{base_of, copy_of, states_at, next_at, links_of, reset_units, unrolled}
+use Rattle.bs_encode.specs.Frame.{raised, raised_all, links, HasRoom}
+use Rattle.bs_reach_unrolled.specs.Unrolled.{base_of, frame_of, states_at, next_at, links_of, reset_units, unrolled}
 use Rattle.bs_reach_unrolled.specs.Room.{IsUnrollable}
-use Rattle.bs_reach_unrolled.proofs.UnrollLemmas.{copy_room, states_room, next_room}
+use Rattle.bs_reach_unrolled.proofs.UnrollLemmas.{frame_room, states_room, next_room}
 use Rattle.bs_reach_unrolled.proofs.UnrolledLemmas.{unrolled_distinct}
 use Rattle.bs_watch.proofs.Gets.{same_some, none_is_not_some, get_left, get_map, get_map_cases, get_from_Contains, Contains_from_get}
 use Rattle.bs_solve_analysis.proofs.Clauses.{all_from}
@@ -95,14 +95,14 @@ links_get (x ∷ ns) (y ∷ ss) (suc i) n s b at_n at_s =
     links_get ns ss i n s b at_n at_s
 
 module _ (e : Encoded) (reset : List Bool) (k : ℕ) (u : IsUnrollable e k) where
-  abbrev copies : List Clause
-  copies = flat_map (copy_of e) (range_with_len 0 k)
+  abbrev frames : List Clause
+  frames = flat_map (frame_of e) (range_with_len 0 k)
 
   abbrev all_links : List Clause
   all_links = flat_map (links_of e) (range_with_len 0 (k - 1))
 
-  copy_length : (m : ℕ) → length (copy_of e m) ≡ length e.clauses
-  copy_length m = length-map e.clauses (raised_all (base_of e m))
+  frame_length : (m : ℕ) → length (frame_of e m) ≡ length e.clauses
+  frame_length m = length-map e.clauses (raised_all (base_of e m))
 
   links_length : (m : ℕ) → length (links_of e m) ≡ 2 * length e.states
   links_length m =
@@ -127,21 +127,21 @@ module _ (e : Encoded) (reset : List Bool) (k : ℕ) (u : IsUnrollable e k) wher
       by zero some = absurd (omega (arith, some))
       by (suc n) some = get_map (λ (l : Literal). l ∷ []) (signed e.states reset) f (lit s.variable b) (signed_get e.states reset f s b at bit)
 
-  pub copy_listed : (c i id : ℕ) (d clause : Clause) → c < k → slice_get e.clauses i ≡ Some d → clause ≡ raised_all (base_of e c) d →
+  pub frame_listed : (c i id : ℕ) (d clause : Clause) → c < k → slice_get e.clauses i ≡ Some d → clause ≡ raised_all (base_of e c) d →
       id ≡ c * length e.clauses + i + 1 → clause_at (unrolled e reset k) id ≡ Some clause
-  copy_listed c i id d clause low at is number =
+  frame_listed c i id d clause low at is number =
       ap (clause_at (unrolled e reset k)) (let x : id ≡ suc (c * length e.clauses + i) = omega (arith, number) in x) ∙
-      (get_left copies (reset_units e reset k ++ all_links) (c * length e.clauses + i) (raised_all (base_of e c) d)
-      (flat_get (copy_of e) (length e.clauses) 0 k c i (raised_all (base_of e c) d) copy_length low
-      (ap (λ m. slice_get (copy_of e m) i) (let x : 0 + c ≡ c = omega arith in x) ∙ get_map (raised_all (base_of e c)) e.clauses i d at)) ∙
+      (get_left frames (reset_units e reset k ++ all_links) (c * length e.clauses + i) (raised_all (base_of e c) d)
+      (flat_get (frame_of e) (length e.clauses) 0 k c i (raised_all (base_of e c) d) frame_length low
+      (ap (λ m. slice_get (frame_of e m) i) (let x : 0 + c ≡ c = omega arith in x) ∙ get_map (raised_all (base_of e c)) e.clauses i d at)) ∙
       ap Some (sym is))
 
   pub unit_listed : (f id : ℕ) (s : Literal) (b : Bool) (clause : Clause) → 1 ≤ k → slice_get e.states f ≡ Some s → slice_get reset f ≡ Some b →
       clause ≡ lit s.variable b ∷ [] → id ≡ k * length e.clauses + f + 1 → clause_at (unrolled e reset k) id ≡ Some clause
   unit_listed f id s b clause some at bit is number =
       ap (clause_at (unrolled e reset k)) (let x : id ≡ suc (k * length e.clauses + f) = omega (arith, number) in x) ∙
-      (get_behind copies (reset_units e reset k ++ all_links) (k * length e.clauses) f (k * length e.clauses + f) (lit s.variable b ∷ [])
-      (length_flat (copy_of e) (length e.clauses) 0 k copy_length) refl
+      (get_behind frames (reset_units e reset k ++ all_links) (k * length e.clauses) f (k * length e.clauses + f) (lit s.variable b ∷ [])
+      (length_flat (frame_of e) (length e.clauses) 0 k frame_length) refl
       (get_left (reset_units e reset k) all_links f (lit s.variable b ∷ []) (units_get f s b some at bit)) ∙
       ap Some (sym is))
 
@@ -154,8 +154,8 @@ module _ (e : Encoded) (reset : List Bool) (k : ℕ) (u : IsUnrollable e k) wher
       let place = length e.states + (c * (2 * length e.states) + (2 * f + second b)) in
       let made = linking b (base_of e c + n.variable) (base_of e (c + 1) + s.variable) in
       ap (clause_at (unrolled e reset k)) (let x : id ≡ suc (k * length e.clauses + place) = omega (arith, number) in x) ∙
-      (get_behind copies (reset_units e reset k ++ all_links) (k * length e.clauses) place (k * length e.clauses + place) made
-      (length_flat (copy_of e) (length e.clauses) 0 k copy_length) refl
+      (get_behind frames (reset_units e reset k ++ all_links) (k * length e.clauses) place (k * length e.clauses + place) made
+      (length_flat (frame_of e) (length e.clauses) 0 k frame_length) refl
       (get_behind (reset_units e reset k) all_links (length e.states) (c * (2 * length e.states) + (2 * f + second b)) place made
       (units_length (omega (arith, low)) width) refl
       (flat_get (links_of e) (2 * length e.states) 0 (k - 1) c (2 * f + second b) made links_length (omega (arith, low))
@@ -167,15 +167,15 @@ module _ (e : Encoded) (reset : List Bool) (k : ℕ) (u : IsUnrollable e k) wher
   pub unrolled_length : 1 ≤ k → length e.states ≡ length reset →
       length (unrolled e reset k) ≡ k * length e.clauses + (length e.states + (k - 1) * (2 * length e.states))
   unrolled_length some width =
-      let all = length-append copies (reset_units e reset k ++ all_links) in
+      let all = length-append frames (reset_units e reset k ++ all_links) in
       let rest = length-append (reset_units e reset k) all_links in
-      let first = length_flat (copy_of e) (length e.clauses) 0 k copy_length in
+      let first = length_flat (frame_of e) (length e.clauses) 0 k frame_length in
       let units = units_length some width in
       let last = length_flat (links_of e) (2 * length e.states) 0 (k - 1) links_length in
       omega (arith, all, rest, first, units, last)
 
   pub row_room : (c by i : ℕ) (d : Clause) → c < k → by ≡ c * e.variables → slice_get e.clauses i ≡ Some d → HasRoom by d
-  row_room c by i d low is at = All-contains (HasRoom by) e.clauses d (copy_room e k c by u low is) (Contains_from_get e.clauses i d at)
+  row_room c by i d low is at = All-contains (HasRoom by) e.clauses d (frame_room e k c by u low is) (Contains_from_get e.clauses i d at)
 
   pub state_room : (c by f : ℕ) (s : Literal) → c < k → by ≡ c * e.variables → slice_get e.states f ≡ Some s → by + s.variable < 2 ^ 30
   state_room c by f s low is at = All-contains (λ (l : Literal). by + l.variable < 2 ^ 30) e.states s (states_room e k c by u low is) (Contains_from_get e.states f s at)

@@ -4,15 +4,15 @@ use Rattle.bs_clause.specs.Literal.{Literal, Clause}
 use Rattle.bs_log.specs.Refusal.{denies}
 use Rattle.bs_reach_implied.specs.Chain.{IsProvedBy}
 use Rattle.bs_reach_implied.specs.declared.cone.Cone.{Cone}
-use Rattle.bs_reach_implied.specs.declared.denying.Lemma.{Lemma}
-use Rattle.bs_reach_implied.specs.declared.rows.Row.{Row}
+use Rattle.bs_reach_implied.specs.declared.failure.Lemma.{Lemma}
+use Rattle.bs_reach_implied.specs.declared.rows.UnrolledClause.{UnrolledClause}
 
 -- the clause of an id
 abbrev pub clause_at : List Clause → ℕ → Option Clause
 clause_at all zero = None
 clause_at all (suc n) = slice_get all n
 
-abbrev pub IsRow : List Clause → Row → Type 0
+abbrev pub IsRow : List Clause → UnrolledClause → Type 0
 IsRow all r = clause_at all r.id ≡ Some r.clause
 
 -- the clauses of these ids
@@ -20,7 +20,7 @@ abbrev pub AreRows : List Clause → List ℕ → List Clause → Type 0
 AreRows all ids clauses = map (clause_at all) ids ≡ map Some clauses
 
 -- a row more
-pub record Adds (old new : Cone) (r : Row) : Type 0 where
+pub record Adds (old new : Cone) (r : UnrolledClause) : Type 0 where
   pub ids : new.ids.items ≡ old.ids.items ++ r.id ∷ []
   pub clauses : new.clauses.items ≡ old.clauses.items ++ r.clause ∷ []
 

@@ -1,11 +1,11 @@
-//! The clauses from which a literal follows: each is found by what forces its literal, behind those that force the others.
+//! The clauses from which a literal follows: each is found by what implies its literal, behind those that imply the others.
 ghost use Rattle.std.specs.Prelude.{◌≡◌, ◌<◌, ◌≤◌, ◌++◌, ◌∷◌, [], length, IfOk, OnOk, IfSome};
 ghost use Rattle.bs_reach_unrolled.specs.Room.{IsUnrollable};
 ghost use Rattle.bs_reach_unrolled.specs.Unrolled.{unrolled};
 ghost use Rattle.bs_reach_implied.specs.declared.rows.TheConstants.{ROW_ROOM};
 ghost use Rattle.bs_reach_implied.specs.Rows.{IsRow, AreRows, Adds};
 
-use crate::rows::{Row, copy_row, link_row, reset_row};
+use crate::rows::{UnrolledClause, frame_row, link_row, reset_row};
 use crate::template::{number_at, write};
 use bs_bits::Bits;
 use bs_clause::{Lit, Lits, NoMemory};
@@ -18,8 +18,8 @@ const MAX_STEPS: u64 = 1 << 40;
 /// What is looked at a second time, when what it needs has its place, is so much higher.
 const AGAIN: u64 = 1 << 63;
 
-/// Clauses with their ids, each with the literal that it forces and the place of a clause that needs this; and the literals that
-/// are asked for, the code of each with the copy of its variable above.
+/// Clauses with their ids, each with the literal that it implies and the place of a clause that needs this; and the literals that
+/// are asked for, the code of each with the time frame of its variable above.
 #[derive(Drop)]
 pub(crate) struct Cone {
     pub(crate) literals: Vec<Lit>,
@@ -44,7 +44,7 @@ impl Cone {
     }
 }
 
-/// The row of a reason in copy number `c`.
+/// The row of a reason in time frame number `c`.
 fn row_by(
     alloc: Global,
     encoding: &Encoding,
@@ -53,7 +53,7 @@ fn row_by(
     c: u32,
     reason: usize,
     positive: bool,
-) -> Result<Option<Row>, NoMemory>
+) -> Result<Option<UnrolledClause>, NoMemory>
     requires unrollable { IsUnrollable encoding.now k }
     requires width { length encoding.now.states ≡ length reset.now }
     requires small { length encoding.now.clauses ≤ ROW_ROOM }
@@ -65,7 +65,7 @@ fn row_by(
         return Ok(None);
     }
     if reason < rows {
-        let row = copy_row(alloc, encoding, reset, c, k, reason)?;
+        let row = frame_row(alloc, encoding, reset, c, k, reason)?;
         return Ok(Some(row));
     }
     let f = reason - rows;
@@ -89,12 +89,12 @@ fn has(literals: &[Lit], places: &[u32], code: u32) -> bool {
     literals[at].code() == code
 }
 
-/// The literal of this code with the copy of its variable.
+/// The literal of this code with the time frame of its variable.
 fn asked(code: u32, c: u32) -> u64 {
     u64::from(c) * 0x1_0000_0000 + u64::from(code)
 }
 
-/// Asks for the literal of this code in a copy, where it has no place yet. Whether it was asked for.
+/// Asks for the literal of this code in a time frame, where it has no place yet. Whether it was asked for.
 fn ask_for(
     literals: &[Lit],
     places: &[u32],
@@ -109,7 +109,7 @@ fn ask_for(
     Ok(true)
 }
 
-/// Asks for what denies the other literals of a clause of a copy, whose codes are so much higher. Whether anything was asked for.
+/// Asks for what denies the other literals of a clause of a time frame, whose codes are so much higher. Whether anything was asked for.
 fn ask_clause(
     literals: &[Lit],
     places: &[u32],
@@ -130,7 +130,7 @@ fn ask_clause(
     Ok(more)
 }
 
-/// Asks for what the reason of a literal in copy number `c` needs. Whether anything was asked for.
+/// Asks for what the reason of a literal in time frame number `c` needs. Whether anything was asked for.
 fn ask(
     encoding: &Encoding,
     literals: &[Lit],
@@ -178,7 +178,7 @@ fn literal_in(clause: &[Lit], code: u32) -> Option<Lit> {
 }
 
 /// Puts a row at the end.
-fn add(cone: &mut Cone, l: Lit, row: Row, at: u32) -> Result<(), NoMemory>
+fn add(cone: &mut Cone, l: Lit, row: UnrolledClause, at: u32) -> Result<(), NoMemory>
     ensures { OnOk result (Adds cone.old cone.new row) }
 {
     cone.later.push(at)?;
@@ -194,7 +194,7 @@ fn place(
     places: &mut Vec<u32>,
     l: Lit,
     code: u32,
-    row: Row,
+    row: UnrolledClause,
 ) -> Result<(), NoMemory>
     ensures { OnOk result (Adds cone.old cone.new row) }
 {
@@ -235,7 +235,7 @@ fn settle(
     cone: &mut Cone,
     places: &mut Vec<u32>,
     code: u32,
-    row: Row,
+    row: UnrolledClause,
 ) -> Result<bool, NoMemory>
     requires row { IsRow (unrolled encoding.now reset.now k) row }
     requires rows { AreRows (unrolled encoding.now reset.now k) cone.old.ids.items cone.old.clauses.items }
@@ -250,7 +250,7 @@ fn settle(
     }
 }
 
-/// Makes the row of a reason for a literal in copy number `c`. Whether there is one.
+/// Makes the row of a reason for a literal in time frame number `c`. Whether there is one.
 fn take(
     alloc: Global,
     encoding: &Encoding,
@@ -275,7 +275,7 @@ fn take(
     }
 }
 
-/// Looks at the literal of this code in copy number `c`, which was asked for last. Whether there is a row for it.
+/// Looks at the literal of this code in time frame number `c`, which was asked for last. Whether there is a row for it.
 fn visit(
     alloc: Global,
     encoding: &Encoding,
@@ -319,7 +319,7 @@ fn visit(
     take(alloc, encoding, reset, k, cone, places, c, reason - 1, code)
 }
 
-/// Looks at what is asked for until nothing is, or nothing forces it.
+/// Looks at what is asked for until nothing is, or nothing implies it.
 fn gather(
     alloc: Global,
     encoding: &Encoding,
@@ -364,7 +364,7 @@ fn gather(
     Ok(())
 }
 
-/// Lets the clauses of the cone before go, and asks for a literal in a copy.
+/// Lets the clauses of the cone before go, and asks for a literal in a time frame.
 fn begin(cone: &mut Cone, l: Lit, c: u32) -> Result<(), NoMemory>
     ensures ids { cone.new.ids.items ≡ [] }
     ensures clauses { cone.new.clauses.items ≡ [] }
@@ -378,7 +378,7 @@ fn begin(cone: &mut Cone, l: Lit, c: u32) -> Result<(), NoMemory>
     Ok(())
 }
 
-/// The cone becomes that of the clauses from which a literal of copy number `c` follows.
+/// The cone becomes that of the clauses from which a literal of time frame number `c` follows.
 pub(crate) fn find(
     alloc: Global,
     encoding: &Encoding,

@@ -1,4 +1,4 @@
-//! What follows from reset in one copy after another, by the clauses of one copy.
+//! What follows from reset in one time frame after another, by the clauses of one time frame.
 ghost use Rattle.std.specs.Prelude.{◌<◌, length};
 
 use crate::template::{Template, number_at, template_of, write, zeros};
@@ -7,18 +7,18 @@ use bs_clause::{Lit, Lits, NoMemory};
 use bs_encode::Encoding;
 use std::alloc::Global;
 
-/// What follows from reset in the first copies: for each variable of the unrolled clauses what forces it, and for each of the
+/// What follows from reset in the first time frames: for each variable of the unrolled clauses what implies it, and for each of the
 /// first lengths a flip-flop that does not get its bit of the state.
 ///
-/// What forces a variable is 0 where nothing does, and else one more than the number of a clause of its copy, or of a flip-flop
+/// What implies a variable is 0 where nothing does, and else one more than the number of a clause of its time frame, or of a flip-flop
 /// behind all of these.
 #[derive(Drop)]
-pub struct Forced {
+pub struct Implied {
     pub(crate) reasons: Vec<u32>,
     pub(crate) denied: Vec<u32>,
 }
 
-impl Forced {
+impl Implied {
     /// How many of the first lengths are denied.
     pub fn len(&self) -> usize {
         self.denied.len()
@@ -28,8 +28,8 @@ impl Forced {
 /// An estimate of a cone's size grows no further.
 const MOST_ROWS: u32 = 1 << 30;
 
-/// The values in a copy, 1 of a variable that is true and 2 of one that is false, each with an estimate of how many clauses it
-/// follows from; how many literals of each clause are false; and values with estimates of the state that the copy before leads to.
+/// The values in a time frame, 1 of a variable that is true and 2 of one that is false, each with an estimate of how many clauses it
+/// follows from; how many literals of each clause are false; and values with estimates of the state that the time frame before leads to.
 #[derive(Drop)]
 struct Scene {
     values: Vec<u32>,
@@ -104,7 +104,7 @@ fn open_in(values: &[u32], clause: &[Lit]) -> Option<Lit> {
 }
 
 /// Makes the one literal that a clause leaves open true.
-fn force(
+fn imply(
     scene: &mut Scene,
     reasons: &mut Vec<u32>,
     base: usize,
@@ -136,7 +136,7 @@ fn touch(
     if falses as usize + 1 != clauses[at].len() {
         return Ok(());
     }
-    force(scene, reasons, base, clauses[at].slice(), at)
+    imply(scene, reasons, base, clauses[at].slice(), at)
 }
 
 /// A literal is false.
@@ -178,7 +178,7 @@ fn follow(
 }
 
 /// The clauses of one literal make it true.
-fn lay_units(
+fn assign_units(
     scene: &mut Scene,
     reasons: &mut Vec<u32>,
     base: usize,
@@ -188,14 +188,14 @@ fn lay_units(
     for unit in units {
         let at = *unit as usize;
         if at < clauses.len() {
-            force(scene, reasons, base, clauses[at].slice(), at)?;
+            imply(scene, reasons, base, clauses[at].slice(), at)?;
         }
     }
     Ok(())
 }
 
-/// A flip-flop has the value that the copy before leads to.
-fn lay_state(
+/// A flip-flop has the value that the time frame before leads to.
+fn assign_state(
     scene: &mut Scene,
     reasons: &mut Vec<u32>,
     base: usize,
@@ -218,8 +218,8 @@ fn lay_state(
     )
 }
 
-/// All flip-flops have the values that the copy before leads to.
-fn lay_states(
+/// All flip-flops have the values that the time frame before leads to.
+fn assign_states(
     scene: &mut Scene,
     reasons: &mut Vec<u32>,
     base: usize,
@@ -227,7 +227,7 @@ fn lay_states(
     rows: usize,
 ) -> Result<(), NoMemory> {
     for f in 0..states.len() {
-        lay_state(scene, reasons, base, states[f], f, rows.wrapping_add(f))?;
+        assign_state(scene, reasons, base, states[f], f, rows.wrapping_add(f))?;
     }
     Ok(())
 }
@@ -248,14 +248,14 @@ fn zero_all(numbers: &mut Vec<u32>) {
     }
 }
 
-/// The variables of the copy before are open again.
+/// The variables of the time frame before are open again.
 fn clear(scene: &mut Scene) {
     open_all(scene.trail.as_slice(), &mut scene.values, &mut scene.sizes);
     scene.trail.truncate(0);
     zero_all(&mut scene.falses);
 }
 
-/// What the copy leads to.
+/// What the time frame leads to.
 fn lead(scene: &mut Scene, next: &[Lit]) {
     for f in 0..next.len() {
         let value = value_of(scene.values.as_slice(), next[f]);
@@ -265,14 +265,14 @@ fn lead(scene: &mut Scene, next: &[Lit]) {
     }
 }
 
-/// Nothing forces so many more variables yet.
+/// Nothing implies so many more variables yet.
 fn widen(reasons: &mut Vec<u32>, vars: u32) -> Result<(), NoMemory> {
     reasons.resize(reasons.len().wrapping_add(vars as usize), 0)?;
     Ok(())
 }
 
-/// What follows in one copy more.
-fn add_copy(
+/// What follows in one time frame more.
+fn add_frame(
     scene: &mut Scene,
     reasons: &mut Vec<u32>,
     encoding: &Encoding,
@@ -282,8 +282,8 @@ fn add_copy(
     let clauses = encoding.clauses().slice();
     clear(scene);
     widen(reasons, encoding.vars())?;
-    lay_units(scene, reasons, base, clauses, template.units.as_slice())?;
-    lay_states(scene, reasons, base, encoding.states(), clauses.len())?;
+    assign_units(scene, reasons, base, clauses, template.units.as_slice())?;
+    assign_states(scene, reasons, base, encoding.states(), clauses.len())?;
     follow(scene, reasons, base, clauses, template, encoding.vars())?;
     lead(scene, encoding.next());
     Ok(())
@@ -337,10 +337,10 @@ fn scene_at(alloc: Global, encoding: &Encoding, reset: &Bits) -> Result<Scene, N
     })
 }
 
-/// What follows in the first copies, up to the first length that this does not deny.
-fn add_copies(
+/// What follows in the first time frames, up to the first length that this does not deny.
+fn add_frames(
     scene: &mut Scene,
-    into: &mut Forced,
+    into: &mut Implied,
     encoding: &Encoding,
     template: &Template,
     state: &Bits,
@@ -348,7 +348,7 @@ fn add_copies(
 ) -> Result<(), NoMemory> {
     for c in 0..k {
         let base = (c as usize).wrapping_mul(encoding.vars() as usize);
-        add_copy(scene, &mut into.reasons, encoding, template, base)?;
+        add_frame(scene, &mut into.reasons, encoding, template, base)?;
         match best_denied(
             scene.present.as_slice(),
             scene.present_sizes.as_slice(),
@@ -362,32 +362,32 @@ fn add_copies(
 }
 
 /// The same with a template.
-fn forced_by(
+fn implied_by(
     alloc: Global,
     encoding: &Encoding,
     template: &Template,
     reset: &Bits,
     state: &Bits,
     k: u32,
-) -> Result<Forced, NoMemory> {
+) -> Result<Implied, NoMemory> {
     let mut scene = scene_at(alloc, encoding, reset)?;
-    let mut found = Forced {
+    let mut found = Implied {
         reasons: zeros(alloc, 1)?,
         denied: Vec::new(alloc),
     };
-    add_copies(&mut scene, &mut found, encoding, template, state, k)?;
+    add_frames(&mut scene, &mut found, encoding, template, state, k)?;
     Ok(found)
 }
 
 /// What follows from reset, up to the first of `k` lengths that this does not deny.
-pub fn forced_from(
+pub fn implied_from(
     alloc: Global,
     encoding: &Encoding,
     reset: &Bits,
     state: &Bits,
     k: u32,
-) -> Result<Forced, NoMemory> {
+) -> Result<Implied, NoMemory> {
     let template = template_of(alloc, encoding.clauses().slice(), encoding.vars())?;
-    let found = forced_by(alloc, encoding, &template, reset, state, k)?;
+    let found = implied_by(alloc, encoding, &template, reset, state, k)?;
     Ok(found)
 }

@@ -1,6 +1,6 @@
-//! Clauses of the unrolled list, made from one copy, with their ids there.
+//! Clauses of the unrolled list, made from one time frame, with their ids there.
 ghost use Rattle.std.specs.Prelude.{◌≡◌, ◌+◌, ◌*◌, ◌^◌, ◌<◌, ◌≤◌, ◌∷◌, [], length, IfOk};
-ghost use Rattle.bs_reach_unrolled.specs.declared.limits.TheConstants.{MAX_COPIES};
+ghost use Rattle.bs_reach_unrolled.specs.declared.limits.TheConstants.{MAX_FRAMES};
 ghost use Rattle.bs_reach_unrolled.specs.Room.{IsUnrollable};
 ghost use Rattle.bs_reach_unrolled.specs.Unrolled.{unrolled};
 ghost use Rattle.bs_reach_implied.specs.declared.rows.TheConstants.{ROW_ROOM};
@@ -11,35 +11,35 @@ use bs_clause::{Lit, Lits, NoMemory, Var};
 use bs_encode::{Encoding, raise_all};
 use std::alloc::Global;
 
-/// A copy's clauses and flip-flops are at most so many where a row is made.
+/// A time frame's clauses and flip-flops are at most so many where a row is made.
 pub(crate) const ROW_ROOM: u64 = 1 << 30;
 
 /// A clause of the unrolled list, and its id there.
 #[derive(Drop)]
-pub struct Row {
+pub struct UnrolledClause {
     pub id: u64,
     pub clause: Lits,
 }
 
 /// So many times a number.
 fn times(n: u32, size: u64) -> u64
-    requires few { n ≤ MAX_COPIES }
+    requires few { n ≤ MAX_FRAMES }
     requires small { size ≤ 2 * ROW_ROOM }
     ensures product { result ≡ n * size }
-    ensures small { result ≤ MAX_COPIES * (2 * ROW_ROOM) }
+    ensures small { result ≤ MAX_FRAMES * (2 * ROW_ROOM) }
 {
     u64::from(n) * size
 }
 
-/// Clause number `i` of copy number `c`.
-pub(crate) fn copy_row(
+/// Clause number `i` of time frame number `c`.
+pub(crate) fn frame_row(
     alloc: Global,
     encoding: &Encoding,
     _reset: &Bits,
     c: u32,
     k: u32,
     i: usize,
-) -> Result<Row, NoMemory>
+) -> Result<UnrolledClause, NoMemory>
     requires unrollable { IsUnrollable encoding.now k }
     requires within { c < k }
     requires there { i < length encoding.now.clauses }
@@ -52,7 +52,7 @@ pub(crate) fn copy_row(
         encoding.clauses().get(i).slice(),
         c * encoding.vars(),
     )?;
-    Ok(Row {
+    Ok(UnrolledClause {
         id: before + i as u64 + 1,
         clause,
     })
@@ -84,7 +84,7 @@ pub(crate) fn reset_row(
     reset: &Bits,
     k: u32,
     f: usize,
-) -> Result<Row, NoMemory>
+) -> Result<UnrolledClause, NoMemory>
     requires some { 1 ≤ k }
     requires unrollable { IsUnrollable encoding.now k }
     requires there { f < length encoding.now.states }
@@ -96,7 +96,7 @@ pub(crate) fn reset_row(
     let before = times(k, encoding.clauses().len() as u64);
     let state = encoding.state_lit(f).var();
     let clause = unit(alloc, Lit::new(state, reset.get(f)))?;
-    Ok(Row {
+    Ok(UnrolledClause {
         id: before + f as u64 + 1,
         clause,
     })
@@ -110,7 +110,7 @@ fn above(by: u32, v: Var) -> Var
     Var(by + v.0)
 }
 
-/// The link by which a flip-flop of copy number `c + 1` has the value that copy number `c` leads to.
+/// The link by which a flip-flop of time frame number `c + 1` has the value that time frame number `c` leads to.
 pub(crate) fn link_row(
     alloc: Global,
     encoding: &Encoding,
@@ -119,7 +119,7 @@ pub(crate) fn link_row(
     k: u32,
     f: usize,
     positive: bool,
-) -> Result<Row, NoMemory>
+) -> Result<UnrolledClause, NoMemory>
     requires unrollable { IsUnrollable encoding.now k }
     requires within { c + 1 < k }
     requires there { f < length encoding.now.states }
@@ -134,7 +134,7 @@ pub(crate) fn link_row(
     let state = above((c + 1) * encoding.vars(), encoding.state_lit(f).var());
     let clause = pair(alloc, Lit::new(next, !positive), Lit::new(state, positive))?;
     let second = if positive { 0 } else { 1 };
-    Ok(Row {
+    Ok(UnrolledClause {
         id: before + 2 * f as u64 + second + 1,
         clause,
     })

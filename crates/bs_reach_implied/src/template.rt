@@ -1,4 +1,4 @@
-//! Where each literal stands in the clauses of one copy.
+//! Where each literal stands in the clauses of one time frame.
 use bs_clause::{Lits, NoMemory};
 use std::alloc::Global;
 

@@ -18,22 +18,22 @@ use Rattle.bs_encode.specs.Assuming.{signed}
 use Rattle.bs_encode.specs.Cycle.{bits_on, ShowsCycle, IsTransition}
 use Rattle.bs_encode.proofs.LiteralLemmas.{signs_true}
 use Rattle.bs_encode.proofs.RangeLemmas.{join}
-use Rattle.bs_reach_unrolled.specs.Unrolled.{base_of, copy_of, states_at, next_at, links_of, reset_units, unrolled}
+use Rattle.bs_reach_unrolled.specs.Unrolled.{base_of, frame_of, states_at, next_at, links_of, reset_units, unrolled}
 use Rattle.bs_reach_unrolled.specs.Laws.{ReachedIsShown}
-use Rattle.bs_encode.specs.Copy.{lowered}
-use Rattle.bs_encode.proofs.CopyLemmas.{raised_met, raised_bits, links_met, overlay, inside, below, beyond, Agree, still_met, same_bits}
+use Rattle.bs_encode.specs.Frame.{lowered}
+use Rattle.bs_encode.proofs.FrameLemmas.{raised_met, raised_bits, links_met, overlay, inside, below, beyond, Agree, still_met, same_bits}
 use Rattle.bs_reach_unrolled.proofs.ClauseLemmas.{flat_of, units_met}
 use Rattle.bs_reach_unrolled.proofs.SolutionLemmas.{zero_base}
 
 -- ---- one assignment of several
 
--- each f i on the n variables of copy i, below k, and g above
+-- each f i on the n variables of time frame i, below k, and g above
 abbrev joined : ℕ → (ℕ → ℕ → Bool) → (ℕ → Bool) → ℕ → ℕ → Bool
 joined n f g zero = g
 joined n f g (suc k) = overlay (k * n) n (f k) (joined n f g k)
 
-copies_below : (n i k w : ℕ) → i < k → 1 ≤ w → w ≤ n → i * n + w ≤ k * n
-copies_below n i k w lt low high =
+frames_below : (n i k w : ℕ) → i < k → 1 ≤ w → w ≤ n → i * n + w ≤ k * n
+frames_below n i k w lt low high =
     let less : i * n + (w - 1) < n * k = mul-add-lt i n (w - 1) k lt (omega (arith, low, high)) in
     omega (arith, less, low, mul_comm n k)
 
@@ -44,7 +44,7 @@ joined_at n f g (suc k) i w lt low high = elim (cases_eq i k) [
       inside (k * n) n (f k) (joined n f g k) (i * n + w) w (ap (λ (m : ℕ). m * n + w) same) low high ∙ ap (λ (m : ℕ). f m w) (sym same)
   | inr other ↦
       let less : i < k = omega (arith, lt, other) in
-      below (k * n) n (f k) (joined n f g k) (i * n + w) (copies_below n i k w less low high) ∙ joined_at n f g k i w less low high
+      below (k * n) n (f k) (joined n f g k) (i * n + w) (frames_below n i k w less low high) ∙ joined_at n f g k i w less low high
 ]
 
 joined_above : (n : ℕ) (f : ℕ → ℕ → Bool) (g : ℕ → Bool) (k v : ℕ) → k * n < v → joined n f g k v ≡ g v
@@ -112,8 +112,8 @@ module _ (c : Circuit) (e : Encoded) (t : IsTransition c [] e) (x : ℕ → List
   unfolding value
   above v lt = joined_above n (λ i. (cycle i).value) others k v lt
 
-  copy_met : (i : ℕ) → i < k → AllByRecursion (Satisfies value) (copy_of e i)
-  copy_met i lt =
+  frame_met : (i : ℕ) → i < k → AllByRecursion (Satisfies value) (frame_of e i)
+  frame_met i lt =
       raised_met value (base_of e i) e.clauses
       (still_met n (lowered value (base_of e i)) (cycle i).value (agrees i lt) e.clauses (recursion_from_All (HasVariables n) e.clauses t.clauses_range)
       (recursion_from_All (Satisfies (cycle i).value) e.clauses (cycle i).clauses))
@@ -143,8 +143,8 @@ module _ (c : Circuit) (e : Encoded) (t : IsTransition c [] e) (x : ℕ → List
 
   all_met : AllByRecursion (Satisfies value) (unrolled e (reset_state c) k)
   all_met =
-      join (Satisfies value) (flat_map (copy_of e) (range_with_len 0 k)) (reset_units e (reset_state c) k ++ flat_map (links_of e) (range_with_len 0 (k - 1)))
-      (flat_of (Satisfies value) (copy_of e) k copy_met)
+      join (Satisfies value) (flat_map (frame_of e) (range_with_len 0 k)) (reset_units e (reset_state c) k ++ flat_map (links_of e) (range_with_len 0 (k - 1)))
+      (flat_of (Satisfies value) (frame_of e) k frame_met)
       (join (Satisfies value) (reset_units e (reset_state c) k) (flat_map (links_of e) (range_with_len 0 (k - 1)))
       (reset_is_met k (omega arith))
       (flat_of (Satisfies value) (links_of e) (k - 1) (λ i lt. links_are_met i (omega (arith, lt)))))

@@ -37,9 +37,9 @@ assumed_at e reset k p count j one few =
     got (map (length_assumes e k p) (range_with_len 1 count)) (j - 1) []
     ∙ get_or-map-range_with_len (length_assumes e k p) 1 count (j - 1) j [] (omega (arith, one, few)) (omega (arith, one))
 
--- of the variables above the copies the guard of a step alone
+-- of the variables above the time frames the activation literal of a step alone
 abbrev only : ℕ → ℕ → Bool
-only guard v = eqb v guard
+only activation v = eqb v activation
 
 pub finished_is_not_reached : (c : Circuit) (e : Encoded) → IsTransition c [] e → FinishedIsNotReached c e
 finished_is_not_reached c e t k count p log before after id few ok none parts reached =
@@ -53,19 +53,19 @@ finished_is_not_reached c e t k count p log before after id few ok none parts re
     let low : j ≤ count = omega (arith, inside, steps) in
     let shown : ShowsReached c e k j p (only (base + j)) = reached_is_shown c e t k j p (only (base + j)) one (omega (arith, low, few)) reached in
     let v : ℕ → Bool = shown.value in
-    let guard_is : v (base + j) ≡ true = shown.above (base + j) (omega (arith, one)) ∙ eq-eqb (base + j) (base + j) refl in
+    let activation_is : v (base + j) ≡ true = shown.above (base + j) (omega (arith, one)) ∙ eq-eqb (base + j) (base + j) refl in
     let front : HasNoBlock before = no_block_before before (Finish id ∷ after) (subst HasNoBlock parts none) in
     let blocks : blocks_of h j ≡ [] = no_blocks h j (no_block_reversed before front) in
     let suits : Suits q h j v = record {
       in_range = inside;
       clauses = shown.clauses;
       blocks = subst (λ (cs : List Clause). All (Satisfies v) cs) (sym blocks) (All-nil (Satisfies v));
-      guard = guard_is;
-      other_guards =
+      activation = activation_is;
+      other_activations =
           λ other from to differ.
           shown.above (base + other) (omega (arith, from)) ∙ ne_eqb (base + other) (base + j) (λ same. differ (omega (arith, same)));
     } in
     let true_ones : All (λ l. IsTrue (literal_value v l)) (length_assumes e k p j) =
-    All-cons (λ l. IsTrue (literal_value v l)) (lit (base + j) true) (signed (next_at e (j - 1)) p) (ap (λ b. beq b true) guard_is) shown.next in
+    All-cons (λ l. IsTrue (literal_value v l)) (lit (base + j) true) (signed (next_at e (j - 1)) p) (ap (λ b. beq b true) activation_is) shown.next in
     finished_steps_are_refuted q log before after id v ok parts suits
     (subst (λ (a : Clause). All (λ l. IsTrue (literal_value v l)) a) (sym (assumed_at e (reset_state c) k p count j one low)) true_ones)

@@ -13,10 +13,10 @@ use Rattle.bs_encode.specs.Cycle.{bits_on, IsTransition}
 use Rattle.bs_encode.proofs.DistinctLemmas.{left_all, right_all}
 use Rattle.bs_encode.proofs.LiteralLemmas.{AllTrue, bits_shown}
 use Rattle.bs_reach_unrolled.specs.Execution.{IsExecution}
-use Rattle.bs_reach_unrolled.specs.Unrolled.{base_of, copy_of, states_at, inputs_at, next_at, links_of, reset_units, unrolled}
+use Rattle.bs_reach_unrolled.specs.Unrolled.{base_of, frame_of, states_at, inputs_at, next_at, links_of, reset_units, unrolled}
 use Rattle.bs_reach_unrolled.specs.Laws.{inputs_shown, SolutionsAreExecutions}
-use Rattle.bs_encode.specs.Copy.{lowered}
-use Rattle.bs_encode.proofs.CopyLemmas.{lowered_met, raised_bits, length-bits_on, length-raised_all, links_say}
+use Rattle.bs_encode.specs.Frame.{lowered}
+use Rattle.bs_encode.proofs.FrameLemmas.{lowered_met, raised_bits, length-bits_on, length-raised_all, links_say}
 use Rattle.bs_reach_unrolled.proofs.ClauseLemmas.{part_of_flat, units_say}
 
 -- ---- states that follow each other
@@ -35,7 +35,7 @@ module _ (c : Circuit) (S X N : ℕ → List Bool) (j : ℕ) (start : S 0 ≡ re
   input_is : (i : ℕ) → i < suc j → get_or xs i [] ≡ X i
   input_is i lt = get_or-map-range_with_len X 0 (suc j) i i [] lt (zero-add i)
 
-  -- from the state of a copy to its next state
+  -- from the state of a time frame to its next state
   steps_on : (i : ℕ) → i < suc j → state_at c xs i ≡ S i → state_at c xs (suc i) ≡ N i
   unfolding state_at
   steps_on i lt here = ap (λ (s : List Bool). next c s (get_or xs i [])) here ∙ (ap (next c (S i)) (input_is i lt) ∙ steps i lt)
@@ -56,7 +56,7 @@ module _ (c : Circuit) (S X N : ℕ → List Bool) (j : ℕ) (start : S 0 ≡ re
       ∙ (ap (λ (s : List Bool). map (state_at c xs) (range_with_len 0 (suc j)) ++ s ∷ []) (sym run_ends)
       ∙ sym (map-range_with_len_more (state_at c xs) 0 (suc j) (suc j) (zero-add (suc j))))
 
--- ---- what the copies show
+-- ---- what the time frames show
 
 widths_of : (X : ℕ → List Bool) (n : ℕ) → ((i : ℕ) → length (X i) ≡ n) → (ks : List ℕ) → AllByRecursion (λ (x : List Bool). length x ≡ n) (map X ks)
 widths_of X n each [] = tt
@@ -78,16 +78,16 @@ module _ (c : Circuit) (e : Encoded) (t : IsTransition c [] e) (a : ℕ → Bool
   abbrev N : ℕ → List Bool
   N i = bits_on a (next_at e i)
 
-  copy_leads : (i : ℕ) → AllByRecursion (Satisfies a) (copy_of e i) → next c (S i) (X i) ≡ N i
-  copy_leads i met =
+  frame_leads : (i : ℕ) → AllByRecursion (Satisfies a) (frame_of e i) → next c (S i) (X i) ≡ N i
+  frame_leads i met =
       let low : ℕ → Bool = lowered a (base_of e i) in
       let one : next c (bits_on low e.states) (bits_on low e.inputs) ≡ bits_on low e.next =
       t.leads low (All-from_recursion (Satisfies low) e.clauses (lowered_met a (base_of e i) e.clauses met)) in
       ap (λ (s : List Bool). next c s (X i)) (raised_bits a (base_of e i) e.states)
       ∙ (ap (next c (bits_on low e.states)) (raised_bits a (base_of e i) e.inputs) ∙ (one ∙ sym (raised_bits a (base_of e i) e.next)))
 
-  copies_join : (i : ℕ) → AllByRecursion (Satisfies a) (links_of e i) → N i ≡ S (i + 1)
-  copies_join i met =
+  frames_join : (i : ℕ) → AllByRecursion (Satisfies a) (links_of e i) → N i ≡ S (i + 1)
+  frames_join i met =
       links_say a (next_at e i) (states_at e (i + 1))
       (length-raised_all (base_of e i) e.next ∙ (t.next_width ∙ (sym t.states_width ∙ sym (length-raised_all (base_of e (i + 1)) e.states)))) met
 
@@ -101,15 +101,15 @@ module _ (c : Circuit) (e : Encoded) (t : IsTransition c [] e) (a : ℕ → Bool
       IsExecution c (suc j) p (map S (range_with_len 0 (suc j)) ++ N j ∷ []) (map X (range_with_len 0 (suc j)))
   shown_execution k j p few met ends wide reset_wide =
       let n : ℕ = suc k in
-      let cs : List Clause = flat_map (copy_of e) (range_with_len 0 n) in
+      let cs : List Clause = flat_map (frame_of e) (range_with_len 0 n) in
       let us : List Clause = reset_units e (reset_state c) n in
       let ks : List Clause = flat_map (links_of e) (range_with_len 0 (n - 1)) in
-      let copies : AllByRecursion (Satisfies a) cs = left_all (Satisfies a) cs (us ++ ks) met in
+      let frames : AllByRecursion (Satisfies a) cs = left_all (Satisfies a) cs (us ++ ks) met in
       let others : AllByRecursion (Satisfies a) (us ++ ks) = right_all (Satisfies a) cs (us ++ ks) met in
       let steps : (i : ℕ) → i < suc j → next c (S i) (X i) ≡ N i =
-      λ i to. copy_leads i (part_of_flat (Satisfies a) (copy_of e) n copies i (omega (arith, to, few))) in
+      λ i to. frame_leads i (part_of_flat (Satisfies a) (frame_of e) n frames i (omega (arith, to, few))) in
       let joins : (i : ℕ) → i + 1 < suc j → N i ≡ S (i + 1) =
-      λ i to. copies_join i (part_of_flat (Satisfies a) (links_of e) (n - 1) (right_all (Satisfies a) us ks others) i (omega (arith, to, few))) in
+      λ i to. frames_join i (part_of_flat (Satisfies a) (links_of e) (n - 1) (right_all (Satisfies a) us ks others) i (omega (arith, to, few))) in
       let start : S 0 ≡ reset_state c = starts k (left_all (Satisfies a) us ks others) (t.states_width ∙ sym reset_wide) in
       let xs : Run = map X (range_with_len 0 (suc j)) in
       let end : N j ≡ p = bits_shown a (next_at e j) p (wide ∙ (sym t.next_width ∙ sym (length-raised_all (base_of e j) e.next))) ends in

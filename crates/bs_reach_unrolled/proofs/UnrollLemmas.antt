@@ -11,8 +11,8 @@ use Rattle.bs_clause.specs.Range.{IsWithin, HasVariables}
 use Rattle.bs_encode.specs.Encoded.{Encoded}
 use Rattle.std.proofs.lemmas.List.Concat.{flat_map-append}
 use Rattle.bs_bits.proofs.RangeLemmas.{range_push}
-use Rattle.bs_reach_unrolled.specs.declared.limits.TheConstants.{MAX_COPY_VARIABLES}
-use Rattle.bs_encode.specs.Copy.{HasRoom, HasRooms}
+use Rattle.bs_reach_unrolled.specs.declared.limits.TheConstants.{MAX_FRAME_VARIABLES}
+use Rattle.bs_encode.specs.Frame.{HasRoom, HasRooms}
 use Rattle.bs_reach_unrolled.specs.Room.{IsUnrollable}
 
 -- one place more
@@ -30,19 +30,19 @@ flat_step {X} f base into next k grown so_far =
 
 -- ---- room
 
-pub base_fits : (n k c : ℕ) → c < k → k * n ≤ MAX_COPY_VARIABLES → c * n + n ≤ MAX_COPY_VARIABLES
+pub base_fits : (n k c : ℕ) → c < k → k * n ≤ MAX_FRAME_VARIABLES → c * n + n ≤ MAX_FRAME_VARIABLES
 base_fits n k c lt room =
     let more : suc c * n ≤ k * n = mul-le (suc c) n k n lt (omega arith) in
     omega (arith, more, suc-mul c n, room)
 
-pub room_above : (n by : ℕ) (c : Clause) → HasVariables n c → by + n ≤ MAX_COPY_VARIABLES → HasRoom by c
+pub room_above : (n by : ℕ) (c : Clause) → HasVariables n c → by + n ≤ MAX_FRAME_VARIABLES → HasRoom by c
 room_above n by c h room = All-weaker (IsWithin n) (λ (l : Literal). by + l.variable < VARIABLE_LIMIT) (λ l w. omega (arith, w.1, room)) c h
 
-pub rooms_above : (n by : ℕ) (cs : List Clause) → All (HasVariables n) cs → by + n ≤ MAX_COPY_VARIABLES → HasRooms by cs
+pub rooms_above : (n by : ℕ) (cs : List Clause) → All (HasVariables n) cs → by + n ≤ MAX_FRAME_VARIABLES → HasRooms by cs
 rooms_above n by cs h room = All-weaker (HasVariables n) (HasRoom by) (λ c w. room_above n by c w room) cs h
 
-pub copy_room : (e : Encoded) (k c by : ℕ) → IsUnrollable e k → c < k → by ≡ c * e.variables → HasRooms by e.clauses
-copy_room e k c by u lt is = rooms_above e.variables by e.clauses u.clauses (omega (arith, is, base_fits e.variables k c lt u.room))
+pub frame_room : (e : Encoded) (k c by : ℕ) → IsUnrollable e k → c < k → by ≡ c * e.variables → HasRooms by e.clauses
+frame_room e k c by u lt is = rooms_above e.variables by e.clauses u.clauses (omega (arith, is, base_fits e.variables k c lt u.room))
 
 pub states_room : (e : Encoded) (k c by : ℕ) → IsUnrollable e k → c < k → by ≡ c * e.variables → HasRoom by e.states
 states_room e k c by u lt is = room_above e.variables by e.states u.states (omega (arith, is, base_fits e.variables k c lt u.room))
@@ -53,5 +53,5 @@ next_room e k c by u lt is = room_above e.variables by e.next u.next (omega (ari
 pub inputs_room : (e : Encoded) (k c by : ℕ) → IsUnrollable e k → c < k → by ≡ c * e.variables → HasRoom by e.inputs
 inputs_room e k c by u lt is = room_above e.variables by e.inputs u.inputs (omega (arith, is, base_fits e.variables k c lt u.room))
 
-pub copies_fit : (n k c : ℕ) → c < k → c * n + n ≤ k * n
-copies_fit n k c lt = let more : suc c * n ≤ k * n = mul-le (suc c) n k n lt (omega arith) in omega (arith, more, suc-mul c n)
+pub frames_fit : (n k c : ℕ) → c < k → c * n + n ≤ k * n
+frames_fit n k c lt = let more : suc c * n ≤ k * n = mul-le (suc c) n k n lt (omega arith) in omega (arith, more, suc-mul c n)

@@ -1,4 +1,4 @@
--- The unrolled clauses are over the variables of the copies, and no variable stands twice in one of them.
+-- The unrolled clauses are over the variables of the time frames, and no variable stands twice in one of them.
 use Rattle.std.proofs.Common.{◌≡◌, ℕ, zero, suc, ◌+◌, ◌-◌, ◌*◌, ◌<◌, ◌≤◌, Bool, true, List, [], ◌∷◌, ◌++◌, map, length}
 use Rattle.std.proofs.Common.{refl, ap, sym, subst, ◌∙◌, arith}
 use Rattle.std.specs.List.{AllByRecursion, All, range_with_len, flat_map}
@@ -13,19 +13,19 @@ use Rattle.bs_encode.specs.Cycle.{IsTransition, EncodesCycles}
 use Rattle.bs_encode.specs.Assuming.{signed}
 use Rattle.bs_encode.proofs.RangeLemmas.{InRange, join}
 use Rattle.bs_encode.proofs.DistinctLemmas.{weaken, signed_all}
-use Rattle.bs_reach_unrolled.specs.declared.limits.TheConstants.{MAX_COPIES, MAX_COPY_VARIABLES}
-use Rattle.bs_encode.proofs.CopyLemmas.{raised_in, raised_within, raised_range, raised_distinct, links_range, links_distinct}
-use Rattle.bs_reach_unrolled.specs.Unrolled.{base_of, copy_of, states_at, next_at, links_of, reset_units, unrolled}
+use Rattle.bs_reach_unrolled.specs.declared.limits.TheConstants.{MAX_FRAMES, MAX_FRAME_VARIABLES}
+use Rattle.bs_encode.proofs.FrameLemmas.{raised_in, raised_within, raised_range, raised_distinct, links_range, links_distinct}
+use Rattle.bs_reach_unrolled.specs.Unrolled.{base_of, frame_of, states_at, next_at, links_of, reset_units, unrolled}
 use Rattle.bs_reach_unrolled.specs.Room.{IsUnrollable}
 use Rattle.bs_reach_unrolled.proofs.ClauseLemmas.{flat_of}
-use Rattle.bs_reach_unrolled.proofs.UnrollLemmas.{copies_fit}
+use Rattle.bs_reach_unrolled.proofs.UnrollLemmas.{frames_fit}
 
--- ---- one copy
+-- ---- one time frame
 
-pub one_copy : (c : Circuit) → EncodesCycles c → IsTransition c [] (encoding_of c [])
-one_copy c cycles = cycles.each [] (All-nil (λ (item : List ℕ). All (λ i. i < length c.flops) item))
+pub one_frame : (c : Circuit) → EncodesCycles c → IsTransition c [] (encoding_of c [])
+one_frame c cycles = cycles.each [] (All-nil (λ (item : List ℕ). All (λ i. i < length c.flops) item))
 
-pub transition_unrolls : (c : Circuit) (e : Encoded) (k : ℕ) → IsTransition c [] e → k ≤ MAX_COPIES → k * e.variables ≤ MAX_COPY_VARIABLES → IsUnrollable e k
+pub transition_unrolls : (c : Circuit) (e : Encoded) (k : ℕ) → IsTransition c [] e → k ≤ MAX_FRAMES → k * e.variables ≤ MAX_FRAME_VARIABLES → IsUnrollable e k
 transition_unrolls c e k t few room =
     record {
       cycles = few;
@@ -64,9 +64,9 @@ unrolled_range e reset k u =
     let n : ℕ = e.variables in
     let m : ℕ = k * n in
     All-from_recursion (HasVariables m) (unrolled e reset k)
-    (join (HasVariables m) (flat_map (copy_of e) (range_with_len 0 k)) (reset_units e reset k ++ flat_map (links_of e) (range_with_len 0 (k - 1)))
-    (flat_of (HasVariables m) (copy_of e) k
-    (λ c lt. raised_range (base_of e c) n m e.clauses (recursion_from_All (HasVariables n) e.clauses u.clauses) (copies_fit n k c lt)))
+    (join (HasVariables m) (flat_map (frame_of e) (range_with_len 0 k)) (reset_units e reset k ++ flat_map (links_of e) (range_with_len 0 (k - 1)))
+    (flat_of (HasVariables m) (frame_of e) k
+    (λ c lt. raised_range (base_of e c) n m e.clauses (recursion_from_All (HasVariables n) e.clauses u.clauses) (frames_fit n k c lt)))
     (join (HasVariables m) (reset_units e reset k) (flat_map (links_of e) (range_with_len 0 (k - 1)))
     (reset_range e reset k u.states)
     (flat_of (HasVariables m) (links_of e) (k - 1)
@@ -74,8 +74,8 @@ unrolled_range e reset k u =
     let one : c < k = omega (arith, lt) in
     let two : c + 1 < k = omega (arith, lt) in
     links_range m (next_at e c) (states_at e (c + 1))
-    (raised_within (base_of e c) n m e.next (recursion_from_All (IsWithin n) e.next u.next) (copies_fit n k c one))
-    (raised_within (base_of e (c + 1)) n m e.states (recursion_from_All (IsWithin n) e.states u.states) (copies_fit n k (c + 1) two))))))
+    (raised_within (base_of e c) n m e.next (recursion_from_All (IsWithin n) e.next u.next) (frames_fit n k c one))
+    (raised_within (base_of e (c + 1)) n m e.states (recursion_from_All (IsWithin n) e.states u.states) (frames_fit n k (c + 1) two))))))
 
 -- ---- no variable twice
 
@@ -95,8 +95,8 @@ pub unrolled_distinct : (e : Encoded) (reset : List Bool) (k : ℕ) → IsUnroll
 unrolled_distinct e reset k u =
     let n : ℕ = e.variables in
     All-from_recursion Distinct (unrolled e reset k)
-    (join Distinct (flat_map (copy_of e) (range_with_len 0 k)) (reset_units e reset k ++ flat_map (links_of e) (range_with_len 0 (k - 1)))
-    (flat_of Distinct (copy_of e) k (λ c lt. raised_distinct (base_of e c) e.clauses (recursion_from_All Distinct e.clauses u.clauses_distinct)))
+    (join Distinct (flat_map (frame_of e) (range_with_len 0 k)) (reset_units e reset k ++ flat_map (links_of e) (range_with_len 0 (k - 1)))
+    (flat_of Distinct (frame_of e) k (λ c lt. raised_distinct (base_of e c) e.clauses (recursion_from_All Distinct e.clauses u.clauses_distinct)))
     (join Distinct (reset_units e reset k) (flat_map (links_of e) (range_with_len 0 (k - 1)))
     (reset_distinct e reset k)
     (flat_of Distinct (links_of e) (k - 1)

@@ -14,7 +14,7 @@ use Rattle.bs_encode.specs.Cycle.{bits_on}
 use Rattle.bs_reach_unrolled.specs.Execution.{ReachedIn, IsExecution}
 use Rattle.bs_reach_unrolled.specs.Unrolled.{states_at, inputs_at, next_at, unrolled, reach_problem}
 
--- the states that an assignment shows, one at each of the first j copies, and the state that the last of these leads to
+-- the states that an assignment shows, one at each of the first j time frames, and the state that the last of these leads to
 abbrev pub states_shown : Encoded → (ℕ → Bool) → ℕ → List (List Bool)
 states_shown e value j = map (λ i. bits_on value (states_at e i)) (range_with_len 0 j) ++ bits_on value (next_at e (j - 1)) ∷ []
 
@@ -28,7 +28,7 @@ SolutionsAreExecutions c e =
     All (λ l. IsTrue (literal_value value l)) (signed (next_at e (j - 1)) p) → length p ≡ length c.flops →
     IsExecution c j p (states_shown e value j) (inputs_shown e value j)
 
--- an assignment that meets the unrolled clauses and shows p as the next state of copy j - 1, and above the copies has the
+-- an assignment that meets the unrolled clauses and shows p as the next state of time frame j - 1, and above the time frames has the
 -- values of another one
 pub record ShowsReached (c : Circuit) (e : Encoded) (k j : ℕ) (p : List Bool) (others : ℕ → Bool) : Type 0 where
   pub value : ℕ → Bool

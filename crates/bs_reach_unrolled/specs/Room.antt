@@ -4,12 +4,12 @@ use Rattle.bs_clause.specs.Range.{HasVariables}
 use Rattle.bs_log.specs.Refusal.{has_distinct_variables}
 use Rattle.bs_encode.specs.Encoded.{Encoded}
 use Rattle.bs_encode.specs.Assuming.{signed}
-use Rattle.bs_reach_unrolled.specs.declared.limits.TheConstants.{MAX_COPIES, MAX_COPY_VARIABLES}
+use Rattle.bs_reach_unrolled.specs.declared.limits.TheConstants.{MAX_FRAMES, MAX_FRAME_VARIABLES}
 
--- k copies have room, with the guards of their lengths
+-- k time frames have room, with the activation literals of their lengths
 pub record IsUnrollable (e : Encoded) (k : ℕ) : Type 0 where
-  pub cycles : k ≤ MAX_COPIES
-  pub room : k * e.variables ≤ MAX_COPY_VARIABLES
+  pub cycles : k ≤ MAX_FRAMES
+  pub room : k * e.variables ≤ MAX_FRAME_VARIABLES
   pub same_width : length e.next ≡ length e.states
   pub clauses : All (HasVariables e.variables) e.clauses
   pub states : HasVariables e.variables e.states

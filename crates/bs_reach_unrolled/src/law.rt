@@ -3,7 +3,7 @@ ghost use Rattle.std.specs.Prelude.{◌*◌, ◌≤◌, []};
 ghost use Rattle.bs_net.specs.Netlist.{circuit};
 ghost use Rattle.bs_encode.specs.Encoded.{encoding_of};
 ghost use Rattle.bs_encode.specs.Transition.{variables};
-ghost use Rattle.bs_reach_unrolled.specs.declared.limits.TheConstants.{MAX_COPIES, MAX_COPY_VARIABLES};
+ghost use Rattle.bs_reach_unrolled.specs.declared.limits.TheConstants.{MAX_FRAMES, MAX_FRAME_VARIABLES};
 ghost use Rattle.bs_reach_unrolled.specs.Room.{IsUnrollable};
 ghost use Rattle.bs_reach_unrolled.specs.Laws.{SolutionsAreExecutions, ReachedIsShown, FinishedIsNotReached};
 
@@ -20,10 +20,10 @@ pub fn unrolled_clauses_are_executions(net: &Netlist)
     encodings_are_cycles(net);
 }
 
-/// A netlist unrolls to so many cycles, where the variables of the copies are few enough.
+/// A netlist unrolls to so many cycles, where the variables of the time frames are few enough.
 pub fn netlists_unroll(net: &Netlist, k: u32)
-    requires cycles { k ≤ MAX_COPIES }
-    requires room { k * variables (circuit net.now) [] ≤ MAX_COPY_VARIABLES }
+    requires cycles { k ≤ MAX_FRAMES }
+    requires room { k * variables (circuit net.now) [] ≤ MAX_FRAME_VARIABLES }
     ensures { IsUnrollable (encoding_of (circuit net.now) []) k }
 {
     encodings_are_cycles(net);

@@ -1,8 +1,8 @@
-//! Links between copies: what one copy shows as the next state, the copy behind it shows as its state.
+//! Links between time frames: what one time frame shows as the next state, the time frame behind it shows as its state.
 ghost use Rattle.std.specs.Prelude.{◌≡◌, ◌+◌, ◌-◌, ◌<◌, ◌≤◌, ◌++◌, [], ◌∷◌, length, IfOk, OnOk};
 ghost use Rattle.std.specs.List.{flat_map, range_with_len};
 ghost use Rattle.bs_clause.specs.Literal.{IsVariable};
-ghost use Rattle.bs_encode.specs.Copy.{link, links};
+ghost use Rattle.bs_encode.specs.Frame.{link, links};
 ghost use Rattle.bs_reach_unrolled.specs.Unrolled.{links_of, next_at};
 ghost use Rattle.bs_reach_unrolled.specs.Room.{IsUnrollable};
 
@@ -47,7 +47,7 @@ fn add_links(
     Ok(())
 }
 
-/// Puts the links between a copy, by its next state, and the one behind it at the end.
+/// Puts the links between a time frame, by its next state, and the one behind it at the end.
 fn add_links_to(
     alloc: Global,
     into: &mut Clauses,
@@ -65,7 +65,7 @@ fn add_links_to(
     add_links(alloc, into, next, states.slice())
 }
 
-/// Puts the links between a copy and the one behind it at the end.
+/// Puts the links between a time frame and the one behind it at the end.
 fn add_links_of(
     alloc: Global,
     into: &mut Clauses,
@@ -81,7 +81,7 @@ fn add_links_of(
     add_links_to(alloc, into, encoding, next.slice(), c, k)
 }
 
-/// Puts the links between all copies at the end.
+/// Puts the links between all time frames at the end.
 pub(crate) fn add_all_links(
     alloc: Global,
     into: &mut Clauses,
@@ -92,7 +92,7 @@ pub(crate) fn add_all_links(
     requires unrollable { IsUnrollable encoding.now k }
     ensures { OnOk result (into.new ≡ into.old ++ flat_map (links_of encoding.now) (range_with_len 0 (k - 1))) }
 {
-    'copies: for c in 0..k - 1 {
+    'frames: for c in 0..k - 1 {
         add_links_of(alloc, into, encoding, c, k)?;
     }
     Ok(())

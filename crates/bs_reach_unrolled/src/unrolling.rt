@@ -4,7 +4,7 @@ ghost use Rattle.bs_encode.specs.Assuming.{signed};
 ghost use Rattle.bs_reach_unrolled.specs.Unrolled.{next_at, unrolled};
 ghost use Rattle.bs_reach_unrolled.specs.Room.{IsUnrollable};
 
-use crate::copies::add_copies;
+use crate::frames::add_frames;
 use crate::links::add_all_links;
 use bs_bits::Bits;
 use bs_clause::{Clauses, Lit, Lits, NoMemory};
@@ -21,7 +21,7 @@ fn add_units(alloc: Global, into: &mut Clauses, literals: &[Lit]) -> Result<(), 
     Ok(())
 }
 
-/// Puts the units of the first copy's state at the end.
+/// Puts the units of the first time frame's state at the end.
 fn add_reset(
     alloc: Global,
     into: &mut Clauses,
@@ -44,28 +44,28 @@ pub fn unroll(alloc: Global, encoding: &Encoding, reset: &Bits, k: u32) -> Resul
     ensures { IfOk result (λ all. all ≡ unrolled encoding.now reset.now k) }
 {
     let mut all = Clauses::new(alloc);
-    add_copies(alloc, &mut all, encoding, k)?;
+    add_frames(alloc, &mut all, encoding, k)?;
     add_reset(alloc, &mut all, encoding, reset)?;
     add_all_links(alloc, &mut all, encoding, k)?;
     Ok(all)
 }
 
-/// A guard, and literals with the signs of a state.
-fn guarded(alloc: Global, guard: Lit, next: &[Lit], state: &Bits) -> Result<Lits, NoMemory>
+/// An activation literal, and literals with the signs of a state.
+fn guarded(alloc: Global, activation: Lit, next: &[Lit], state: &Bits) -> Result<Lits, NoMemory>
     requires { length next.now ≡ length state.now }
-    ensures { IfOk result (λ all. all ≡ guard ∷ signed next.now state.now) }
+    ensures { IfOk result (λ all. all ≡ activation ∷ signed next.now state.now) }
 {
     let mut all = Lits::new(alloc);
-    all.push(guard)?;
+    all.push(activation)?;
     push_signed(&mut all, next, state)?;
     Ok(all)
 }
 
-/// What the step of a length assumes: its guard, and that copy number `c` of the `k` copies, from 0, leads to the state.
+/// What the step of a length assumes: its activation literal, and that time frame number `c` of the `k` time frames, from 0, leads to the state.
 pub fn assume_length(
     alloc: Global,
     encoding: &Encoding,
-    guard: Lit,
+    activation: Lit,
     state: &Bits,
     c: u32,
     k: u32,
@@ -73,9 +73,9 @@ pub fn assume_length(
     requires unrollable { IsUnrollable encoding.now k }
     requires within { c < k }
     requires width { length encoding.now.next ≡ length state.now }
-    ensures { IfOk result (λ all. all ≡ guard ∷ signed (next_at encoding.now c) state.now) }
+    ensures { IfOk result (λ all. all ≡ activation ∷ signed (next_at encoding.now c) state.now) }
 {
     let next = raise_all(alloc, encoding.next(), c * encoding.vars())?;
-    let all = guarded(alloc, guard, next.slice(), state)?;
+    let all = guarded(alloc, activation, next.slice(), state)?;
     Ok(all)
 }

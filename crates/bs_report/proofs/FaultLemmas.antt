@@ -15,7 +15,7 @@ use Rattle.bs_bits.proofs.LineTextLemmas.{Lacks, piece_first}
 use Rattle.bs_log.specs.declared.line.Line.TheVariants as lines
 use Rattle.bs_report.specs.declared.fault.ReportFault.{ReportFault}
 use Rattle.bs_report.specs.declared.fault.ReportFault.TheVariants as faults
-use Rattle.bs_report.specs.declared.place.Begun.{Begun}
+use Rattle.bs_report.specs.declared.place.PartialStep.{PartialStep}
 use Rattle.bs_report.specs.declared.place.Place.{Place}
 use Rattle.bs_report.specs.declared.place.Place.TheVariants as places
 use Rattle.bs_report.specs.declared.report.Cand.{Cand}
@@ -251,11 +251,11 @@ from_trace r = by_line places.Trace r (codes "trace 0") (places.State 0, r) refl
 from_turn : (r : Report) → Completes places.Turn r
 from_turn r = by_line places.Turn r (codes "stop reset") (places.Trace, record r { stop = stops.Reset }) refl (from_trace (record r { stop = stops.Reset }))
 
-from_hit : (b : Begun) (cands : List Cand) (e : ListEnd) (r : Report) → Completes (places.Hit b cands e) r
+from_hit : (b : PartialStep) (cands : List Cand) (e : ListEnd) (r : Report) → Completes (places.Hit b cands e) r
 from_hit b cands e r =
     by_line (places.Hit b cands e) r (codes "nohit") (places.Turn, with_step r b cands e None) refl (from_turn (with_step r b cands e None))
 
-from_listing : (b : Begun) (cands : List Cand) (r : Report) → Completes (places.Listing b cands) r
+from_listing : (b : PartialStep) (cands : List Cand) (r : Report) → Completes (places.Listing b cands) r
 from_listing b cands r =
     by_line (places.Listing b cands) r (codes "list candidates") (places.Hit b cands ends.Candidates, r) refl (from_hit b cands ends.Candidates r)
 

@@ -16,7 +16,7 @@ use Rattle.bs_log.specs.LineText.{line_text}
 use Rattle.bs_log.proofs.RoundTrip.{lines_read_back}
 use Rattle.bs_report.specs.declared.fault.ReportFault.{ReportFault}
 use Rattle.bs_scan.specs.DumpText.{signature_text}
-use Rattle.bs_report.specs.declared.place.Begun.{Begun}
+use Rattle.bs_report.specs.declared.place.PartialStep.{PartialStep}
 use Rattle.bs_report.specs.declared.place.Place.{Place}
 use Rattle.bs_report.specs.declared.place.Place.TheVariants as places
 use Rattle.bs_report.specs.declared.report.Budgets.{Budgets}
@@ -93,7 +93,7 @@ older_goes r p s older b rest h = by (r.depth == 1) refl
         (ap (λ (o : Option (Option (List Bool))). option_map (λ (place : Place). (place, r))
         (option_map (λ (older : Option (List Bool)). places.Listing (begun p s older) []) o)) (older_again older))
 
-cands_go : (h : Begun) (done cands : List Cand) (r : Report) (rest : List ℕ) → Each (λ cand. IsOfDepth r.depth cand.before) cands →
+cands_go : (h : PartialStep) (done cands : List Cand) (r : Report) (rest : List ℕ) → Each (λ cand. IsOfDepth r.depth cand.before) cands →
     Goes (places.Listing h done) r (flat_map cand_text cands ++ rest) (places.Listing h (done ++ cands)) r rest
 cands_go h done [] r rest of = subst (λ (cs : List Cand). Goes (places.Listing h done) r rest (places.Listing h cs) r rest) (sym (append-nil done))
     (stays (places.Listing h done) r rest)
@@ -105,7 +105,7 @@ cands_go h done (c ∷ cs) r rest of =
     (append_assoc done (c ∷ []) cs)
     (cands_go h (done ++ c ∷ []) cs r rest of.1))
 
-list_goes : (head : Begun) (cands : List Cand) (e : ListEnd) (r : Report) (b rest : List ℕ) → HasEndText e →
+list_goes : (head : PartialStep) (cands : List Cand) (e : ListEnd) (r : Report) (b rest : List ℕ) → HasEndText e →
     Goes (places.Listing head cands) r ((line (codes "list " ++ end_word e) ++ b) ++ rest) (places.Hit head cands e) r (b ++ rest)
 list_goes head cands e r b rest h =
     one_of (places.Listing head cands) (places.Hit head cands e) r r (codes "list " ++ end_word e) b rest (lacks e h) refl
@@ -119,7 +119,7 @@ list_goes head cands e r b rest h =
     lacks ByCandidates h = (refl, (refl, (refl, (refl, (refl, (refl, (refl, (refl, (refl, (refl, (refl, (refl, (refl, (refl, (refl, tt)))))))))))))))
     lacks ByConflicts h = (refl, (refl, (refl, (refl, (refl, (refl, (refl, (refl, (refl, (refl, (refl, (refl, (refl, (refl, tt))))))))))))))
 
-hit_goes : (head : Begun) (cands : List Cand) (e : ListEnd) (hit : Option HitLine) (r : Report) (rest : List ℕ) → HasHitText hit →
+hit_goes : (head : PartialStep) (cands : List Cand) (e : ListEnd) (hit : Option HitLine) (r : Report) (rest : List ℕ) → HasHitText hit →
     Goes (places.Hit head cands e) r (hit_text hit ++ rest) places.Turn (with_step r head cands e hit) rest
 hit_goes head cands e None r rest h =
     one (places.Hit head cands e) places.Turn r (with_step r head cands e None) (codes "nohit") rest (refl, (refl, (refl, (refl, (refl, tt))))) refl refl
@@ -166,7 +166,7 @@ step_goes r number step rest h e small =
     (on (list_goes head step.cands step.end r (hit_text step.hit) rest h.list)
     (hit_goes head step.cands step.end step.hit r rest h.hit))))))
   where
-    head : Begun
+    head : PartialStep
     head = begun step.present step.stored step.older
 
     rest5 : List ℕ

@@ -19,7 +19,7 @@ use Rattle.bs_report.specs.declared.fault.ReportFault.{ReportFault}
 use Rattle.bs_report.specs.declared.fault.ReportFault.TheVariants.{Extra as extra, Short as short}
 use Rattle.bs_scan.specs.Choice.{IsDepth}
 use Rattle.bs_scan.specs.DumpText.{signature_text}
-use Rattle.bs_report.specs.declared.place.Begun.{Begun}
+use Rattle.bs_report.specs.declared.place.PartialStep.{PartialStep}
 use Rattle.bs_report.specs.declared.place.Place.{Place}
 use Rattle.bs_report.specs.declared.place.Place.TheVariants as places
 use Rattle.bs_report.specs.declared.report.Budgets.{Budgets}
@@ -115,7 +115,7 @@ abbrev pub titled : ℕ → Report
 titled depth = record nothing_read { depth = depth }
 
 -- the list of a step so far, in a report of this depth
-pub record InList (depth : ℕ) (h : Begun) (cands : List Cand) : Type 0 where
+pub record InList (depth : ℕ) (h : PartialStep) (cands : List Cand) : Type 0 where
   pub older : IsOfDepth depth h.older
   pub befores : Each (λ cand. IsOfDepth depth cand.before) cands
 
@@ -358,7 +358,7 @@ at_older p s r text a y h e =
           ∙ ap (λ t. top r ++ (step_line r ++ (present_line p ++ (stored_line s ++ t)))) no_cands,
     )
 
-at_listing : (b : Begun) (cands : List Cand) (r : Report) (text a : List ℕ) (y : Reached) → Fits (places.Listing b cands) r text →
+at_listing : (b : PartialStep) (cands : List Cand) (r : Report) (text a : List ℕ) (y : Reached) → Fits (places.Listing b cands) r text →
     taken (places.Listing b cands) r a ≡ Some y → Next y text a
 at_listing b cands r text a y h e = by (cand_in r.depth a) refl e
   where
@@ -391,7 +391,7 @@ at_listing b cands r text a y h e = by (cand_in r.depth a) refl e
               (ap (λ t. flat_map cand_text cands ++ line t) l.1 ∙ sym (flat_more cand_text cands cand)),
         )
 
-at_hit : (b : Begun) (cands : List Cand) (e : ListEnd) (r : Report) (text a : List ℕ) (y : Reached) → Fits (places.Hit b cands e) r text →
+at_hit : (b : PartialStep) (cands : List Cand) (e : ListEnd) (r : Report) (text a : List ℕ) (y : Reached) → Fits (places.Hit b cands e) r text →
     taken (places.Hit b cands e) r a ≡ Some y → Next y text a
 at_hit b cands e r text a y h t =
     let m = unmap (λ (hit : Option HitLine). (places.Turn, with_step r b cands e hit)) (hit_in a) y t in

@@ -5,7 +5,7 @@ use Rattle.std.specs.Str.{bytes_eq}
 use Rattle.bs_log.specs.LineReading.{line_in}
 use Rattle.bs_report.specs.declared.fault.ReportFault.{ReportFault}
 use Rattle.bs_report.specs.declared.fault.ReportFault.TheVariants as faults
-use Rattle.bs_report.specs.declared.place.Begun.{Begun}
+use Rattle.bs_report.specs.declared.place.PartialStep.{PartialStep}
 use Rattle.bs_report.specs.declared.place.Place.{Place}
 use Rattle.bs_report.specs.declared.place.Place.TheVariants as places
 use Rattle.bs_report.specs.declared.report.HitLine.{HitLine}
@@ -42,7 +42,7 @@ turned r text (Some stop) = Some (places.Trace, record r { stop = stop })
 abbrev pub present_place : List ℕ → Option Place
 present_place text = option_map (λ present. places.Stored present) (bits_in (codes "present") text)
 
-abbrev pub begun : List Bool → List Bool → Option (List Bool) → Begun
+abbrev pub begun : List Bool → List Bool → Option (List Bool) → PartialStep
 begun present stored older = record { present = present; stored = stored; older = older }
 
 -- behind a stored signature: at depth 1 the list, and else the older one
@@ -57,18 +57,18 @@ abbrev pub older_place : List Bool → List Bool → List ℕ → Option Place
 older_place present stored text = option_map (λ older. places.Listing (begun present stored older) []) (older_in text)
 
 -- a candidate, or else how the list ended
-abbrev pub more_listed : Begun → List Cand → List ℕ → Option Cand → Option Place
+abbrev pub more_listed : PartialStep → List Cand → List ℕ → Option Cand → Option Place
 more_listed b cands text None = option_map (λ ended. places.Hit b cands ended) (end_in text)
 more_listed b cands text (Some cand) = Some (places.Listing b (cands ++ cand ∷ []))
 
-abbrev pub listed_place : ℕ → Begun → List Cand → List ℕ → Option Place
+abbrev pub listed_place : ℕ → PartialStep → List Cand → List ℕ → Option Place
 listed_place depth b cands text = more_listed b cands text (cand_in depth text)
 
 -- the place, where nothing but what the place says is read
 abbrev pub unchanged : Report → Option Place → Option Reached
 unchanged r next = option_map (λ place. (place, r)) next
 
-abbrev pub step_of : Begun → List Cand → ListEnd → Option HitLine → Step
+abbrev pub step_of : PartialStep → List Cand → ListEnd → Option HitLine → Step
 step_of b cands ended hit =
     record { present = b.present; stored = b.stored; older = b.older; cands = cands; end = ended; hit = hit }
 
@@ -76,7 +76,7 @@ step_of b cands ended hit =
 abbrev pub put_step : Report → Step → Report
 put_step r step = record r { steps = r.steps ++ step ∷ [] }
 
-abbrev pub with_step : Report → Begun → List Cand → ListEnd → Option HitLine → Report
+abbrev pub with_step : Report → PartialStep → List Cand → ListEnd → Option HitLine → Report
 with_step r b cands ended hit = put_step r (step_of b cands ended hit)
 
 -- behind a state of the trace, where so many inputs are left

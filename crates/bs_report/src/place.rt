@@ -22,7 +22,7 @@ use std::alloc::Global;
 
 /// The first lines of a step: its present state and its stored signatures.
 #[derive(Drop)]
-pub struct Begun {
+pub struct PartialStep {
     pub present: Bits,
     pub stored: Bits,
     pub older: Option<Bits>,
@@ -44,9 +44,9 @@ pub enum Place {
     /// its older signature, behind its present state and its stored one
     Older(Bits, Bits),
     /// a candidate, or how the list ended
-    Listing(Begun, List<Cand>),
+    Listing(PartialStep, List<Cand>),
     /// the hit
-    Hit(Begun, List<Cand>, ListEnd),
+    Hit(PartialStep, List<Cand>, ListEnd),
     /// the number of inputs in the trace
     Trace,
     /// a state of the trace, behind which so many inputs are left
@@ -155,7 +155,7 @@ fn behind_stored(alloc: Global, depth: u8, present: Bits, stored: Bits) -> Place
     ensures { result ≡ behind_stored_of depth present stored }
 {
     if depth == 1 {
-        let begun = Begun {
+        let begun = PartialStep {
             present,
             stored,
             older: None,
@@ -193,7 +193,7 @@ fn behind_older(
     match older {
         None => None,
         Some(older) => {
-            let begun = Begun {
+            let begun = PartialStep {
                 present,
                 stored,
                 older,
@@ -217,7 +217,7 @@ fn take_older(
 }
 
 /// The place behind the end of a list, where a line says it.
-fn behind_list(begun: Begun, cands: List<Cand>, ended: Option<ListEnd>) -> Option<Place>
+fn behind_list(begun: PartialStep, cands: List<Cand>, ended: Option<ListEnd>) -> Option<Place>
     ensures { result ≡ option_map (λ ended. places.Hit begun cands ended) ended }
 {
     match ended {
@@ -227,7 +227,7 @@ fn behind_list(begun: Begun, cands: List<Cand>, ended: Option<ListEnd>) -> Optio
 }
 
 /// The place behind a candidate.
-fn behind_cand(begun: Begun, cands: List<Cand>, cand: Cand) -> Result<Option<Place>, NoMemory>
+fn behind_cand(begun: PartialStep, cands: List<Cand>, cand: Cand) -> Result<Option<Place>, NoMemory>
     ensures { IfOk result (λ next. next ≡ Some (places.Listing begun (cands ++ cand ∷ []))) }
 {
     let mut cands = cands;
@@ -239,7 +239,7 @@ fn behind_cand(begun: Begun, cands: List<Cand>, cand: Cand) -> Result<Option<Pla
 fn take_listed(
     alloc: Global,
     depth: u8,
-    begun: Begun,
+    begun: PartialStep,
     cands: List<Cand>,
     line: &[u8],
 ) -> Result<Option<Place>, NoMemory>
@@ -252,7 +252,7 @@ fn take_listed(
 }
 
 /// The whole step.
-fn whole_step(begun: Begun, cands: List<Cand>, ended: ListEnd, hit: Option<HitLine>) -> Step
+fn whole_step(begun: PartialStep, cands: List<Cand>, ended: ListEnd, hit: Option<HitLine>) -> Step
     ensures { result ≡ step_of begun cands ended hit }
 {
     Step {
@@ -277,7 +277,7 @@ fn put_step(report: &mut Report, step: Step) -> Result<Option<Place>, NoMemory>
 /// The hit, with which the step is whole.
 fn take_hit(
     alloc: Global,
-    begun: Begun,
+    begun: PartialStep,
     cands: List<Cand>,
     ended: ListEnd,
     report: &mut Report,

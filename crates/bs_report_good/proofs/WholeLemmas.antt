@@ -10,7 +10,7 @@ use Rattle.std.proofs.lemmas.Bool.Decides.{Decides-eqb, Decides-and}
 use Rattle.std.proofs.lemmas.List.Elements.{All-from_recursion, recursion_from_All}
 use Rattle.bs_bits.specs.Bits.{bits_eq}
 use Rattle.bs_clause.specs.Literal.{Literal, Clause, negation, same_literal, Satisfies}
-use Rattle.bs_log.specs.History.{Problem, guard_of}
+use Rattle.bs_log.specs.History.{Problem, activation_of}
 use Rattle.bs_log.specs.Refusal.{history_of, assumptions_of}
 use Rattle.bs_log.specs.Refutation.{Suits}
 use Rattle.bs_log.specs.Steps.{block_of_line, finish_of_line}
@@ -79,17 +79,17 @@ refuted crash basis r enc h k step id e fin s x ls lx ag nx out =
     let shown : Shown basis (length crash.circuit.flops) (k + 1) s = enc.shown k step s x e ls lx ag nx in
     let v : ℕ → Bool = shown.value in
     let p : Problem = basis.problem in
-    let f : List Bool → Clause = λ t. negation (guard_of p (k + 1)) ∷ basis.block t in
+    let f : List Bool → Clause = λ t. negation (activation_of p (k + 1)) ∷ basis.block t in
     let widths : Each (λ (t : List Bool). length t ≡ length crash.circuit.flops) (listed step.cands) =
     recursion_from_All (λ (t : List Bool). length t ≡ length crash.circuit.flops) (listed step.cands)
     (λ j d lt. ap length (state_at_place step.cands j d lt)
     ∙ (cand_is crash r.budgets step j ((h.steps k step e).cands j (omega (arith, lt, length-map step.cands (λ (c : Cand). c.state))))).state) in
-    let test = holds (are_right_blocks (blocks_due (guard_of p (k + 1)) basis.block step.cands) (filter_map block_of_line (lines_at r k)))
+    let test = holds (are_right_blocks (blocks_due (activation_of p (k + 1)) basis.block step.cands) (filter_map block_of_line (lines_at r k)))
     (parts.Blocks (k + 1)) (h.logs k step e).0 in
-    let first = both _ (list_all (has_clause (filter_map block_of_line (lines_at r k))) (blocks_due (guard_of p (k + 1)) basis.block step.cands)) test in
-    let second = both _ (list_all (has_clause (blocks_due (guard_of p (k + 1)) basis.block step.cands)) (filter_map block_of_line (lines_at r k))) first.0 in
+    let first = both _ (list_all (has_clause (filter_map block_of_line (lines_at r k))) (blocks_due (activation_of p (k + 1)) basis.block step.cands)) test in
+    let second = both _ (list_all (has_clause (blocks_due (activation_of p (k + 1)) basis.block step.cands)) (filter_map block_of_line (lines_at r k))) first.0 in
     let blocks : Each (Satisfies v) (filter_map block_of_line (lines_at r k)) =
-    each_pass (Satisfies v) (has_clause (blocks_due (guard_of p (k + 1)) basis.block step.cands))
+    each_pass (Satisfies v) (has_clause (blocks_due (activation_of p (k + 1)) basis.block step.cands))
     (λ b t.
     let one = block_is f (listed step.cands) b t in
     subst (Satisfies v) (sym one.is)
@@ -108,8 +108,8 @@ refuted crash basis r enc h k step id e fin s x ls lx ag nx out =
       in_range = omega (arith, enc.each_step, below r.steps k step e);
       clauses = shown.clauses;
       blocks = All-from_recursion (Satisfies v) _ spot.blocks;
-      guard = shown.guard;
-      other_guards = shown.other_guards;
+      activation = shown.activation;
+      other_activations = shown.other_activations;
     } in
     finished_steps_are_refuted p r.log spot.before spot.after id v (accepted p r.log h.log) spot.parts
     (subst (λ (n : ℕ). Suits p (history_of spot.before) n v) (sym spot.step) suits)

@@ -11,7 +11,7 @@ use Rattle.bs_scan.specs.Choice.{Chosen, depth_of}
 use Rattle.bs_scan.specs.Signature.{signature}
 use Rattle.bs_clause.specs.Literal.{Literal, Clause, negation, same_literal}
 use Rattle.bs_log.specs.declared.line.Line.{Line}
-use Rattle.bs_log.specs.History.{guard_of}
+use Rattle.bs_log.specs.History.{activation_of}
 use Rattle.bs_log.specs.Refusal.{assumptions_of, IsAccepted}
 use Rattle.bs_log.specs.FirstRefused.{first_refused}
 use Rattle.bs_log.specs.Shown.{Basis}
@@ -142,9 +142,9 @@ has_clause clauses c = list_any (pointwise same_literal c) clauses
 abbrev pub lines_at : Report → ℕ → List Line
 lines_at r i = slice_index_or (steps_of r.log) i []
 
--- the blocks that a list owes: for each candidate the negated guard and the state's block
+-- the blocks that a list owes: for each candidate the negated activation literal and the state's block
 abbrev pub blocks_due : Literal → (List Bool → Clause) → List Cand → List Clause
-blocks_due guard block cands = map (λ s. negation guard ∷ block s) (listed cands)
+blocks_due activation block cands = map (λ s. negation activation ∷ block s) (listed cands)
 
 abbrev pub are_right_blocks : List Clause → List Clause → Bool
 are_right_blocks due blocks =
@@ -166,7 +166,7 @@ finishes_in lines = filter_map finish_of_line lines
 
 abbrev pub log_parts : Basis → Report → ℕ → Step → List (Option Part)
 log_parts basis r i step =
-    unless (are_right_blocks (blocks_due (guard_of basis.problem (i + 1)) basis.block step.cands) (blocks_in (lines_at r i))) (parts.Blocks (i + 1)) ∷
+    unless (are_right_blocks (blocks_due (activation_of basis.problem (i + 1)) basis.block step.cands) (blocks_in (lines_at r i))) (parts.Blocks (i + 1)) ∷
     unless (is_right_finish r.budgets.conflicts (assumptions_of basis.problem (i + 1)) (lines_at r i) step.end (finishes_in (lines_at r i)))
     (parts.Ended (i + 1)) ∷ []
 
@@ -211,6 +211,6 @@ pub record NamesBefores (crash : Crash) (r : Report) : Type 0 where
 pub record IsLogged (basis : Basis) (r : Report) : Type 0 where
   pub accepted : IsAccepted basis.problem r.log
   pub blocks : (i : ℕ) (step : Step) → slice_get r.steps i ≡ Some step →
-      are_right_blocks (blocks_due (guard_of basis.problem (i + 1)) basis.block step.cands) (blocks_in (lines_at r i)) ≡ true
+      are_right_blocks (blocks_due (activation_of basis.problem (i + 1)) basis.block step.cands) (blocks_in (lines_at r i)) ≡ true
   pub finish : (i : ℕ) (step : Step) → slice_get r.steps i ≡ Some step →
       is_right_finish r.budgets.conflicts (assumptions_of basis.problem (i + 1)) (lines_at r i) step.end (finishes_in (lines_at r i)) ≡ true

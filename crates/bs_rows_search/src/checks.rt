@@ -2,7 +2,7 @@
 ghost use Rattle.std.specs.Prelude.{◌≡◌, ◌*◌, ◌<◌, ◌≤◌, [], length, IfOk};
 ghost use Rattle.bs_net.specs.Netlist.{circuit};
 ghost use Rattle.bs_encode.specs.Transition.{variables};
-ghost use Rattle.bs_reach_unrolled.specs.declared.limits.TheConstants.{MAX_COPIES, MAX_COPY_VARIABLES};
+ghost use Rattle.bs_reach_unrolled.specs.declared.limits.TheConstants.{MAX_FRAMES, MAX_FRAME_VARIABLES};
 ghost use Rattle.bs_reach_unrolled.specs.Room.{IsUnrollable};
 
 use bs_bits::{Bits, List, NoMemory};
@@ -30,8 +30,8 @@ fn steps(
 {
     let mut all = List::new(alloc);
     'lengths: for c in 0..count {
-        let guard = Lit::new(Var(k * encoding.vars() + c + 1), true);
-        all.push(assume_length(alloc, encoding, guard, state, c, k)?)?;
+        let activation = Lit::new(Var(k * encoding.vars() + c + 1), true);
+        all.push(assume_length(alloc, encoding, activation, state, c, k)?)?;
     }
     Ok(all)
 }
@@ -71,8 +71,8 @@ pub fn accepts(
 ) -> Result<bool, NoMemory>
     requires width { length state.now ≡ length (circuit net.now).flops }
     requires some { 1 ≤ k }
-    requires cycles { k ≤ MAX_COPIES }
-    requires room { k * variables (circuit net.now) [] ≤ MAX_COPY_VARIABLES }
+    requires cycles { k ≤ MAX_FRAMES }
+    requires room { k * variables (circuit net.now) [] ≤ MAX_FRAME_VARIABLES }
     requires few { count ≤ k }
 {
     netlists_unroll(net, k);

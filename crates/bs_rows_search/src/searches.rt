@@ -3,13 +3,13 @@ ghost use Rattle.std.specs.Prelude.{◌≡◌, ◌*◌, ◌≤◌, [], length, I
 ghost use Rattle.std.specs.Bool.{OnTrue};
 ghost use Rattle.bs_net.specs.Netlist.{circuit};
 ghost use Rattle.bs_encode.specs.Transition.{variables};
-ghost use Rattle.bs_reach_unrolled.specs.declared.limits.TheConstants.{MAX_COPIES, MAX_COPY_VARIABLES};
+ghost use Rattle.bs_reach_unrolled.specs.declared.limits.TheConstants.{MAX_FRAMES, MAX_FRAME_VARIABLES};
 
 use crate::checks::{accepts, goes};
 use bs_bits::{Bits, NoMemory};
 use bs_net::Netlist;
 use bs_reach::{Outcome, Reach, bounded, size};
-use bs_reach_unrolled::{MAX_COPIES, MAX_COPY_VARIABLES};
+use bs_reach_unrolled::{MAX_FRAMES, MAX_FRAME_VARIABLES};
 use bs_sim::Sim;
 use std::alloc::Global;
 
@@ -28,19 +28,19 @@ fn fitting(bits: Bits, net: &Netlist) -> Option<Bits>
     }
 }
 
-/// Whether so many copies of clauses have few enough variables.
+/// Whether so many time frames have few enough variables.
 fn has_room(variables: u64, cycles: u64) -> bool
-    ensures { OnTrue result (cycles * variables ≤ MAX_COPY_VARIABLES) }
+    ensures { OnTrue result (cycles * variables ≤ MAX_FRAME_VARIABLES) }
 {
     match cycles.checked_mul(variables) {
-        Some(all) => all <= u64::from(MAX_COPY_VARIABLES),
+        Some(all) => all <= u64::from(MAX_FRAME_VARIABLES),
         None => false,
     }
 }
 
 /// Whether a search of so many cycles is small enough.
 fn is_small(alloc: Global, net: &Netlist, cycles: u32) -> Result<bool, NoMemory>
-    ensures { IfOk result (λ small. OnTrue small (cycles * variables (circuit net.now) [] ≤ MAX_COPY_VARIABLES)) }
+    ensures { IfOk result (λ small. OnTrue small (cycles * variables (circuit net.now) [] ≤ MAX_FRAME_VARIABLES)) }
 {
     let variables = size(alloc, net)?;
     Ok(has_room(variables, u64::from(cycles)))
@@ -64,8 +64,8 @@ fn is_accepted(
     k: u32,
 ) -> Result<bool, NoMemory>
     requires width { length state.now ≡ length (circuit net.now).flops }
-    requires cycles { k ≤ MAX_COPIES }
-    requires room { k * variables (circuit net.now) [] ≤ MAX_COPY_VARIABLES }
+    requires cycles { k ≤ MAX_FRAMES }
+    requires room { k * variables (circuit net.now) [] ≤ MAX_FRAME_VARIABLES }
 {
     let count = tried(reach);
     if k < 1 || count > u64::from(k) {
@@ -93,8 +93,8 @@ fn judged(
     k: u32,
 ) -> Result<Seen, NoMemory>
     requires width { length state.now ≡ length (circuit net.now).flops }
-    requires cycles { k ≤ MAX_COPIES }
-    requires room { k * variables (circuit net.now) [] ≤ MAX_COPY_VARIABLES }
+    requires cycles { k ≤ MAX_FRAMES }
+    requires room { k * variables (circuit net.now) [] ≤ MAX_FRAME_VARIABLES }
 {
     let accepted = is_accepted(alloc, net, state, reach, k)?;
     let replayed = is_replayed(alloc, net, reach)?;
@@ -110,8 +110,8 @@ fn seen(
     conflicts: u64,
 ) -> Result<Seen, NoMemory>
     requires width { length state.now ≡ length (circuit net.now).flops }
-    requires cycles { k ≤ MAX_COPIES }
-    requires room { k * variables (circuit net.now) [] ≤ MAX_COPY_VARIABLES }
+    requires cycles { k ≤ MAX_FRAMES }
+    requires room { k * variables (circuit net.now) [] ≤ MAX_FRAME_VARIABLES }
     requires limit { 1 ≤ conflicts }
 {
     let reach = bounded(alloc, net, state, u64::from(k), conflicts)?;
@@ -126,8 +126,8 @@ fn asked_of(
     k: u32,
     conflicts: u64,
 ) -> Result<Option<Seen>, NoMemory>
-    requires cycles { k ≤ MAX_COPIES }
-    requires room { k * variables (circuit net.now) [] ≤ MAX_COPY_VARIABLES }
+    requires cycles { k ≤ MAX_FRAMES }
+    requires room { k * variables (circuit net.now) [] ≤ MAX_FRAME_VARIABLES }
     requires limit { 1 ≤ conflicts }
 {
     match fitting(bits, net) {
@@ -147,7 +147,7 @@ pub fn asked(
     cycles: u32,
     conflicts: u64,
 ) -> Result<Option<Seen>, NoMemory> {
-    if conflicts < 1 || cycles > MAX_COPIES || !is_small(alloc, net, cycles)? {
+    if conflicts < 1 || cycles > MAX_FRAMES || !is_small(alloc, net, cycles)? {
         return Ok(None);
     }
     match Bits::read_text(alloc, word.as_bytes())? {

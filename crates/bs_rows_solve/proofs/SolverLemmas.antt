@@ -15,5 +15,5 @@ may_begin s a begun = record {
 }
 
 -- after a block, under the same assumptions
-pub may_go_on : (s : SolverState) (a : Clause) → s.stage ≡ Blocked → assumed s.book ≡ a → MaySolve s a
+pub may_go_on : (s : SolverState) (a : Clause) → s.stage ≡ Blocked → assumed s.proof ≡ a → MaySolve s a
 may_go_on s a blocked same = record { stage = λ _. inr blocked; again = λ _. same }

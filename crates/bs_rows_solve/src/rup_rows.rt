@@ -202,7 +202,7 @@ fn one_step(alloc: Global, assumed: Lits) -> Result<List<Lits>, NoMemory> {
     Ok(steps)
 }
 
-/// The guard of one step of a log over so many variables, and the negations of these.
+/// The activation literal of one step of a log over so many variables, and the negations of these.
 fn assumed(alloc: Global, variables: u16) -> Result<Lits, NoMemory> {
     let mut assumed = Lits::new(alloc);
     assumed.push(literal(i32::from(variables) + 1))?;

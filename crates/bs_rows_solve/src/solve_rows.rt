@@ -75,7 +75,7 @@ fn are_fit(vars: u32, clauses: &[Lits]) -> bool
 
 /// A solver over these clauses in its first step, where they are fit.
 fn begun(alloc: Global, all: Clauses, vars: u32) -> Result<Option<Solver>, NoMemory>
-    ensures { IfOk result (λ begun. IfSome begun (λ s. (s.stage ≡ Begun) × (s.book.problem.vars ≡ vars))) }
+    ensures { IfOk result (λ begun. IfSome begun (λ s. (s.stage ≡ Begun) × (s.proof.problem.vars ≡ vars))) }
 {
     if 10000 < vars || !are_fit(vars, all.slice()) {
         return Ok(None);
@@ -166,9 +166,9 @@ fn finds(alloc: Global, solver: &mut Solver, given: &Lits) -> Result<bool, NoMem
     requires range { HasVariables solver.old.vars given.now }
     requires distinct { has_distinct_variables given.now ≡ true }
     ensures stage { IfOk result (λ is. OnTrue is (solver.new.stage ≡ Solved)) }
-    ensures step { IfOk result (λ _. assumed solver.new.book ≡ given.now) }
+    ensures step { IfOk result (λ _. assumed solver.new.proof ≡ given.now) }
     ensures used { IfOk result (λ _. solver.new.vars ≡ solver.old.vars) }
-    ensures vars { solver.new.book.problem.vars ≡ solver.old.book.problem.vars }
+    ensures vars { solver.new.proof.problem.vars ≡ solver.old.proof.problem.vars }
 {
     match solver.solve(alloc, given, 1)? {
         Answer::Found(_) => Ok(true),
@@ -187,7 +187,7 @@ fn blocked(
     block: &Lits,
 ) -> Result<(u64, &'static str, usize, usize), NoMemory>
     requires stage { solver.old.stage ≡ Begun }
-    requires vars { solver.old.book.problem.vars ≡ vars }
+    requires vars { solver.old.proof.problem.vars ≡ vars }
 {
     if !is_fit(solver.vars(), given.slice()) || !is_fit(vars, block.slice()) {
         return Ok((0, "unfit", 0, 0));
@@ -384,7 +384,7 @@ fn solves_end_as_the_rows_say(rt: HostRuntime) -> Result<(), Fail> {
 
 #[test]
 fn a_step_ends_by_its_lemma(rt: HostRuntime) -> Result<(), Fail> {
-    // The clause, the lemma, which has no literal of the guard 3, and the unit of the guard's negation stand: no block.
+    // The clause, the lemma, which has no literal of the activation literal 3, and the unit of the activation literal's negation stand: no block.
     let log = "s\n2 -1 2 0 1 0\ne 2\nr 3\n";
     let seen = finish_of(rt.alloc(), &ONE, 2, &[3, 1, -2], log)?;
     assert!(rt; seen == (true, 1, 3, 17));

@@ -4,5 +4,5 @@ pub mod Rules
 pub mod Follows
 pub mod Verdict
 pub mod Retired
-pub mod Marks
-pub mod Trail
+pub mod LiteralSet
+pub mod TrueLiterals

@@ -12,7 +12,7 @@ use crate::hints::{hints_fault, is_false};
 use crate::line_forms::{is_ascending, is_block_of};
 use crate::live_clauses::{Stored, add, axioms, entry_at, remove};
 use crate::problem::Problem;
-use crate::trail::{Trail, set_false, set_true};
+use crate::trail::{TrueLiterals, set_false, set_true};
 use bs_bits::NoMemory;
 use bs_clause::{Lit, Lits, VARIABLE_LIMIT};
 use bs_log::{Line, Origin, Phase, Why};
@@ -53,7 +53,7 @@ impl<'a> Checker<'a> {
     /// Why the line is refused, if it is. The trail may hold anything before and after.
     pub fn refusal(
         &self,
-        trail: &mut Trail,
+        trail: &mut TrueLiterals,
         problem: &Problem<'a>,
         line: &Line,
     ) -> Result<Option<Why>, NoMemory>
@@ -95,7 +95,7 @@ impl<'a> Checker<'a> {
     /// The first rule behind the order that a lemma breaks.
     fn lemma_fault(
         &self,
-        trail: &mut Trail,
+        trail: &mut TrueLiterals,
         lits: &[Lit],
         hints: &[u64],
     ) -> Result<Option<Why>, NoMemory>
@@ -113,7 +113,7 @@ impl<'a> Checker<'a> {
     /// The first rule behind the order that a block breaks.
     fn block_fault(
         &self,
-        trail: &mut Trail,
+        trail: &mut TrueLiterals,
         problem: &Problem<'a>,
         lits: &[Lit],
     ) -> Result<Option<Why>, NoMemory>
@@ -133,7 +133,7 @@ impl<'a> Checker<'a> {
     /// The first rule behind the order that a finish line breaks.
     fn finish_fault(
         &self,
-        trail: &mut Trail,
+        trail: &mut TrueLiterals,
         problem: &Problem<'a>,
         id: u64,
     ) -> Result<Option<Why>, NoMemory>
@@ -144,7 +144,7 @@ impl<'a> Checker<'a> {
     }
 
     /// The same, where the assumptions are set true.
-    fn end_fault(&self, trail: &Trail, id: u64) -> Option<Why>
+    fn end_fault(&self, trail: &TrueLiterals, id: u64) -> Option<Why>
         ensures { result ≡ finish_refusal self.now.live trail.now id }
     {
         match entry_at(self.stored.as_slice(), id) {
@@ -175,7 +175,7 @@ impl<'a> Checker<'a> {
 
     /// Goes on past a line that is not refused. A retire line adds the unit.
     pub fn add(&mut self, vars: u32, retired: &'a [Lit], line: &'a Line) -> Result<(), NoMemory>
-        requires guard { (1 ≤ self.old.step) × (vars + self.old.step ≤ VARIABLE_LIMIT) }
+        requires activation { (1 ≤ self.old.step) × (vars + self.old.step ≤ VARIABLE_LIMIT) }
         requires retire { IsRetire line.now → slice_get retired.now (self.old.step - 1) ≡ Some (retired_unit vars self.old.step) }
         requires ids { NamesGivenIds self.old.last_id line.now }
         ensures { OnOk result (IsAfter vars self.old line.now self.new) }

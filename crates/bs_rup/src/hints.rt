@@ -6,13 +6,13 @@ ghost use Rattle.bs_rup.specs.LiveClauses.{live_from};
 ghost use Rattle.bs_rup.specs.Rules.{all_stand, hints_refusal};
 
 use crate::live_clauses::{Stored, lits_at};
-use crate::trail::Trail;
+use crate::trail::TrueLiterals;
 use bs_bits::NoMemory;
 use bs_clause::Lit;
 use bs_log::Why;
 
 /// The literal that a unit clause makes true: it is unassigned, and all others are false.
-fn unit_literal(trail: &Trail, clause: &[Lit]) -> Option<Lit>
+fn unit_literal(trail: &TrueLiterals, clause: &[Lit]) -> Option<Lit>
     ensures { result ≡ unit_literal trail.now clause.now }
 {
     let mut found = None;
@@ -29,7 +29,7 @@ fn unit_literal(trail: &Trail, clause: &[Lit]) -> Option<Lit>
 }
 
 /// Whether all literals of the clause are false.
-pub fn is_false(trail: &Trail, clause: &[Lit]) -> bool
+pub fn is_false(trail: &TrueLiterals, clause: &[Lit]) -> bool
     ensures { result ≡ is_false trail.now clause.now }
 {
     for literal in clause {
@@ -43,7 +43,7 @@ pub fn is_false(trail: &Trail, clause: &[Lit]) -> bool
 /// What is wrong with the hints of a lemma, if anything. The trail has the negations of the lemma's literals, and then
 /// also what the hints make true.
 pub fn hints_fault<'a>(
-    trail: &mut Trail,
+    trail: &mut TrueLiterals,
     stored: &[Stored<'a>],
     hints: &[u64],
 ) -> Result<Option<Why>, NoMemory>

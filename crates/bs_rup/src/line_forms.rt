@@ -30,7 +30,7 @@ fn is_over(lits: &[Lit], vars: u32) -> bool
     true
 }
 
-/// Whether the clause is the negation of the step's guard and then literals of the clauses' own variables.
+/// Whether the clause is the negation of the step's activation literal and then literals of the clauses' own variables.
 pub fn is_block_of(vars: u32, step: u64, lits: &[Lit]) -> bool
     requires { vars + step ≤ VARIABLE_LIMIT }
     ensures { (p : Problem) → p.vars ≡ vars → result ≡ is_block_of p step lits.now }

@@ -1,6 +1,6 @@
 //! Sets of literals by their codes: a mark for each usual one, and a search tree for the others.
 ghost use Rattle.std.specs.Prelude.{◌≡◌, ◌<◌, false, ℕ, IfOk, OnOk, OnErr, replicate};
-ghost use Rattle.bs_rup.specs.Marks.{is_marked, Adds, IsSameSet, Unmarks, UnmarksAll};
+ghost use Rattle.bs_rup.specs.LiteralSet.{is_marked, Adds, IsSameSet, Unmarks, UnmarksAll};
 
 use bs_bits::NoMemory;
 use bs_clause::Lit;
@@ -9,7 +9,7 @@ use std::collections::BTreeSet;
 
 /// A set of literal codes.
 #[derive(Drop)]
-pub struct Marks {
+pub struct LiteralSet {
     pub usual: Vec<bool>,
     pub others: BTreeSet<u32, Global>,
 }
@@ -21,12 +21,12 @@ fn no_marks(alloc: Global, count: usize) -> Result<Vec<bool>, NoMemory>
     Ok(vec![in alloc; false; count]?)
 }
 
-impl Marks {
+impl LiteralSet {
     /// The empty set, with room for marks of the codes below this count.
-    pub fn new(alloc: Global, count: usize) -> Result<Marks, NoMemory>
+    pub fn new(alloc: Global, count: usize) -> Result<LiteralSet, NoMemory>
         ensures { IfOk result (λ marks. (code : ℕ) → is_marked marks code ≡ false) }
     {
-        Ok(Marks {
+        Ok(LiteralSet {
             usual: no_marks(alloc, count)?,
             others: BTreeSet::new(alloc),
         })

@@ -1,9 +1,9 @@
 //! The literals that are true, of which any is found in constant time.
 ghost use Rattle.std.specs.Prelude.{◌≡◌, [], ◌∷◌, ◌||◌, ◌≤◌, IfOk, OnOk, OnErr};
 ghost use Rattle.bs_clause.specs.Literal.{Literal, negation, has_literal};
-ghost use Rattle.bs_rup.specs.Trail.{IsSetFalse};
+ghost use Rattle.bs_rup.specs.TrueLiterals.{IsSetFalse};
 
-use crate::marks::Marks;
+use crate::marks::LiteralSet;
 use bs_bits::NoMemory;
 use bs_clause::{Lit, VARIABLE_LIMIT};
 use std::alloc::Global;
@@ -11,15 +11,15 @@ use std::marker::Model;
 
 /// The literals that are true. Contracts see their list, the newest first.
 #[derive(Drop)]
-pub struct Trail {
+pub struct TrueLiterals {
     literals: Vec<Lit>,
-    marks: Marks,
+    marks: LiteralSet,
 }
 
-impl Model for Trail {
+impl Model for TrueLiterals {
     ghost use Rattle.std.specs.Prelude.{List, reverse};
     ghost use Rattle.bs_clause.specs.Literal.{Literal};
-    ghost use Rattle.bs_rup.specs.Trail.{AreMarked};
+    ghost use Rattle.bs_rup.specs.TrueLiterals.{AreMarked};
 
     ghost Value = { List Literal };
 
@@ -28,14 +28,14 @@ impl Model for Trail {
     ghost invariant = { λ trail. AreMarked trail.literals.items trail.marks };
 }
 
-impl Trail {
+impl TrueLiterals {
     /// No literal is true. There is room for marks of the variables below this count.
-    pub fn new(alloc: Global, variables: usize) -> Result<Trail, NoMemory>
+    pub fn new(alloc: Global, variables: usize) -> Result<TrueLiterals, NoMemory>
         requires { variables ≤ VARIABLE_LIMIT }
         ensures { IfOk result (λ trail. trail ≡ []) }
     {
-        let marks = Marks::new(alloc, 2 * variables)?;
-        Ok(Trail {
+        let marks = LiteralSet::new(alloc, 2 * variables)?;
+        Ok(TrueLiterals {
             literals: Vec::new(alloc),
             marks,
         })
@@ -83,7 +83,7 @@ impl Trail {
 }
 
 /// Makes each literal of a clause false and no other, and answers whether no variable stands in the clause twice.
-pub fn set_false(trail: &mut Trail, clause: &[Lit]) -> Result<bool, NoMemory>
+pub fn set_false(trail: &mut TrueLiterals, clause: &[Lit]) -> Result<bool, NoMemory>
     ensures { IfOk result (IsSetFalse clause.now trail.new) }
 {
     trail.clear();
@@ -97,7 +97,7 @@ pub fn set_false(trail: &mut Trail, clause: &[Lit]) -> Result<bool, NoMemory>
 }
 
 /// Makes these literals true and no other.
-pub fn set_true(trail: &mut Trail, literals: &[Lit]) -> Result<(), NoMemory>
+pub fn set_true(trail: &mut TrueLiterals, literals: &[Lit]) -> Result<(), NoMemory>
     ensures { OnOk result (trail.new ≡ literals.now) }
 {
     trail.clear();

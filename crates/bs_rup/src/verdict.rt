@@ -7,7 +7,7 @@ ghost use Rattle.bs_rup.specs.Verdict.{IsVerdict, RefusesTheFirst, problem_of};
 
 use crate::checker::Checker;
 use crate::problem::Problem;
-use crate::trail::Trail;
+use crate::trail::TrueLiterals;
 use bs_bits::{List, NoMemory};
 use bs_clause::{Clauses, Lit, Lits, VARIABLE_LIMIT, Var};
 use bs_log::{Line, Log, Why};
@@ -25,7 +25,7 @@ pub enum Verdict {
 
 /// Whether a log is right, or else its first refused line with the first reason (docs/FORMATS.md, "The log"). The clauses
 /// are over the variables 1 to `vars` and have the ids 1, 2, 3 and so on; member i of `steps`, from 1, is the assumptions of
-/// step i, of which the guard is variable `vars` + i.
+/// step i, of which the activation literal is variable `vars` + i.
 pub fn check(
     alloc: Global,
     vars: u32,
@@ -71,7 +71,7 @@ fn verdict_with<'a>(
     requires retired { retired.now ≡ retired_units problem.now.vars (length problem.now.steps.now) }
     ensures { IfOk result (IsVerdict (meaning problem.now) lines.now) }
 {
-    let mut trail = Trail::new(alloc, problem.vars as usize + problem.steps.len() + 1)?;
+    let mut trail = TrueLiterals::new(alloc, problem.vars as usize + problem.steps.len() + 1)?;
     let mut state = Checker::new(alloc, problem)?;
     verdict_from(&mut state, &mut trail, problem, retired, lines)
 }
@@ -79,7 +79,7 @@ fn verdict_with<'a>(
 /// The same, from the state before any line.
 fn verdict_from<'a>(
     state: &mut Checker<'a>,
-    trail: &mut Trail,
+    trail: &mut TrueLiterals,
     problem: &Problem<'a>,
     retired: &'a [Lit],
     lines: &'a [Line],
@@ -111,15 +111,15 @@ fn verdict_from<'a>(
     }
 }
 
-/// The negations of the guards of this many steps, in order.
+/// The negations of the activation literals of this many steps, in order.
 fn retired(alloc: Global, vars: u32, count: usize) -> Result<Lits, NoMemory>
     requires { vars + count < VARIABLE_LIMIT }
     ensures { IfOk result (λ units. units ≡ retired_units vars count) }
 {
     let mut units = Lits::new(alloc);
     for i in 0..count {
-        let guard = vars + i as u32 + 1;
-        units.push(Lit::new(Var(guard), false))?;
+        let activation = vars + i as u32 + 1;
+        units.push(Lit::new(Var(activation), false))?;
     }
     Ok(units)
 }

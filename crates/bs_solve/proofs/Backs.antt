@@ -20,9 +20,9 @@ use Rattle.bs_watch.proofs.Literals.{negation-negation}
 use Rattle.bs_solve_analysis.proofs.Clauses.{all_from, contains_cases, nothing_in}
 use Rattle.bs_solve_analysis.specs.Reasons.{last_start}
 use Rattle.bs_solve.specs.Begun.{AreBegun}
-use Rattle.bs_solve.specs.Lesson.{IsBackLevel, IsLesson, IsOpenYet}
+use Rattle.bs_solve.specs.Backjump.{IsBackLevel, IsLearntClause, IsOpenYet}
 use Rattle.bs_solve.proofs.Begins.{last_level}
-use Rattle.bs_solve.proofs.Layings.{sole}
+use Rattle.bs_solve.proofs.FirstLevels.{sole}
 
 -- what was false when a level began is on a lower level
 pub false_below : (places : List Place) (levels : List Level) (j : ℕ) (v : Level) (m : Literal) → AreLevelled places levels → slice_get levels j ≡ Some v →
@@ -56,7 +56,7 @@ level_positive base places levels m i b a apart lost spared on =
 
 -- ---- the first literal
 
-pub point_level : (base : ℕ) (w : WatchState) (lits : Clause) (s : IsLesson base w lits) → AreLevelled w.trail.places w.levels →
+pub point_level : (base : ℕ) (w : WatchState) (lits : Clause) (s : IsLearntClause base w lits) → AreLevelled w.trail.places w.levels →
     IsOnLevel w.trail.places (negation s.point.place.literal) (length w.levels)
 point_level base w lits s a =
     let (v, at, start, low, last) = last_level base w.levels w.trail.places s.begun s.deep in
@@ -66,7 +66,7 @@ point_level base w lits s a =
     (s.point.place, record { at = s.point.at; there = s.point.there; same = refl }, omega (arith, high, few, deep))
 
 -- another literal is on a lower level
-pub other_level : (base : ℕ) (w : WatchState) (lits : Clause) (s : IsLesson base w lits) → AreLevelled w.trail.places w.levels →
+pub other_level : (base : ℕ) (w : WatchState) (lits : Clause) (s : IsLearntClause base w lits) → AreLevelled w.trail.places w.levels →
     AreApart w.trail.places → (m : Literal) → Contains lits m →
     IsFalseOn (literals_of (take (last_start w.levels) w.trail.places)) m → (i : ℕ) × IsOnLevel w.trail.places m i × (1 ≤ i) × (i < length w.levels)
 other_level base w lits s a apart m in_lits lost =
@@ -82,7 +82,7 @@ other_level base w lits s a apart m in_lits lost =
       omega (arith, high, deep),
     )
 
-pub all_lost : (base : ℕ) (w : WatchState) (lits : Clause) → IsLesson base w lits → IsConflict (literals_of w.trail.places) lits
+pub all_lost : (base : ℕ) (w : WatchState) (lits : Clause) → IsLearntClause base w lits → IsConflict (literals_of w.trail.places) lits
 all_lost base w lits s = all_from (IsFalseOn (literals_of w.trail.places)) lits (λ m there.
     elim (All-contains (λ x. (x ≡ negation s.point.place.literal) ⊎ IsFalseOn (literals_of (take (last_start w.levels) w.trail.places)) x) lits m
     s.point.others there) [
@@ -95,7 +95,7 @@ all_lost base w lits s = all_from (IsFalseOn (literals_of w.trail.places)) lits 
     ])
 
 -- the literal of the last level has come first
-pub first_is : (base : ℕ) (w : WatchState) (lits c : Clause) (s : IsLesson base w lits) → AreLevelled w.trail.places w.levels → AreApart w.trail.places →
+pub first_is : (base : ℕ) (w : WatchState) (lits c : Clause) (s : IsLearntClause base w lits) → AreLevelled w.trail.places w.levels → AreApart w.trail.places →
     IsPermutation lits c → AreHighest w.trail.places c → (x : Literal) → slice_get c 0 ≡ Some x → x ≡ negation s.point.place.literal
 first_is base w lits c s a apart same h x at =
     let u : Literal = negation s.point.place.literal in
@@ -123,7 +123,7 @@ pub record Back (w : WatchState) (lits c : Clause) (u : Literal) (n : ℕ) (v : 
   pub unit : length c < 2 → n ≡ 1
   pub second : (m : Literal) → slice_get c 1 ≡ Some m → IsOnLevel (take v.start w.trail.places) m n
 
-pub back_short : (base : ℕ) (w : WatchState) (lits c : Clause) (n : ℕ) (s : IsLesson base w lits) → AreLevelled w.trail.places w.levels →
+pub back_short : (base : ℕ) (w : WatchState) (lits c : Clause) (n : ℕ) (s : IsLearntClause base w lits) → AreLevelled w.trail.places w.levels →
     AreApart w.trail.places →
     IsPermutation lits c → IsBackLevel w.trail.places c n → length c < 2 → (v : Level) × Back w lits c (negation s.point.place.literal) n v
 back_short base w lits c n s a apart same b few =
@@ -151,7 +151,7 @@ back_short base w lits c n s a apart same b few =
       },
     )
 
-pub back_long : (base : ℕ) (w : WatchState) (lits c : Clause) (n : ℕ) (s : IsLesson base w lits) → AreLevelled w.trail.places w.levels →
+pub back_long : (base : ℕ) (w : WatchState) (lits c : Clause) (n : ℕ) (s : IsLearntClause base w lits) → AreLevelled w.trail.places w.levels →
     AreApart w.trail.places →
     IsPermutation lits c → IsBackLevel w.trail.places c n → IsWatchable w.trail.vars c → (v : Level) × Back w lits c (negation s.point.place.literal) n v
 back_long base w lits c n s a apart same b can =

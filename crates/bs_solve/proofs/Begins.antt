@@ -1,4 +1,4 @@
--- The levels of a search, from one turn to the next.
+-- The levels of a search, from one round to the next.
 use Rattle.std.proofs.Common.{◌≡◌, ℕ, ◌-◌, ◌<◌, ◌≤◌, arith, true, List, [], ◌∷◌, ◌++◌, length, take, refl, sym, ap, subst, ◌∙◌, inl, inr, Option, Some, None}
 use Rattle.std.specs.Prelude.{Contains, slice_get, is_some, option_map, unwrap_or}
 use Rattle.std.proofs.lemmas.Bool.{cases_lt, cases_eq, false≢true}
@@ -14,7 +14,7 @@ use Rattle.bs_watch.proofs.Advancing.{true_in_front, stays_true, true_carries, t
 use Rattle.bs_watch.proofs.Gets.{some_at, same_some, get_left, get_last, get_push_cases, get_take, take_get, get_within}
 use Rattle.bs_solve_analysis.specs.Reasons.{last_start}
 use Rattle.bs_solve_analysis.specs.Point.{IsDecisionAt, IsLastDecision}
-use Rattle.bs_solve.specs.Begun.{AreBegun, AreLaid}
+use Rattle.bs_solve.specs.Begun.{AreBegun, AreSatisfied}
 
 -- ---- lists
 
@@ -25,11 +25,11 @@ decision_left places more at d = record { place = d.place; there = get_left plac
 
 pub begun_first : (base : ℕ) (v : Level) (places : List Place) → v.start ≤ base → v.start ≤ length places →
     ((k : ℕ) (p : Place) → base ≤ k → slice_get places k ≡ Some p → is_some p.reason ≡ true) → AreBegun base (v ∷ []) places
-begun_first base v places low within forced = record {
+begun_first base v places low within implied = record {
   some = omega arith;
   first = λ u e. let is = ap (λ (x : Level). x.start) (same_some v u e) in (omega (arith, is, low), omega (arith, is, within));
   on = λ j u one e. absurd (let h = get_within (v ∷ []) j u e in omega (arith, h, one));
-  only = λ k p past e none. absurd (false≢true (sym (ap is_some none) ∙ forced k p past e));
+  only = λ k p past e none. absurd (false≢true (sym (ap is_some none) ∙ implied k p past e));
   ascends = λ i j u w low h e d. absurd (let h2 = get_within (v ∷ []) j w d in omega (arith, h2, low, h));
   deep = λ j u e. let h = get_within (v ∷ []) j u e in omega (arith, h);
   few = omega arith;
@@ -80,10 +80,10 @@ begun_decided base levels places v p b low at free = record {
   few = let h = length_push levels v in let g = length_push places p in let few = b.few in omega (arith, h, g, few);
 }
 
--- forced places
+-- implied places
 pub begun_more : (base : ℕ) (levels : List Level) (old new : List Place) → AreBegun base levels old → length old ≤ length new →
     take (length old) new ≡ old → ((k : ℕ) (p : Place) → length old ≤ k → slice_get new k ≡ Some p → is_some p.reason ≡ true) → AreBegun base levels new
-begun_more base levels old new b longer front forced = record {
+begun_more base levels old new b longer front implied = record {
   some = b.some;
   first = λ u e. let f = b.first u e in (f.0, (let g = f.1 in omega (arith, g, longer)));
   on = λ j u above e.
@@ -98,7 +98,7 @@ begun_more base levels old new b longer front forced = record {
       );
   only = λ k p above e none. elim (cases_lt k (length old)) [
     | inl early ↦ b.only k p above (subst (λ ps. slice_get ps k ≡ Some p) front (take_get (length old) new k p early e)) none
-    | inr late ↦ absurd (some_none p (forced k p late e) none)
+    | inr late ↦ absurd (some_none p (implied k p late e) none)
   ];
   ascends = b.ascends;
   deep = b.deep;
@@ -111,11 +111,11 @@ begun_more base levels old new b longer front forced = record {
 pub begun_grows : (base level : ℕ) (levels : List Level) (clauses : List Held) (old new : List Place) → AreBegun base levels old →
     Grows clauses level old new → AreBegun base levels new
 begun_grows base level levels clauses old new b g =
-    begun_more base levels old new b g.longer g.front (λ k p late e. let f = g.forced k p late e in ap is_some f.reason)
+    begun_more base levels old new b g.longer g.front (λ k p late e. let f = g.implied k p late e in ap is_some f.reason)
 
-pub begun_forced : (base r : ℕ) (levels : List Level) (places : List Place) (p : Place) → AreBegun base levels places → p.reason ≡ Some r →
+pub begun_implied : (base r : ℕ) (levels : List Level) (places : List Place) (p : Place) → AreBegun base levels places → p.reason ≡ Some r →
     AreBegun base levels (places ++ p ∷ [])
-begun_forced base r levels places p b is =
+begun_implied base r levels places p b is =
     begun_more base levels places (places ++ p ∷ []) b (let h = length_push places p in omega (arith, h))
     (take_at places (p ∷ []) (length places) refl)
     (λ k q late e. elim (get_push_cases places p q k e) [
@@ -173,7 +173,7 @@ last_level base levels places b deep =
       on.0,
       record {
         decided = on.1;
-        forced = λ k p later e. by v at on.0 k p later e p.reason refl;
+        implied = λ k p later e. by v at on.0 k p later e p.reason refl;
       },
     )
   where
@@ -193,10 +193,10 @@ last_level base levels places b deep =
 
 -- ---- short clauses
 
-pub laid_grows : (shorts : List ℕ) (old new : List Held) (level : ℕ) (levels : List Level) (before after : List Place) → AreLaid shorts old levels before →
+pub satisfied_grows : (shorts : List ℕ) (old new : List Held) (level : ℕ) (levels : List Level) (before after : List Place) → AreSatisfied shorts old levels before →
     AreShuffled old new → Grows new level before after → ((v : Level) → slice_get levels 1 ≡ Some v → v.start ≤ length before) →
-    AreLaid shorts new levels after
-laid_grows shorts old new level levels before after a s g within = record {
+    AreSatisfied shorts new levels after
+satisfied_grows shorts old new level levels before after a s g within = record {
   now = λ r there.
       true_carries (literals_of before) (literals_of after) (literals_at old r) (literals_at new r) (λ l. stays_true new level before after l g)
       (s.same r) (a.now r there);
@@ -216,17 +216,17 @@ true_left places more c h = record {
 }
 
 -- a place is taken on the last level, or on a new one
-pub laid_push : (shorts : List ℕ) (clauses : List Held) (levels : List Level) (places : List Place) (p : Place) → AreLaid shorts clauses levels places →
-    ((v : Level) → slice_get levels 1 ≡ Some v → v.start ≤ length places) → AreLaid shorts clauses levels (places ++ p ∷ [])
-laid_push shorts clauses levels places p a within = record {
+pub satisfied_push : (shorts : List ℕ) (clauses : List Held) (levels : List Level) (places : List Place) (p : Place) → AreSatisfied shorts clauses levels places →
+    ((v : Level) → slice_get levels 1 ≡ Some v → v.start ≤ length places) → AreSatisfied shorts clauses levels (places ++ p ∷ [])
+satisfied_push shorts clauses levels places p a within = record {
   now = λ r there. true_left places (p ∷ []) (literals_at clauses r) (a.now r there);
   below = λ r v there e.
       subst (λ ps. HasTrue (literals_of ps) (literals_at clauses r)) (sym (take-append-le v.start places (p ∷ []) (within v e))) (a.below r v there e);
 }
 
-pub laid_level : (shorts : List ℕ) (clauses : List Held) (levels : List Level) (places : List Place) (v : Level) → AreLaid shorts clauses levels places →
-    v.start ≡ length places → AreLaid shorts clauses (levels ++ v ∷ []) places
-laid_level shorts clauses levels places v a at = record {
+pub satisfied_level : (shorts : List ℕ) (clauses : List Held) (levels : List Level) (places : List Place) (v : Level) → AreSatisfied shorts clauses levels places →
+    v.start ≡ length places → AreSatisfied shorts clauses (levels ++ v ∷ []) places
+satisfied_level shorts clauses levels places v a at = record {
   now = a.now;
   below = λ r u there e. elim (get_push_cases levels v u 1 e) [
     | inl old ↦ a.below r u there old
@@ -236,10 +236,10 @@ laid_level shorts clauses levels places v a at = record {
   ];
 }
 
-pub laid_cut : (shorts : List ℕ) (clauses : List Held) (base n : ℕ) (levels : List Level) (places : List Place) (v : Level) →
-    AreLaid shorts clauses levels places →
-    AreBegun base levels places → 1 ≤ n → slice_get levels n ≡ Some v → AreLaid shorts clauses (take n levels) (take v.start places)
-laid_cut shorts clauses base n levels places v a b one at = record {
+pub satisfied_cut : (shorts : List ℕ) (clauses : List Held) (base n : ℕ) (levels : List Level) (places : List Place) (v : Level) →
+    AreSatisfied shorts clauses levels places →
+    AreBegun base levels places → 1 ≤ n → slice_get levels n ≡ Some v → AreSatisfied shorts clauses (take n levels) (take v.start places)
+satisfied_cut shorts clauses base n levels places v a b one at = record {
   now = λ r there. front r there;
   below = λ r u there e.
       let (before, found) = get_take n levels 1 u e in

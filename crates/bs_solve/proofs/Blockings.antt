@@ -23,34 +23,34 @@ use Rattle.bs_solve_analysis.proofs.CallerLemmas.{reasoned_take, reasoned_kept}
 use Rattle.bs_solve_recording.specs.Place.{LoggedPlace}
 use Rattle.bs_solve_recording.specs.Places.{AreWarranted, logged_literals}
 use Rattle.bs_solve_recording.specs.Point.{IsCut}
-use Rattle.bs_solve_recording.specs.Book.{Book, standing}
+use Rattle.bs_solve_recording.specs.ProofLog.{ProofLog, standing}
 use Rattle.bs_solve_recording.specs.Search.{assumed}
 use Rattle.bs_solve_recording.proofs.Places.{sound_take, sound_clause}
 use Rattle.bs_solve_recording.proofs.Quiet.{learnt_clauses_keep_quiet}
 use Rattle.bs_watch.proofs.Literals.{negation-negation}
 use Rattle.bs_solve_analysis.proofs.Fronts.{place_of, open_earlier}
-use Rattle.bs_solve_recording.proofs.Lessons.{learns}
+use Rattle.bs_solve_recording.proofs.Backjumps.{learns}
 use Rattle.bs_solve_recording.proofs.Endings.{given_after}
 use Rattle.bs_solve.specs.declared.blocking.Retreat.{Retreat}
-use Rattle.bs_solve.specs.declared.blocking.Retreat.TheVariants.{Bottom, Forced, Open}
+use Rattle.bs_solve.specs.declared.blocking.Retreat.TheVariants.{Bottom, Implied, Open}
 use Rattle.bs_log.specs.declared.origin.Origin.TheVariants.{Blocked}
 use Rattle.bs_log.specs.Refusal.{entry_of}
-use Rattle.bs_solve.specs.declared.stock.Stock.{Stock}
-use Rattle.bs_solve.specs.Stock.{entries, is_live, id_in, IsStocked, HasJoined, rows_for}
+use Rattle.bs_solve.specs.declared.database.Database.{Database}
+use Rattle.bs_solve.specs.Database.{entries, is_live, id_in, HoldsEntries, HasJoined, rows_for}
 use Rattle.bs_solve.specs.Seen.{seen}
-use Rattle.bs_solve.specs.Begun.{AreBegun, AreLaid}
-use Rattle.bs_solve.specs.Lesson.{HasTaken}
+use Rattle.bs_solve.specs.Begun.{AreBegun, AreSatisfied}
+use Rattle.bs_solve.specs.Backjump.{HasTaken}
 use Rattle.bs_solve.specs.Pausing.{IsPaused, IsKept, IsGrounded}
 use Rattle.bs_solve.specs.Ground.{IsGround, IsOff}
 use Rattle.bs_solve.proofs.Grounds.{ground_added}
-use Rattle.bs_solve.specs.Blocking.{AreLast, IsBetween, IsRetreat, HasForced, HasOpened, HasEmptied, HasGoneFor, HasHeld}
+use Rattle.bs_solve.specs.Blocking.{AreLast, IsBetween, IsRetreat, HasImplied, HasOpened, HasEmptied, HasGoneFor, HasHeld}
 use Rattle.bs_solve.proofs.Entries.{stands_grown}
-use Rattle.bs_solve.proofs.Stocks.{others_added, others_trans, stocked_joined}
+use Rattle.bs_solve.proofs.Databases.{others_added, others_trans, holds_joined}
 use Rattle.bs_solve.proofs.Seens.{literals_seen, literals_seen_take, take_seen, length_seen}
-use Rattle.bs_solve.proofs.Begins.{begun_cut, laid_cut}
+use Rattle.bs_solve.proofs.Begins.{begun_cut, satisfied_cut}
 use Rattle.bs_solve.proofs.Backs.{Back, false_below}
 use Rattle.bs_solve.proofs.Takings.{gone_back, levels_assigned}
-use Rattle.bs_solve.proofs.Teachings.{place_apart, cut_of, seen_after, running_after}
+use Rattle.bs_solve.proofs.LearningLemmas.{place_apart, cut_of, seen_after, running_after}
 
 -- ---- the retreat
 
@@ -76,7 +76,7 @@ retreat_from places c first second high low retreat two at_first at_second highe
 
     by : (s : Retreat) → IsBetween high low s → IsRetreat places c s
     by Bottom b = tt
-    by (Forced n) b = (last, b)
+    by (Implied n) b = (last, b)
     by (Open n) b = (last, b)
 
 -- the second literal is false too
@@ -93,9 +93,9 @@ apart_two vars c can first second at_first at_second e =
 level_within : (places : List Place) (levels : List Level) (l : Literal) (n : ℕ) → AreLevelled places levels → IsOnLevel places l n → n ≤ length levels
 level_within places levels l n a on = let few = a.few on.1.at on.0 on.1.there in let is = on.2 in omega (arith, few, is)
 
-pub back_forced : (w : WatchState) (c : Clause) (n : ℕ) → AreLevelled w.trail.places w.levels → AreApart w.trail.places → IsWatchable w.trail.vars c →
-    (s : IsRetreat w.trail.places c (Forced n)) → (v : Level) × Back w c c s.0.first n v
-back_forced w c n a apart can s =
+pub back_implied : (w : WatchState) (c : Clause) (n : ℕ) → AreLevelled w.trail.places w.levels → AreApart w.trail.places → IsWatchable w.trail.vars c →
+    (s : IsRetreat w.trail.places c (Implied n)) → (v : Level) × Back w c c s.0.first n v
+back_implied w c n a apart can s =
     let l = s.0 in
     let is_low = s.1.0 in
     let one = s.1.1 in
@@ -148,21 +148,21 @@ first_is_open old mid c u l n v can b back at =
       unassigned = b.open_u;
     }))
 
-pub places_forced : (old mid now : WatchState) (c : Clause) (u l : Literal) (n r : ℕ) (v : Level) → Back old c c u n v →
+pub places_implied : (old mid now : WatchState) (c : Clause) (u l : Literal) (n r : ℕ) (v : Level) → Back old c c u n v →
     IfSome (slice_get old.levels n) (HasGoneBack old mid) → slice_get c 0 ≡ Some l → mid.levels ≡ take n old.levels → now ≡ assigned mid l (Some r) →
     now.trail.places ≡ take v.start old.trail.places ++ record { literal = u; reason = Some r; level = length (take n old.levels) } ∷ []
-places_forced old mid now c u l n r v b back at levels is =
+places_implied old mid now c u l n r v b back at levels is =
     let h = gone_back old mid n v b.at back in
     ap (λ (x : WatchState). x.trail.places) is ∙
     ap (λ ps. ps ++ record { literal = l; reason = Some r; level = length mid.levels } ∷ []) (ap (λ (t : TrailState). t.places) h.trail) ∙
     ap (λ m. take v.start old.trail.places ++ record { literal = m; reason = Some r; level = length mid.levels } ∷ []) (same_some l u (sym at ∙ b.first)) ∙
     ap (λ k. take v.start old.trail.places ++ record { literal = u; reason = Some r; level = length k } ∷ []) levels
 
-pub has_forced : (old mid now new : WatchState) (clauses : List Held) (shorts more : List ℕ) (u l : Literal) (n r : ℕ) (v : Level) →
+pub has_implied : (old mid now new : WatchState) (clauses : List Held) (shorts more : List ℕ) (u l : Literal) (n r : ℕ) (v : Level) →
     2 ≤ length (literals_at clauses r) → IsFalseOn (literals_of old.trail.places) u → Back old (literals_at clauses r) (literals_at clauses r) u n v →
     IfSome (slice_get old.levels n) (HasGoneBack old mid) → slice_get (literals_at clauses r) 0 ≡ Some l → mid.levels ≡ take n old.levels →
-    mid.lists ≡ old.lists → now ≡ assigned mid l (Some r) → HasJoined now new shorts more clauses r → HasForced old new clauses shorts more r
-has_forced old mid now new clauses shorts more u l n r v two lost b back at levels lists is joined = record {
+    mid.lists ≡ old.lists → now ≡ assigned mid l (Some r) → HasJoined now new shorts more clauses r → HasImplied old new clauses shorts more r
+has_implied old mid now new clauses shorts more u l n r v two lost b back at levels lists is joined = record {
   literal = u;
   level = n;
   end = v;
@@ -176,7 +176,7 @@ has_forced old mid now new clauses shorts more u l n r v two lost b back at leve
   lowest = b.lowest;
   free = b.open_u;
   levels = levels_assigned old mid now n r l levels is;
-  places = places_forced old mid now (literals_at clauses r) u l n r v b back at levels is;
+  places = places_implied old mid now (literals_at clauses r) u l n r v b back at levels is;
   vars = ap (λ (x : WatchState). x.trail.vars) is ∙ ap (λ (t : TrailState). t.vars) (gone_back old mid n v b.at back).trail;
   lists = ap (λ (x : WatchState). x.lists) is ∙ lists;
   joined = joined;
@@ -322,11 +322,11 @@ has_come before middle after r id lits added fresh found others live ids same = 
   same = subst (λ x. IsPermutation x (literals_at after r)) (ap (λ o. unwrap_or (option_map (λ (x : Held). x.literals) o) []) found) same;
 }
 
-forced_taken : (old new : WatchState) (before after : List Held) (stock more : Stock) (id r : ℕ) (lits : Clause)
-    (f : HasForced old new after stock.shorts.items more.shorts.items r) →
-    HasCome before after r id lits → more.rows.items ≡ stock.rows.items ++ rows_for id r Blocked →
-    HasTaken old new before after stock more id Blocked lits f.literal
-forced_taken old new before after stock more id r lits f h rows = record {
+implied_taken : (old new : WatchState) (before after : List Held) (database more : Database) (id r : ℕ) (lits : Clause)
+    (f : HasImplied old new after database.shorts.items more.shorts.items r) →
+    HasCome before after r id lits → more.rows.items ≡ database.rows.items ++ rows_for id r Blocked →
+    HasTaken old new before after database more id Blocked lits f.literal
+implied_taken old new before after database more id r lits f h rows = record {
   ref = r;
   level = f.level;
   end = f.end;
@@ -357,20 +357,20 @@ forced_taken old new before after stock more id r lits f h rows = record {
   rows = rows;
 }
 
-paused_taken : (base : ℕ) (book other : Book) (old new : WatchState) (before after : List Held) (stock more : Stock) (id : ℕ) (lits : Clause) (u : Literal) →
-    IsPaused base book old before stock → HasTaken old new before after stock more id Blocked lits u → Contains lits u →
-    IsFalseOn (literals_of old.trail.places) u → entry_of (entries book) id ≡ None →
-    entries other ≡ entries book ++ record { id = id; origin = Blocked; literals = lits } ∷ [] →
-    assumed other ≡ assumed book → IsPaused base other new after more
-paused_taken base book other old new before after stock more id lits u p h u_in lost free grown same =
-    let stands : standing other ≡ standing book ++ lits ∷ [] = stands_grown book other (record { id = id; origin = Blocked; literals = lits }) grown in
+paused_taken : (base : ℕ) (proof other : ProofLog) (old new : WatchState) (before after : List Held) (database more : Database) (id : ℕ) (lits : Clause) (u : Literal) →
+    IsPaused base proof old before database → HasTaken old new before after database more id Blocked lits u → Contains lits u →
+    IsFalseOn (literals_of old.trail.places) u → entry_of (entries proof) id ≡ None →
+    entries other ≡ entries proof ++ record { id = id; origin = Blocked; literals = lits } ∷ [] →
+    assumed other ≡ assumed proof → IsPaused base other new after more
+paused_taken base proof other old new before after database more id lits u p h u_in lost free grown same =
+    let stands : standing other ≡ standing proof ++ lits ∷ [] = stands_grown proof other (record { id = id; origin = Blocked; literals = lits }) grown in
     let b = p.running.begun in
     let places : List LoggedPlace = seen old.trail.places in
     let cut : ℕ = h.end.start in
     let inside = get_within old.levels h.level h.end h.at in
     let one = h.one in
     let (last, at_last) = some_at old.levels (length old.levels - 1) (omega (arith, inside, one)) in
-    let k = cut_of base old new before after stock more id Blocked lits u last b at_last (omega (arith, inside, one)) h in
+    let k = cut_of base old new before after database more id Blocked lits u last b at_last (omega (arith, inside, one)) h in
     let (at, q, there, is) = place_of (λ (x : LoggedPlace). x.literal) places (negation u)
     (subst (λ ls. Contains ls (negation u)) (sym (literals_seen old.trail.places)) lost) in
     let u_is : u ≡ negation q.literal = sym (negation-negation u) ∙ ap negation (sym is) in
@@ -382,21 +382,21 @@ paused_taken base book other old new before after stock more id lits u p h u_in 
     ] in
     let within_cut = get_within places cut k.decided.place k.decided.there in
     let low = k.low in
-    let learning = learns (standing book) base cut at (assumed book) places lits q cut p.sound there late (subst (Contains lits) u_is u_in)
+    let learning = learns (standing proof) base cut at (assumed proof) places lits q cut p.sound there late (subst (Contains lits) u_is u_in)
     (subst (λ l. IsCut places base cut l lits cut) u_is
     (record { low = k.low; high = omega arith; decided = k.decided; alone = k.alone; earlier = k.earlier })) in
-    let x : LoggedPlace = record { literal = u; forced = true } in
-    let sound_u : AreWarranted (standing book ++ lits ∷ []) base (assumed book) (take cut places ++ x ∷ []) =
-    subst (λ l. AreWarranted (standing book ++ lits ∷ []) base (assumed book)
-    (take cut places ++ record { literal = l; forced = true } ∷ [])) (sym u_is) learning.sound in
-    let after_is = seen_after old new before after stock more id Blocked lits u h in
+    let x : LoggedPlace = record { literal = u; implied = true } in
+    let sound_u : AreWarranted (standing proof ++ lits ∷ []) base (assumed proof) (take cut places ++ x ∷ []) =
+    subst (λ l. AreWarranted (standing proof ++ lits ∷ []) base (assumed proof)
+    (take cut places ++ record { literal = l; implied = true } ∷ [])) (sym u_is) learning.sound in
+    let after_is = seen_after old new before after database more id Blocked lits u h in
     let count : length (take cut places) ≡ cut = length-take-le cut places (omega (arith, within_cut)) in
     record {
-      running = running_after base old new before after stock more id Blocked lits u other (entries book) p.running.stocked p.running.reasoned b
-          p.running.laid p.running.ground u_in free grown h;
+      running = running_after base old new before after database more id Blocked lits u other (entries proof) p.running.holds_entries p.running.reasoned b
+          p.running.satisfied p.running.ground u_in free grown h;
       sound = subst (AreWarranted (standing other) base (assumed other)) (sym after_is)
           (subst (λ cs. AreWarranted cs base (assumed other) (take cut places ++ x ∷ [])) (sym stands)
-          (subst (λ a. AreWarranted (standing book ++ lits ∷ []) base a (take cut places ++ x ∷ [])) (sym same) sound_u));
+          (subst (λ a. AreWarranted (standing proof ++ lits ∷ []) base a (take cut places ++ x ∷ [])) (sym same) sound_u));
       given = given_after base places (seen new.trail.places) (assumed other)
           (ap (take base) after_is ∙ take-append-le base (take cut places) (x ∷ []) (omega (arith, low, count)) ∙ take-take base cut places low)
           (subst (All (IsTrueOn (logged_literals (take base places)))) (sym same) p.given);
@@ -422,13 +422,13 @@ sound_with_open st base a places lits l m s other l_in l_open m_in m_open = soun
         open_earlier (λ (y : LoggedPlace). y.literal) places k (length places) x (omega (arith, within))
         (subst (λ ps. IsOpenOn (logged_literals ps) x) (sym (take_all (length places) places (omega arith))) o)
 
-paused_opened : (base : ℕ) (book other : Book) (old new : WatchState) (before after : List Held) (stock more : Stock) (id r : ℕ) (lits : Clause) →
-    IsPaused base book old before stock → HasOpened old new after stock.shorts.items more.shorts.items r → HasCome before after r id lits →
-    more.rows.items ≡ stock.rows.items ++ rows_for id r Blocked → entry_of (entries book) id ≡ None →
-    entries other ≡ entries book ++ record { id = id; origin = Blocked; literals = lits } ∷ [] → assumed other ≡ assumed book →
+paused_opened : (base : ℕ) (proof other : ProofLog) (old new : WatchState) (before after : List Held) (database more : Database) (id r : ℕ) (lits : Clause) →
+    IsPaused base proof old before database → HasOpened old new after database.shorts.items more.shorts.items r → HasCome before after r id lits →
+    more.rows.items ≡ database.rows.items ++ rows_for id r Blocked → entry_of (entries proof) id ≡ None →
+    entries other ≡ entries proof ++ record { id = id; origin = Blocked; literals = lits } ∷ [] → assumed other ≡ assumed proof →
     IsPaused base other new after more
-paused_opened base book other old new before after stock more id r lits p o h rows free grown same =
-    let stands : standing other ≡ standing book ++ lits ∷ [] = stands_grown book other (record { id = id; origin = Blocked; literals = lits }) grown in
+paused_opened base proof other old new before after database more id r lits p o h rows free grown same =
+    let stands : standing other ≡ standing proof ++ lits ∷ [] = stands_grown proof other (record { id = id; origin = Blocked; literals = lits }) grown in
     let b = p.running.begun in
     let cut : ℕ = o.end.start in
     let front : List Place = take cut old.trail.places in
@@ -438,7 +438,7 @@ paused_opened base book other old new before after stock more id r lits p o h ro
     let low = on.0 in
     let within = get_within old.trail.places cut on.1.place on.1.there in
     let begun = begun_cut base o.level old.levels old.trail.places o.end b o.one o.at in
-    let laid = laid_cut stock.shorts.items before base o.level old.levels old.trail.places o.end p.running.laid b o.one o.at in
+    let satisfied = satisfied_cut database.shorts.items before base o.level old.levels old.trail.places o.end p.running.satisfied b o.one o.at in
     let count : length (take cut (seen old.trail.places)) ≡ cut =
     length-take-le cut (seen old.trail.places) (let n = length_seen old.trail.places in omega (arith, n, within)) in
     let after_is : seen new.trail.places ≡ take cut (seen old.trail.places) =
@@ -447,22 +447,22 @@ paused_opened base book other old new before after stock more id r lits p o h ro
     λ l is. subst (λ ls. IsOpenOn ls l) (sym (literals_seen_take cut old.trail.places)) is in
     let stands_in : (l : Literal) → Contains (literals_at after r) l → Contains lits l =
     λ l there. Contains-permutation (literals_at after r) lits l (IsPermutation-sym lits (literals_at after r) h.same) there in
-    let sound : AreWarranted (standing book ++ lits ∷ []) base (assumed book) (take cut (seen old.trail.places)) =
-    sound_with_open (standing book) base (assumed book) (take cut (seen old.trail.places)) lits o.first o.second
-    (sound_take (standing book) base (assumed book) (seen old.trail.places) cut p.sound) o.other
+    let sound : AreWarranted (standing proof ++ lits ∷ []) base (assumed proof) (take cut (seen old.trail.places)) =
+    sound_with_open (standing proof) base (assumed proof) (take cut (seen old.trail.places)) lits o.first o.second
+    (sound_take (standing proof) base (assumed proof) (seen old.trail.places) cut p.sound) o.other
     (stands_in o.first o.stands_first) (open_in o.first o.open_first) (stands_in o.second o.stands_second) (open_in o.second o.open_second) in
     record {
       running = record {
-        stocked = subst (IsStocked new.lists after more) (sym grown)
-            (stocked_joined o.middle new before after stock more (entries book) r (record { id = id; origin = Blocked; literals = lits })
-            (subst (λ ls. IsStocked ls before stock (entries book)) (sym o.lists) p.running.stocked) free h.others h.fresh h.live
+        holds_entries = subst (HoldsEntries new.lists after more) (sym grown)
+            (holds_joined o.middle new before after database more (entries proof) r (record { id = id; origin = Blocked; literals = lits })
+            (subst (λ ls. HoldsEntries ls before database (entries proof)) (sym o.lists) p.running.holds_entries) free h.others h.fresh h.live
             h.id_is h.same o.joined rows);
         serves = o.joined.serves;
         begun = subst (λ ls. AreBegun base ls new.trail.places) (sym levels) (subst (AreBegun base (take o.level old.levels)) (sym places) begun);
-        laid = subst (λ ls. AreLaid more.shorts.items after ls new.trail.places) (sym levels)
-            (subst (AreLaid more.shorts.items after (take o.level old.levels)) (sym places) (record {
-              now = λ q there. carried q there (literals_of front) (laid.now q (was q there));
-              below = λ q v there e. carried q there (literals_of (take v.start front)) (laid.below q v (was q there) e);
+        satisfied = subst (λ ls. AreSatisfied more.shorts.items after ls new.trail.places) (sym levels)
+            (subst (AreSatisfied more.shorts.items after (take o.level old.levels)) (sym places) (record {
+              now = λ q there. carried q there (literals_of front) (satisfied.now q (was q there));
+              below = λ q v there e. carried q there (literals_of (take v.start front)) (satisfied.below q v (was q there) e);
             }));
         reasoned = subst (IsReasoned after) (sym places)
             (reasoned_kept before after front (λ k q x e is.
@@ -477,12 +477,12 @@ paused_opened base book other old new before after stock more id r lits p o h ro
             take-take v.start cut old.trail.places below in
             subst (IsGround (entries other) more.shorts.items after) (sym same)
             (subst (λ es. IsGround es more.shorts.items after (take v.start old.trail.places)) (sym grown)
-            (ground_added old.lists before after stock more.shorts.items (entries book) (record { id = id; origin = Blocked; literals = lits }) r
-            (take v.start old.trail.places) p.running.stocked h.others h.fresh (λ n q less found. o.joined.front n q found) (p.running.ground v at)));
+            (ground_added old.lists before after database more.shorts.items (entries proof) (record { id = id; origin = Blocked; literals = lits }) r
+            (take v.start old.trail.places) p.running.holds_entries h.others h.fresh (λ n q less found. o.joined.front n q found) (p.running.ground v at)));
       };
       sound = subst (AreWarranted (standing other) base (assumed other)) (sym after_is)
           (subst (λ cs. AreWarranted cs base (assumed other) (take cut (seen old.trail.places))) (sym stands)
-          (subst (λ a. AreWarranted (standing book ++ lits ∷ []) base a (take cut (seen old.trail.places))) (sym same) sound));
+          (subst (λ a. AreWarranted (standing proof ++ lits ∷ []) base a (take cut (seen old.trail.places))) (sym same) sound));
       given = given_after base (seen old.trail.places) (seen new.trail.places) (assumed other)
           (ap (take base) after_is ∙ take-take base cut (seen old.trail.places) low)
           (subst (All (IsTrueOn (logged_literals (take base (seen old.trail.places))))) (sym same) p.given);
@@ -492,7 +492,7 @@ paused_opened base book other old new before after stock more id r lits p o h ro
           omega (arith, n, m, count, low);
     }
   where
-    was : (q : ℕ) → Contains more.shorts.items q → Contains stock.shorts.items q
+    was : (q : ℕ) → Contains more.shorts.items q → Contains database.shorts.items q
     was q there = elim (o.joined.listed q there) [
       | inl old_one ↦ old_one
       | inr here ↦ absurd (let few = here.1 in let two = o.two in omega (arith, few, two))
@@ -501,74 +501,74 @@ paused_opened base book other old new before after stock more id r lits p o h ro
     carried : (q : ℕ) → Contains more.shorts.items q → (trail : List Literal) → HasTrue trail (literals_at before q) → HasTrue trail (literals_at after q)
     carried q there trail t =
         subst (HasTrue trail) (sym (ap (λ z. unwrap_or (option_map (λ (x : Held). x.literals) z) [])
-        (h.others.kept q (place_apart before after r q h.others h.fresh (All-contains (λ x. is_live before x ≡ true) stock.shorts.items q
-        p.running.stocked.listed (was q there)))))) t
+        (h.others.kept q (place_apart before after r q h.others h.fresh (All-contains (λ x. is_live before x ≡ true) database.shorts.items q
+        p.running.holds_entries.listed (was q there)))))) t
 
-kept_stocked : (book : Book) (w : WatchState) (clauses : List Held) (stock : Stock) → IsKept book w clauses stock →
-    IsStocked w.lists clauses stock (entries book)
-kept_stocked book w clauses stock (inl r) = r.stocked
-kept_stocked book w clauses stock (inr p) = p.1.running.stocked
+kept_held : (proof : ProofLog) (w : WatchState) (clauses : List Held) (database : Database) → IsKept proof w clauses database →
+    HoldsEntries w.lists clauses database (entries proof)
+kept_held proof w clauses database (inl r) = r.holds_entries
+kept_held proof w clauses database (inr p) = p.1.running.holds_entries
 
-pub kept_serves : (book : Book) (w : WatchState) (clauses : List Held) (stock : Stock) → IsKept book w clauses stock → Serves w clauses
-kept_serves book w clauses stock (inl r) = r.serves
-kept_serves book w clauses stock (inr p) = p.1.running.serves
+pub kept_serves : (proof : ProofLog) (w : WatchState) (clauses : List Held) (database : Database) → IsKept proof w clauses database → Serves w clauses
+kept_serves proof w clauses database (inl r) = r.serves
+kept_serves proof w clauses database (inr p) = p.1.running.serves
 
-pub held_emptied : (old new : WatchState) (before after : List Held) (stock more : Stock) (id r : ℕ) (lits : Clause) →
-    HasEmptied old new after stock.shorts.items more.shorts.items r → HasCome before after r id lits →
-    more.rows.items ≡ stock.rows.items ++ rows_for id r Blocked → HasHeld old new before after stock more id lits
-held_emptied old new before after stock more id r lits e h rows = record {
+pub held_emptied : (old new : WatchState) (before after : List Held) (database more : Database) (id r : ℕ) (lits : Clause) →
+    HasEmptied old new after database.shorts.items more.shorts.items r → HasCome before after r id lits →
+    more.rows.items ≡ database.rows.items ++ rows_for id r Blocked → HasHeld old new before after database more id lits
+held_emptied old new before after database more id r lits e h rows = record {
   vars = ap (λ (t : TrailState). t.vars) e.joined.trail ∙ e.vars;
-  keeps = λ book other free grown same k. inl (record {
-    stocked = subst (IsStocked new.lists after more) (sym grown)
-        (stocked_joined e.middle new before after stock more (entries book) r (record { id = id; origin = Blocked; literals = lits })
-        (subst (λ ls. IsStocked ls before stock (entries book)) (sym e.lists) (kept_stocked book old before stock k)) free h.others h.fresh h.live
+  keeps = λ proof other free grown same k. inl (record {
+    holds_entries = subst (HoldsEntries new.lists after more) (sym grown)
+        (holds_joined e.middle new before after database more (entries proof) r (record { id = id; origin = Blocked; literals = lits })
+        (subst (λ ls. HoldsEntries ls before database (entries proof)) (sym e.lists) (kept_held proof old before database k)) free h.others h.fresh h.live
         h.id_is h.same e.joined rows);
     serves = e.joined.serves;
     ground = subst (IsGround (entries other) more.shorts.items after) (sym (ap (λ (t : TrailState). t.places) e.joined.trail))
         (subst (λ es. IsGround es more.shorts.items after e.middle.trail.places) (sym grown)
-        (ground_added old.lists before after stock more.shorts.items (entries book) (record { id = id; origin = Blocked; literals = lits }) r
-        e.middle.trail.places (kept_stocked book old before stock k) h.others h.fresh (λ n q less at. e.joined.front n q at) (stands book k)));
+        (ground_added old.lists before after database more.shorts.items (entries proof) (record { id = id; origin = Blocked; literals = lits }) r
+        e.middle.trail.places (kept_held proof old before database k) h.others h.fresh (λ n q less at. e.joined.front n q at) (stands proof k)));
     levels = e.joined.levels ∙ e.levels;
   });
 }
   where
-    stands : (book : Book) → IsKept book old before stock → IsGround (entries book) stock.shorts.items before e.middle.trail.places
-    stands book (inl rest) = subst (IsGround (entries book) stock.shorts.items before) (sym (e.none rest.levels)) rest.ground
-    stands book (inr p) =
+    stands : (proof : ProofLog) → IsKept proof old before database → IsGround (entries proof) database.shorts.items before e.middle.trail.places
+    stands proof (inl rest) = subst (IsGround (entries proof) database.shorts.items before) (sym (e.none rest.levels)) rest.ground
+    stands proof (inr p) =
         let (v, at) = some_at old.levels 0 (let some = p.1.running.begun.some in omega (arith, some)) in
-        subst (IsGround (entries book) stock.shorts.items before) (sym (e.first v at)) (p.1.running.ground v at)
+        subst (IsGround (entries proof) database.shorts.items before) (sym (e.first v at)) (p.1.running.ground v at)
 
-pub held_forced : (old new : WatchState) (before after : List Held) (stock more : Stock) (id r : ℕ) (lits : Clause) →
-    HasForced old new after stock.shorts.items more.shorts.items r → HasCome before after r id lits →
-    more.rows.items ≡ stock.rows.items ++ rows_for id r Blocked → HasHeld old new before after stock more id lits
-held_forced old new before after stock more id r lits f h rows = record {
+pub held_implied : (old new : WatchState) (before after : List Held) (database more : Database) (id r : ℕ) (lits : Clause) →
+    HasImplied old new after database.shorts.items more.shorts.items r → HasCome before after r id lits →
+    more.rows.items ≡ database.rows.items ++ rows_for id r Blocked → HasHeld old new before after database more id lits
+held_implied old new before after database more id r lits f h rows = record {
   vars = ap (λ (t : TrailState). t.vars) f.joined.trail ∙ f.vars;
-  keeps = λ book other free grown same k. elim k as (λ _. IsKept other new after more) [
+  keeps = λ proof other free grown same k. elim k as (λ _. IsKept other new after more) [
     | inl rest ↦ absurd (let inside = get_within old.levels f.level f.end f.at in let none = ap length rest.levels in omega (arith, inside, none))
     | inr p ↦ inr (
       p.0,
-      paused_taken p.0 book other old new before after stock more id lits f.literal p.1
-          (forced_taken old new before after stock more id r lits f h rows)
+      paused_taken p.0 proof other old new before after database more id lits f.literal p.1
+          (implied_taken old new before after database more id r lits f h rows)
           (Contains-permutation (literals_at after r) lits f.literal (IsPermutation-sym lits (literals_at after r) h.same)
           (Contains_from_get (literals_at after r) 0 f.literal f.first)) f.lost free grown same,
     )
   ];
 }
 
-pub held_opened : (old new : WatchState) (before after : List Held) (stock more : Stock) (id r : ℕ) (lits : Clause) →
-    HasOpened old new after stock.shorts.items more.shorts.items r → HasCome before after r id lits →
-    more.rows.items ≡ stock.rows.items ++ rows_for id r Blocked → HasHeld old new before after stock more id lits
-held_opened old new before after stock more id r lits o h rows = record {
+pub held_opened : (old new : WatchState) (before after : List Held) (database more : Database) (id r : ℕ) (lits : Clause) →
+    HasOpened old new after database.shorts.items more.shorts.items r → HasCome before after r id lits →
+    more.rows.items ≡ database.rows.items ++ rows_for id r Blocked → HasHeld old new before after database more id lits
+held_opened old new before after database more id r lits o h rows = record {
   vars = ap (λ (t : TrailState). t.vars) o.joined.trail ∙ o.vars;
-  keeps = λ book other free grown same k. elim k as (λ _. IsKept other new after more) [
+  keeps = λ proof other free grown same k. elim k as (λ _. IsKept other new after more) [
     | inl rest ↦ absurd (let inside = get_within old.levels o.level o.end o.at in let none = ap length rest.levels in omega (arith, inside, none))
-    | inr p ↦ inr (p.0, paused_opened p.0 book other old new before after stock more id r lits p.1 o h rows free grown same)
+    | inr p ↦ inr (p.0, paused_opened p.0 proof other old new before after database more id r lits p.1 o h rows free grown same)
   ];
 }
 
-pub held_back : (retreat : Retreat) (old new : WatchState) (before after : List Held) (stock more : Stock) (id r : ℕ) (lits : Clause) →
-    HasGoneFor retreat old new after stock.shorts.items more.shorts.items r → HasCome before after r id lits →
-    more.rows.items ≡ stock.rows.items ++ rows_for id r Blocked → HasHeld old new before after stock more id lits
-held_back Bottom old new before after stock more id r lits g h rows = held_emptied old new before after stock more id r lits g h rows
-held_back (Forced n) old new before after stock more id r lits g h rows = held_forced old new before after stock more id r lits g h rows
-held_back (Open n) old new before after stock more id r lits g h rows = held_opened old new before after stock more id r lits g h rows
+pub held_back : (retreat : Retreat) (old new : WatchState) (before after : List Held) (database more : Database) (id r : ℕ) (lits : Clause) →
+    HasGoneFor retreat old new after database.shorts.items more.shorts.items r → HasCome before after r id lits →
+    more.rows.items ≡ database.rows.items ++ rows_for id r Blocked → HasHeld old new before after database more id lits
+held_back Bottom old new before after database more id r lits g h rows = held_emptied old new before after database more id r lits g h rows
+held_back (Implied n) old new before after database more id r lits g h rows = held_implied old new before after database more id r lits g h rows
+held_back (Open n) old new before after database more id r lits g h rows = held_opened old new before after database more id r lits g h rows

@@ -1,4 +1,4 @@
--- The stock after clauses have gone, and after they have moved.
+-- The clause database after clauses have gone, and after they have moved.
 use Rattle.std.proofs.Common.{◌≡◌, ℕ, zero, suc, ◌+◌, ◌<◌, ◌≤◌, arith, Bool, true, false, not, ◌||◌, cond, List, [], ◌∷◌, map, length, take, refl, sym, ap, subst, ◌∙◌, inl, inr, Option, Some, None, eqb, get_or}
 use Rattle.std.specs.Prelude.{AllPairs, Contains, slice_get, is_some, option_map, unwrap_or, IsPermutation}
 use Rattle.std.specs.List.{filter, list_any, sum}
@@ -19,7 +19,7 @@ use Rattle.bs_watch.specs.Places.{Place, TrailState, renamed_place}
 use Rattle.bs_watch.specs.Lists.{row, IsAttached, renamed, renamed_lists}
 use Rattle.bs_watch.specs.Watch.{WatchState, Serves, renamed_watch}
 use Rattle.bs_watch.specs.Sweep.{HasSwept}
-use Rattle.bs_solve_reduction.specs.declared.row.Row.{Row}
+use Rattle.bs_solve_reduction.specs.declared.row.LoggedClause.{LoggedClause}
 use Rattle.bs_solve_reduction.specs.Keeping.{AreHeld, Ascends, renamed_ref, renamed_row}
 use Rattle.bs_solve_reduction.specs.Notes.{GoBy, HasKilled, AreOut}
 use Rattle.bs_solve_reduction.specs.Rows.{IsRowOf, AreRowsOf, AreRowsAmong}
@@ -27,10 +27,10 @@ use Rattle.bs_solve_reduction.proofs.Removals.{killed_still, first_stay}
 use Rattle.bs_watch.proofs.Gets.{none_is_not_some, same_some, get_from_Contains, Contains_from_get, get_map, get_map_cases, get_take, get_within}
 use Rattle.bs_solve_analysis.proofs.Clauses.{nothing_in, contains_first, cons_contains, contains_cases, filter_cases, filter_from, map_cases, map_contains, all_from}
 use Rattle.bs_solve_recording.proofs.Entries.{found_id}
-use Rattle.bs_solve.specs.declared.stock.Stock.{Stock}
-use Rattle.bs_solve.specs.Stock.{is_live, id_in, IsStocked}
+use Rattle.bs_solve.specs.declared.database.Database.{Database}
+use Rattle.bs_solve.specs.Database.{is_live, id_in, HoldsEntries}
 use Rattle.bs_solve.proofs.Entries.{id_of, id_is_live, rows_permuted}
-use Rattle.bs_solve.proofs.Teachings.{held_self}
+use Rattle.bs_solve.proofs.LearningLemmas.{held_self}
 use Rattle.bs_solve.specs.Ground.{IsGround}
 use Rattle.bs_solve.specs.Dropping.{AreStaying, without_ids, marked, HasDropped, HasCompacted}
 
@@ -102,8 +102,8 @@ marked_left ids (x ∷ xs) = by (stays_by ids x.id) refl (is_lemma_or_block x) r
     by false is_a false is_b rest = rest
 
 -- rows and entries that pass alike
-rows_filtered : (clauses : List Held) (f : Row → Bool) (g : Entry → Bool) (rows : List Row) (es : List Entry) → AreRowsOf clauses rows es →
-    ((x : Row) (e : Entry) → Contains rows x → IsRowOf clauses x e → f x ≡ g e) → AreRowsOf clauses (filter f rows) (filter g es)
+rows_filtered : (clauses : List Held) (f : LoggedClause → Bool) (g : Entry → Bool) (rows : List LoggedClause) (es : List Entry) → AreRowsOf clauses rows es →
+    ((x : LoggedClause) (e : Entry) → Contains rows x → IsRowOf clauses x e → f x ≡ g e) → AreRowsOf clauses (filter f rows) (filter g es)
 rows_filtered clauses f g [] [] r alike = tt
 rows_filtered clauses f g [] (e ∷ es) r alike = absurd r
 rows_filtered clauses f g (x ∷ rows) [] r alike = absurd r
@@ -118,8 +118,8 @@ rows_filtered clauses f g (x ∷ rows) (e ∷ es) r alike =
     by false true same rest = absurd (false≢true same)
 
 -- where the first so many rows pass, so do the first so many entries, and these stay
-front_filtered : (clauses : List Held) (f : Row → Bool) (g : Entry → Bool) (rows : List Row) (es : List Entry) (n : ℕ) → AreRowsOf clauses rows es →
-    ((x : Row) (e : Entry) → Contains rows x → IsRowOf clauses x e → f x ≡ g e) → ((x : Row) → Contains (take n rows) x → f x ≡ true) →
+front_filtered : (clauses : List Held) (f : LoggedClause → Bool) (g : Entry → Bool) (rows : List LoggedClause) (es : List Entry) (n : ℕ) → AreRowsOf clauses rows es →
+    ((x : LoggedClause) (e : Entry) → Contains rows x → IsRowOf clauses x e → f x ≡ g e) → ((x : LoggedClause) → Contains (take n rows) x → f x ≡ true) →
     (take n (filter g es) ≡ take n es) × (n ≤ length rows → n ≤ length (filter f rows))
 front_filtered clauses f g [] [] zero r alike pass = (refl, λ h. h)
 front_filtered clauses f g [] [] (suc n) r alike pass = (refl, λ h. h)
@@ -138,79 +138,79 @@ front_filtered clauses f g (x ∷ rows) (e ∷ es) (suc n) r alike pass =
 
 -- ---- clauses go
 
--- a stock of which some rows' clauses were killed
-pub record IsLess (before after : List Held) (stock less : Stock) (start : ℕ) (ids refs : List ℕ) (watched : List Literal) : Type 0 where
-  pub gone : GoBy before stock.rows.items start ids refs watched
-  pub held : AreHeld before stock.rows.items
-  pub ascends : Ascends stock.rows.items
+-- a clause database of which some rows' clauses were killed
+pub record IsLess (before after : List Held) (database less : Database) (start : ℕ) (ids refs : List ℕ) (watched : List Literal) : Type 0 where
+  pub gone : GoBy before database.rows.items start ids refs watched
+  pub held : AreHeld before database.rows.items
+  pub ascends : Ascends database.rows.items
   pub killed : HasKilled before after refs
-  pub rows : less.rows.items ≡ filter (λ (x : Row). is_some (held_at after x.clause)) stock.rows.items
-  pub shorts : less.shorts.items ≡ filter (λ r. is_some (held_at after r)) stock.shorts.items
+  pub rows : less.rows.items ≡ filter (λ (x : LoggedClause). is_some (held_at after x.clause)) database.rows.items
+  pub shorts : less.shorts.items ≡ filter (λ r. is_some (held_at after r)) database.shorts.items
 
 -- a row of this clause has an id that goes just where the clause is not live any more
-row_of_gone : (before after : List Held) (stock less : Stock) (start : ℕ) (ids refs : List ℕ) (watched : List Literal) →
-    IsLess before after stock less start ids refs watched → (r : ℕ) → Contains refs r →
-    (x : Row) × Contains stock.rows.items x × (x.clause ≡ r) × Contains ids x.id
-row_of_gone before after stock less start ids refs watched l r there =
+row_of_gone : (before after : List Held) (database less : Database) (start : ℕ) (ids refs : List ℕ) (watched : List Literal) →
+    IsLess before after database less start ids refs watched → (r : ℕ) → Contains refs r →
+    (x : LoggedClause) × Contains database.rows.items x × (x.clause ≡ r) × Contains ids x.id
+row_of_gone before after database less start ids refs watched l r there =
     let n = l.gone.noted in
-    let (x, in_gone, is) = map_cases (λ (y : Row). y.clause) (filter l.gone.test stock.rows.items) r (subst (λ rs. Contains rs r) n.clauses_are there) in (
+    let (x, in_gone, is) = map_cases (λ (y : LoggedClause). y.clause) (filter l.gone.test database.rows.items) r (subst (λ rs. Contains rs r) n.clauses_are there) in (
       x,
-      (filter_cases l.gone.test stock.rows.items x in_gone).0,
+      (filter_cases l.gone.test database.rows.items x in_gone).0,
       is,
-      subst (λ xs. Contains xs x.id) (sym n.ids_are) (map_contains (λ (y : Row). y.id) (filter l.gone.test stock.rows.items) x in_gone),
+      subst (λ xs. Contains xs x.id) (sym n.ids_are) (map_contains (λ (y : LoggedClause). y.id) (filter l.gone.test database.rows.items) x in_gone),
     )
 
-row_of_id : (before after : List Held) (stock less : Stock) (start : ℕ) (ids refs : List ℕ) (watched : List Literal) →
-    IsLess before after stock less start ids refs watched → (id : ℕ) → Contains ids id →
-    (x : Row) × Contains stock.rows.items x × (x.id ≡ id) × Contains refs x.clause
-row_of_id before after stock less start ids refs watched l id there =
+row_of_id : (before after : List Held) (database less : Database) (start : ℕ) (ids refs : List ℕ) (watched : List Literal) →
+    IsLess before after database less start ids refs watched → (id : ℕ) → Contains ids id →
+    (x : LoggedClause) × Contains database.rows.items x × (x.id ≡ id) × Contains refs x.clause
+row_of_id before after database less start ids refs watched l id there =
     let n = l.gone.noted in
-    let (x, in_gone, is) = map_cases (λ (y : Row). y.id) (filter l.gone.test stock.rows.items) id (subst (λ xs. Contains xs id) n.ids_are there) in (
+    let (x, in_gone, is) = map_cases (λ (y : LoggedClause). y.id) (filter l.gone.test database.rows.items) id (subst (λ xs. Contains xs id) n.ids_are there) in (
       x,
-      (filter_cases l.gone.test stock.rows.items x in_gone).0,
+      (filter_cases l.gone.test database.rows.items x in_gone).0,
       is,
-      subst (λ rs. Contains rs x.clause) (sym n.clauses_are) (map_contains (λ (y : Row). y.clause) (filter l.gone.test stock.rows.items) x in_gone),
+      subst (λ rs. Contains rs x.clause) (sym n.clauses_are) (map_contains (λ (y : LoggedClause). y.clause) (filter l.gone.test database.rows.items) x in_gone),
     )
 
-id_from_row : (before : List Held) (stock : Stock) (x : Row) → AreHeld before stock.rows.items → Contains stock.rows.items x → id_of before x.clause ≡ Some x.id
-id_from_row before stock x held there = All-contains (λ (y : Row). id_of before y.clause ≡ Some y.id) stock.rows.items x held there
+id_from_row : (before : List Held) (database : Database) (x : LoggedClause) → AreHeld before database.rows.items → Contains database.rows.items x → id_of before x.clause ≡ Some x.id
+id_from_row before database x held there = All-contains (λ (y : LoggedClause). id_of before y.clause ≡ Some y.id) database.rows.items x held there
 
 -- a live clause stays where its id does
-stays_live : (before after : List Held) (stock less : Stock) (start : ℕ) (ids refs : List ℕ) (watched : List Literal) →
-    IsLess before after stock less start ids refs watched → (r : ℕ) → is_live before r ≡ true → stays_by ids (id_in before r) ≡ true →
+stays_live : (before after : List Held) (database less : Database) (start : ℕ) (ids refs : List ℕ) (watched : List Literal) →
+    IsLess before after database less start ids refs watched → (r : ℕ) → is_live before r ≡ true → stays_by ids (id_in before r) ≡ true →
     held_at after r ≡ held_at before r
-stays_live before after stock less start ids refs watched l r live stays = l.killed.kept r (λ there.
-    let (x, in_rows, is, in_ids) = row_of_gone before after stock less start ids refs watched l r there in
-    let id : id_in before r ≡ x.id = ap (λ o. unwrap_or o 0) (ap (id_of before) (sym is) ∙ id_from_row before stock x l.held in_rows) in
+stays_live before after database less start ids refs watched l r live stays = l.killed.kept r (λ there.
+    let (x, in_rows, is, in_ids) = row_of_gone before after database less start ids refs watched l r there in
+    let id : id_in before r ≡ x.id = ap (λ o. unwrap_or o 0) (ap (id_of before) (sym is) ∙ id_from_row before database x l.held in_rows) in
     not_among ids (id_in before r) stays (subst (Contains ids) (sym id) in_ids))
 
-live_stays : (lists : List (List Watcher)) (es : List Entry) (before after : List Held) (stock less : Stock) (start : ℕ) (ids refs : List ℕ)
-    (watched : List Literal) → IsStocked lists before stock es →
-    IsLess before after stock less start ids refs watched → (r : ℕ) → is_live after r ≡ true → is_live before r ≡ true →
+live_stays : (lists : List (List Watcher)) (es : List Entry) (before after : List Held) (database less : Database) (start : ℕ) (ids refs : List ℕ)
+    (watched : List Literal) → HoldsEntries lists before database es →
+    IsLess before after database less start ids refs watched → (r : ℕ) → is_live after r ≡ true → is_live before r ≡ true →
     stays_by ids (id_in before r) ≡ true
-live_stays lists es before after stock less start ids refs watched s l r live was = from_not_among ids (id_in before r) (λ there.
-    let (x, in_rows, is, in_refs) = row_of_id before after stock less start ids refs watched l (id_in before r) there in
-    let id : id_of before x.clause ≡ Some x.id = id_from_row before stock x l.held in_rows in
+live_stays lists es before after database less start ids refs watched s l r live was = from_not_among ids (id_in before r) (λ there.
+    let (x, in_rows, is, in_refs) = row_of_id before after database less start ids refs watched l (id_in before r) there in
+    let id : id_of before x.clause ≡ Some x.id = id_from_row before database x l.held in_rows in
     let one : x.clause ≡ r = s.once x.clause r (id_is_live before x.clause x.id id) was (ap (λ o. unwrap_or o 0) id ∙ is) in
     false≢true (sym (ap is_some (l.killed.gone r (subst (Contains refs) one in_refs))) ∙ live))
 
 -- a row's clause is live after the kills just where its entry stays
-row_alike : (lists : List (List Watcher)) (es : List Entry) (before after : List Held) (stock less : Stock) (start : ℕ) (ids refs : List ℕ)
-    (watched : List Literal) → IsLess before after stock less start ids refs watched → IsStocked lists before stock es → (x : Row) (e : Entry) →
-    Contains stock.rows.items x → IsRowOf before x e → is_some (held_at after x.clause) ≡ stays_by ids e.id
-row_alike lists es before after stock less start ids refs watched l s x e there is =
-    let id : id_of before x.clause ≡ Some x.id = id_from_row before stock x l.held there in
+row_alike : (lists : List (List Watcher)) (es : List Entry) (before after : List Held) (database less : Database) (start : ℕ) (ids refs : List ℕ)
+    (watched : List Literal) → IsLess before after database less start ids refs watched → HoldsEntries lists before database es → (x : LoggedClause) (e : Entry) →
+    Contains database.rows.items x → IsRowOf before x e → is_some (held_at after x.clause) ≡ stays_by ids e.id
+row_alike lists es before after database less start ids refs watched l s x e there is =
+    let id : id_of before x.clause ≡ Some x.id = id_from_row before database x l.held there in
     let live : is_live before x.clause ≡ true = id_is_live before x.clause x.id id in
     let same : id_in before x.clause ≡ e.id = ap (λ o. unwrap_or o 0) id ∙ is.id_is in
     both_ways (is_some (held_at after x.clause)) (stays_by ids e.id)
     (λ after_live. ap (stays_by ids) (sym same) ∙
-    live_stays lists es before after stock less start ids refs watched s l x.clause after_live live)
-    (λ stay. ap is_some (stays_live before after stock less start ids refs watched l x.clause live (ap (stays_by ids) same ∙ stay)) ∙ live)
+    live_stays lists es before after database less start ids refs watched s l x.clause after_live live)
+    (λ stay. ap is_some (stays_live before after database less start ids refs watched l x.clause live (ap (stays_by ids) same ∙ stay)) ∙ live)
 
-pub stocked_less : (old new : WatchState) (before after : List Held) (stock less : Stock) (start : ℕ) (ids refs : List ℕ) (watched : List Literal)
-    (es : List Entry) → IsLess before after stock less start ids refs watched → HasSwept old new after → IsStocked old.lists before stock es →
-    IsStocked new.lists after less (without_ids ids es)
-stocked_less old new before after stock less start ids refs watched es l swept s = record {
+pub holds_less : (old new : WatchState) (before after : List Held) (database less : Database) (start : ℕ) (ids refs : List ℕ) (watched : List Literal)
+    (es : List Entry) → IsLess before after database less start ids refs watched → HasSwept old new after → HoldsEntries old.lists before database es →
+    HoldsEntries new.lists after less (without_ids ids es)
+holds_less old new before after database less start ids refs watched es l swept s = record {
   spelled = λ r is.
       let (e, found, same) = s.spelled r (was_live r is) in (
         e,
@@ -221,7 +221,7 @@ stocked_less old new before after stock less start ids refs watched es l swept s
   held = λ e there.
       let in_es = filter_cases (λ (x : Entry). stays_by ids x.id) es e there in
       let (r, h) = s.held e in_es.0 in
-      let kept = stays_live before after stock less start ids refs watched l r h.live (ap (stays_by ids) h.id_is ∙ in_es.1) in (
+      let kept = stays_live before after database less start ids refs watched l r h.live (ap (stays_by ids) h.id_is ∙ in_es.1) in (
         r,
         record {
           live = ap is_some kept ∙ h.live;
@@ -231,24 +231,24 @@ stocked_less old new before after stock less start ids refs watched es l swept s
       );
   once = λ q r is_q is_r alike. s.once q r (was_live q is_q) (was_live r is_r) (sym (id_same q is_q) ∙ alike ∙ id_same r is_r);
   attached = λ r is two. (swept.attached r).1 (s.attached r (was_live r is) (subst (λ c. 2 ≤ length c) (literals_same r is) two), is);
-  short = λ r is few. subst (λ rs. Contains rs r) (sym l.shorts) (filter_from (λ x. is_some (held_at after x)) stock.shorts.items r
+  short = λ r is few. subst (λ rs. Contains rs r) (sym l.shorts) (filter_from (λ x. is_some (held_at after x)) database.shorts.items r
       (s.short r (was_live r is) (subst (λ c. length c < 2) (literals_same r is) few)) is);
   listed = all_from (λ r. is_live after r ≡ true) less.shorts.items (λ r there. (short_cases r there).1);
   few = all_from (λ r. length (literals_at after r) < 2) less.shorts.items (λ r there.
       let c = short_cases r there in
-      subst (λ x. length x < 2) (sym (literals_same r c.1)) (All-contains (λ x. length (literals_at before x) < 2) stock.shorts.items r s.few c.0));
+      subst (λ x. length x < 2) (sym (literals_same r c.1)) (All-contains (λ x. length (literals_at before x) < 2) database.shorts.items r s.few c.0));
   rows = subst (λ fs. AreRowsOf after less.rows.items fs) (sym (marked_left ids es)) (subst (λ xs. AreRowsOf after xs (without_ids ids (marked es)))
       (sym l.rows)
-      (rows_permuted before after (filter (λ (x : Row). is_some (held_at after x.clause)) stock.rows.items) (without_ids ids (marked es))
-      (rows_filtered before (λ (x : Row). is_some (held_at after x.clause)) (λ (e : Entry). stays_by ids e.id) stock.rows.items (marked es) s.rows
-      (λ x e there is. row_alike old.lists es before after stock less start ids refs watched l s x e there is))
+      (rows_permuted before after (filter (λ (x : LoggedClause). is_some (held_at after x.clause)) database.rows.items) (without_ids ids (marked es))
+      (rows_filtered before (λ (x : LoggedClause). is_some (held_at after x.clause)) (λ (e : Entry). stays_by ids e.id) database.rows.items (marked es) s.rows
+      (λ x e there is. row_alike old.lists es before after database less start ids refs watched l s x e there is))
       (λ x there. subst (IsPermutation (literals_at before x.clause))
-      (sym (literals_same x.clause (filter_cases (λ (y : Row). is_some (held_at after y.clause)) stock.rows.items x there).1))
+      (sym (literals_same x.clause (filter_cases (λ (y : LoggedClause). is_some (held_at after y.clause)) database.rows.items x there).1))
       (IsPermutation-refl (literals_at before x.clause)))));
-  rows_live = subst (AreHeld after) (sym l.rows) (all_from (λ (x : Row). id_of after x.clause ≡ Some x.id)
-      (filter (λ (x : Row). is_some (held_at after x.clause)) stock.rows.items) (λ x there.
-      let c = filter_cases (λ (y : Row). is_some (held_at after y.clause)) stock.rows.items x there in
-      ap (option_map (λ (h : Held). h.id)) (still x.clause c.1) ∙ id_from_row before stock x l.held c.0));
+  rows_live = subst (AreHeld after) (sym l.rows) (all_from (λ (x : LoggedClause). id_of after x.clause ≡ Some x.id)
+      (filter (λ (x : LoggedClause). is_some (held_at after x.clause)) database.rows.items) (λ x there.
+      let c = filter_cases (λ (y : LoggedClause). is_some (held_at after y.clause)) database.rows.items x there in
+      ap (option_map (λ (h : Held). h.id)) (still x.clause c.1) ∙ id_from_row before database x l.held c.0));
 }
   where
     still : (r : ℕ) → is_live after r ≡ true → held_at after r ≡ held_at before r
@@ -264,20 +264,20 @@ stocked_less old new before after stock less start ids refs watched es l swept s
     literals_same r is = ap (λ o. unwrap_or (option_map (λ (x : Held). x.literals) o) []) (still r is)
 
     stays : (r : ℕ) → is_live after r ≡ true → stays_by ids (id_in before r) ≡ true
-    stays r is = live_stays old.lists es before after stock less start ids refs watched s l r is (was_live r is)
+    stays r is = live_stays old.lists es before after database less start ids refs watched s l r is (was_live r is)
 
-    short_cases : (r : ℕ) → Contains less.shorts.items r → Contains stock.shorts.items r × (is_live after r ≡ true)
-    short_cases r there = filter_cases (λ x. is_some (held_at after x)) stock.shorts.items r (subst (λ rs. Contains rs r) l.shorts there)
+    short_cases : (r : ℕ) → Contains less.shorts.items r → Contains database.shorts.items r × (is_live after r ≡ true)
+    short_cases r there = filter_cases (λ x. is_some (held_at after x)) database.shorts.items r (subst (λ rs. Contains rs r) l.shorts there)
 
 -- none of the first rows goes
-pub front_stays : (old : WatchState) (before after : List Held) (stock less : Stock) (start : ℕ) (ids refs : List ℕ) (watched : List Literal)
-    (es : List Entry) → IsLess before after stock less start ids refs watched → IsStocked old.lists before stock es →
+pub front_stays : (old : WatchState) (before after : List Held) (database less : Database) (start : ℕ) (ids refs : List ℕ) (watched : List Literal)
+    (es : List Entry) → IsLess before after database less start ids refs watched → HoldsEntries old.lists before database es →
     (take start (marked (without_ids ids es)) ≡ take start (marked es)) × (start ≤ length less.rows.items)
-front_stays old before after stock less start ids refs watched es l s =
-    let f = front_filtered before (λ (x : Row). is_some (held_at after x.clause)) (λ (e : Entry). stays_by ids e.id) stock.rows.items (marked es) start s.rows
-    (λ x e there is. row_alike old.lists es before after stock less start ids refs watched l s x e there is)
-    (λ x there. All-contains (λ (y : Row). is_some (held_at after y.clause) ≡ true) (take start stock.rows.items) x
-    (first_stay before after stock.rows.items start ids refs watched l.held l.ascends l.gone l.killed) there) in (
+front_stays old before after database less start ids refs watched es l s =
+    let f = front_filtered before (λ (x : LoggedClause). is_some (held_at after x.clause)) (λ (e : Entry). stays_by ids e.id) database.rows.items (marked es) start s.rows
+    (λ x e there is. row_alike old.lists es before after database less start ids refs watched l s x e there is)
+    (λ x there. All-contains (λ (y : LoggedClause). is_some (held_at after y.clause) ≡ true) (take start database.rows.items) x
+    (first_stay before after database.rows.items start ids refs watched l.held l.ascends l.gone l.killed) there) in (
       ap (take start) (marked_left ids es) ∙ f.0,
       subst (λ xs. start ≤ length xs) (sym l.rows) (f.1 l.gone.low),
     )
@@ -329,10 +329,10 @@ refs_apart hs i j a b ascends at_i at_j same = elim (cases_lt i j) as (λ _. i �
         (subst (λ (z : Held). (get_or hs m x).ref < z.ref) (get_or_from_slice_get hs n y x at_n)
         (ascends m n x before (get_within hs n y at_n)))
 
-pub moved : (lists : List (List Watcher)) (stock : Stock) (es : List Entry) (before after : List Held) (names : List (ℕ × ℕ)) →
-    IsStocked lists before stock es → AllPairs (λ (x y : Held). x.ref < y.ref) before → AllPairs (λ (x y : Held). x.ref < y.ref) after →
+pub moved : (lists : List (List Watcher)) (database : Database) (es : List Entry) (before after : List Held) (names : List (ℕ × ℕ)) →
+    HoldsEntries lists before database es → AllPairs (λ (x y : Held). x.ref < y.ref) before → AllPairs (λ (x y : Held). x.ref < y.ref) after →
     map meaning after ≡ map meaning before → IsRenaming before after names → IsMoved before after names
-moved lists stock es before after names s up_before up_after same ren = record {
+moved lists database es before after names s up_before up_after same ren = record {
   named = λ r is.
       let (t, at) = new_of r is in
       let m = meaning_id (held_at after t) (held_at before r) (ren.same r t at) in
@@ -401,8 +401,8 @@ attached_renamed names lists r (l, there) = (
   },
 )
 
-rows_renamed : (before after : List Held) (names : List (ℕ × ℕ)) (rows : List Row) (es : List Entry) → AreRowsOf before rows es →
-    ((x : Row) → Contains rows x → literals_at after (renamed_ref names x.clause) ≡ literals_at before x.clause) →
+rows_renamed : (before after : List Held) (names : List (ℕ × ℕ)) (rows : List LoggedClause) (es : List Entry) → AreRowsOf before rows es →
+    ((x : LoggedClause) → Contains rows x → literals_at after (renamed_ref names x.clause) ≡ literals_at before x.clause) →
     AreRowsOf after (map (renamed_row names) rows) es
 rows_renamed before after names [] [] r same = tt
 rows_renamed before after names [] (e ∷ es) r same = absurd r
@@ -416,10 +416,10 @@ rows_renamed before after names (x ∷ rows) (e ∷ es) r same = (
   rows_renamed before after names rows es r.1 (λ y there. same y (cons_contains x rows y there)),
 )
 
-pub stocked_moved : (lists : List (List Watcher)) (before after : List Held) (names : List (ℕ × ℕ)) (stock more : Stock) (es : List Entry) →
-    IsStocked lists before stock es → IsMoved before after names → more.rows.items ≡ map (renamed_row names) stock.rows.items →
-    more.shorts.items ≡ map (renamed_ref names) stock.shorts.items → IsStocked (renamed_lists names lists) after more es
-stocked_moved lists before after names stock more es s m rows shorts = record {
+pub holds_moved : (lists : List (List Watcher)) (before after : List Held) (names : List (ℕ × ℕ)) (database more : Database) (es : List Entry) →
+    HoldsEntries lists before database es → IsMoved before after names → more.rows.items ≡ map (renamed_row names) database.rows.items →
+    more.shorts.items ≡ map (renamed_ref names) database.shorts.items → HoldsEntries (renamed_lists names lists) after more es
+holds_moved lists before after names database more es s m rows shorts = record {
   spelled = λ x is.
       let (r, live, to) = m.source x is in
       let n = m.named r live in
@@ -445,56 +445,56 @@ stocked_moved lists before after names stock more es s m rows shorts = record {
       (s.attached r live (subst (λ c. 2 ≤ length c) (sym (ap (literals_at after) to) ∙ (m.named r live).2) two)));
   short = λ x is few.
       let (r, live, to) = m.source x is in
-      subst (λ xs. Contains xs x) (sym shorts) (subst (Contains (map (renamed_ref names) stock.shorts.items)) to
-      (map_contains (renamed_ref names) stock.shorts.items r
+      subst (λ xs. Contains xs x) (sym shorts) (subst (Contains (map (renamed_ref names) database.shorts.items)) to
+      (map_contains (renamed_ref names) database.shorts.items r
       (s.short r live (subst (λ c. length c < 2) (sym (ap (literals_at after) to) ∙ (m.named r live).2) few))));
   listed = all_from (λ r. is_live after r ≡ true) more.shorts.items (λ x there.
       let (r, live, to) = short_source x there in subst (λ y. is_live after y ≡ true) to (m.named r live.0).0);
   few = all_from (λ r. length (literals_at after r) < 2) more.shorts.items (λ x there.
       let (r, live, to) = short_source x there in
       subst (λ y. length (literals_at after y) < 2) to (subst (λ c. length c < 2) (sym (m.named r live.0).2) live.1));
-  rows = subst (λ xs. AreRowsAmong after xs es) (sym rows) (rows_renamed before after names stock.rows.items (marked es) s.rows
+  rows = subst (λ xs. AreRowsAmong after xs es) (sym rows) (rows_renamed before after names database.rows.items (marked es) s.rows
       (λ x there. (m.named x.clause (live_row x there)).2));
-  rows_live = subst (AreHeld after) (sym rows) (all_from (λ (x : Row). id_of after x.clause ≡ Some x.id) (map (renamed_row names) stock.rows.items)
+  rows_live = subst (AreHeld after) (sym rows) (all_from (λ (x : LoggedClause). id_of after x.clause ≡ Some x.id) (map (renamed_row names) database.rows.items)
       (λ x there.
-      let (y, in_rows, is) = map_cases (renamed_row names) stock.rows.items x there in
-      subst (λ (z : Row). id_of after z.clause ≡ Some z.id) is
-      ((m.named y.clause (live_row y in_rows)).1 ∙ id_from_row before stock y s.rows_live in_rows)));
+      let (y, in_rows, is) = map_cases (renamed_row names) database.rows.items x there in
+      subst (λ (z : LoggedClause). id_of after z.clause ≡ Some z.id) is
+      ((m.named y.clause (live_row y in_rows)).1 ∙ id_from_row before database y s.rows_live in_rows)));
 }
   where
     id_moved : (r x : ℕ) → is_live before r ≡ true → renamed_ref names r ≡ x → id_in after x ≡ id_in before r
     id_moved r x live to = ap (λ o. unwrap_or o 0) (sym (ap (id_of after) to) ∙ (m.named r live).1)
 
-    live_row : (x : Row) → Contains stock.rows.items x → is_live before x.clause ≡ true
-    live_row x there = id_is_live before x.clause x.id (id_from_row before stock x s.rows_live there)
+    live_row : (x : LoggedClause) → Contains database.rows.items x → is_live before x.clause ≡ true
+    live_row x there = id_is_live before x.clause x.id (id_from_row before database x s.rows_live there)
 
     short_source : (x : ℕ) → Contains more.shorts.items x →
         (r : ℕ) × ((is_live before r ≡ true) × (length (literals_at before r) < 2)) × (renamed_ref names r ≡ x)
     short_source x there =
-        let (r, in_shorts, is) = map_cases (renamed_ref names) stock.shorts.items x (subst (λ xs. Contains xs x) shorts there) in (
+        let (r, in_shorts, is) = map_cases (renamed_ref names) database.shorts.items x (subst (λ xs. Contains xs x) shorts there) in (
           r,
           (
-            All-contains (λ y. is_live before y ≡ true) stock.shorts.items r s.listed in_shorts,
-            All-contains (λ y. length (literals_at before y) < 2) stock.shorts.items r s.few in_shorts,
+            All-contains (λ y. is_live before y ≡ true) database.shorts.items r s.listed in_shorts,
+            All-contains (λ y. length (literals_at before y) < 2) database.shorts.items r s.few in_shorts,
           ),
           is,
         )
 
 -- ---- what the calls do
 
-front_low : (f : Row → Bool) (rows : List Row) (n : ℕ) → ((x : Row) → Contains (take n rows) x → f x ≡ true) → n ≤ length rows → n ≤ length (filter f rows)
+front_low : (f : LoggedClause → Bool) (rows : List LoggedClause) (n : ℕ) → ((x : LoggedClause) → Contains (take n rows) x → f x ≡ true) → n ≤ length rows → n ≤ length (filter f rows)
 front_low f rows zero pass low = omega arith
 front_low f [] (suc n) pass low = low
 front_low f (x ∷ rows) (suc n) pass low =
     subst (λ b. suc n ≤ length (cond b (x ∷ filter f rows) (filter f rows))) (sym (pass x (contains_first x (take n rows))))
     (let k = front_low f rows n (λ y there. pass y (cons_contains x (take n rows) y there)) (omega (arith, low)) in omega (arith, k))
 
-less_low : (before after : List Held) (stock less : Stock) (start : ℕ) (ids refs : List ℕ) (watched : List Literal) →
-    IsLess before after stock less start ids refs watched → start ≤ length less.rows.items
-less_low before after stock less start ids refs watched l =
-    subst (λ xs. start ≤ length xs) (sym l.rows) (front_low (λ (x : Row). is_some (held_at after x.clause)) stock.rows.items start
-    (λ x there. All-contains (λ (y : Row). is_some (held_at after y.clause) ≡ true) (take start stock.rows.items) x
-    (first_stay before after stock.rows.items start ids refs watched l.held l.ascends l.gone l.killed) there) l.gone.low)
+less_low : (before after : List Held) (database less : Database) (start : ℕ) (ids refs : List ℕ) (watched : List Literal) →
+    IsLess before after database less start ids refs watched → start ≤ length less.rows.items
+less_low before after database less start ids refs watched l =
+    subst (λ xs. start ≤ length xs) (sym l.rows) (front_low (λ (x : LoggedClause). is_some (held_at after x.clause)) database.rows.items start
+    (λ x there. All-contains (λ (y : LoggedClause). is_some (held_at after y.clause) ≡ true) (take start database.rows.items) x
+    (first_stay before after database.rows.items start ids refs watched l.held l.ascends l.gone l.killed) there) l.gone.low)
 
 -- fewer clauses where each of them was live
 pub fewer : (xs ys : List Held) → AllPairs (λ (x y : Held). x.ref < y.ref) xs → AllPairs (λ (x y : Held). x.ref < y.ref) ys →
@@ -547,48 +547,48 @@ filter_front f (x ∷ xs) (suc k) r pass at =
     ap (λ b. slice_get (cond b (x ∷ filter f xs) (filter f xs)) (suc k)) (pass 0 x (omega arith) refl) ∙
     filter_front f xs k r (λ i q low e. pass (suc i) q (omega (arith, low)) e) at
 
-staying_live : (before after : List Held) (stock less : Stock) (start : ℕ) (ids refs : List ℕ) (watched : List Literal) (places : List Place) →
-    IsLess before after stock less start ids refs watched → AreStaying before stock.shorts.items places ids → (k r : ℕ) → k < length places →
-    slice_get stock.shorts.items k ≡ Some r → held_at after r ≡ held_at before r
-staying_live before after stock less start ids refs watched places l a k r within at =
+staying_live : (before after : List Held) (database less : Database) (start : ℕ) (ids refs : List ℕ) (watched : List Literal) (places : List Place) →
+    IsLess before after database less start ids refs watched → AreStaying before database.shorts.items places ids → (k r : ℕ) → k < length places →
+    slice_get database.shorts.items k ≡ Some r → held_at after r ≡ held_at before r
+staying_live before after database less start ids refs watched places l a k r within at =
     let s = a.each k r within at in
-    stays_live before after stock less start ids refs watched l r s.0 (ap not s.1)
+    stays_live before after database less start ids refs watched l r s.0 (ap not s.1)
 
 -- what stands for good is not among what goes
-pub staying_out : (clauses : List Held) (stock : Stock) (places : List Place) (start : ℕ) (ids refs : List ℕ) (watched : List Literal) →
-    AreHeld clauses stock.rows.items → GoBy clauses stock.rows.items start ids refs watched → AreStaying clauses stock.shorts.items places ids →
-    AreOut stock.shorts.items (length places) refs
-staying_out clauses stock places start ids refs watched held gone a = record {
+pub staying_out : (clauses : List Held) (database : Database) (places : List Place) (start : ℕ) (ids refs : List ℕ) (watched : List Literal) →
+    AreHeld clauses database.rows.items → GoBy clauses database.rows.items start ids refs watched → AreStaying clauses database.shorts.items places ids →
+    AreOut database.shorts.items (length places) refs
+staying_out clauses database places start ids refs watched held gone a = record {
   low = a.low;
-  out = all_from (λ r. ¬ Contains refs r) (take (length places) stock.shorts.items) (λ r there in_refs.
-      let (k, at) = get_from_Contains (take (length places) stock.shorts.items) r there in
-      let (within, in_all) = get_take (length places) stock.shorts.items k r at in
+  out = all_from (λ r. ¬ Contains refs r) (take (length places) database.shorts.items) (λ r there in_refs.
+      let (k, at) = get_from_Contains (take (length places) database.shorts.items) r there in
+      let (within, in_all) = get_take (length places) database.shorts.items k r at in
       let s = a.each k r within in_all in
-      let (x, in_gone, is) = map_cases (λ (y : Row). y.clause) (filter gone.test stock.rows.items) r
+      let (x, in_gone, is) = map_cases (λ (y : LoggedClause). y.clause) (filter gone.test database.rows.items) r
       (subst (λ rs. Contains rs r) gone.noted.clauses_are in_refs) in
-      let in_rows = (filter_cases gone.test stock.rows.items x in_gone).0 in
-      let in_ids = subst (λ xs. Contains xs x.id) (sym gone.noted.ids_are) (map_contains (λ (y : Row). y.id) (filter gone.test stock.rows.items) x in_gone) in
-      let id : id_in clauses r ≡ x.id = ap (λ o. unwrap_or o 0) (ap (id_of clauses) (sym is) ∙ id_from_row clauses stock x held in_rows) in
+      let in_rows = (filter_cases gone.test database.rows.items x in_gone).0 in
+      let in_ids = subst (λ xs. Contains xs x.id) (sym gone.noted.ids_are) (map_contains (λ (y : LoggedClause). y.id) (filter gone.test database.rows.items) x in_gone) in
+      let id : id_in clauses r ≡ x.id = ap (λ o. unwrap_or o 0) (ap (id_of clauses) (sym is) ∙ id_from_row clauses database x held in_rows) in
       true≢false (sym (any_has ids (id_in clauses r) (subst (Contains ids) (sym id) in_ids)) ∙ s.1));
 }
 
-ground_less : (old new : WatchState) (before after : List Held) (stock less : Stock) (start : ℕ) (ids refs : List ℕ) (watched : List Literal)
-    (es : List Entry) → IsLess before after stock less start ids refs watched → AreStaying before stock.shorts.items old.trail.places ids →
-    new.trail ≡ old.trail → IsGround es stock.shorts.items before old.trail.places → IsGround (without_ids ids es) less.shorts.items after new.trail.places
-ground_less old new before after stock less start ids refs watched es l a trail g =
+ground_less : (old new : WatchState) (before after : List Held) (database less : Database) (start : ℕ) (ids refs : List ℕ) (watched : List Literal)
+    (es : List Entry) → IsLess before after database less start ids refs watched → AreStaying before database.shorts.items old.trail.places ids →
+    new.trail ≡ old.trail → IsGround es database.shorts.items before old.trail.places → IsGround (without_ids ids es) less.shorts.items after new.trail.places
+ground_less old new before after database less start ids refs watched es l a trail g =
     subst (IsGround (without_ids ids es) less.shorts.items after) (sym (ap (λ (t : TrailState). t.places) trail)) (record {
       each = λ k p at.
           let u = g.each k p at in
           let within = get_within old.trail.places k p at in
-          let kept = staying_live before after stock less start ids refs watched old.trail.places l a k u.ref within u.at in
+          let kept = staying_live before after database less start ids refs watched old.trail.places l a k u.ref within u.at in
           let s = a.each k u.ref within u.at in
           let id : u.entry.id ≡ id_in before u.ref = found_id es (id_in before u.ref) u.entry u.found in
           record {
             ref = u.ref;
             entry = u.entry;
-            at = ap (λ xs. slice_get xs k) l.shorts ∙ filter_front (λ r. is_some (held_at after r)) stock.shorts.items k u.ref (λ i q low e.
+            at = ap (λ xs. slice_get xs k) l.shorts ∙ filter_front (λ r. is_some (held_at after r)) database.shorts.items k u.ref (λ i q low e.
                 let below : i < length old.trail.places = omega (arith, low, within) in
-                ap is_some (staying_live before after stock less start ids refs watched old.trail.places l a i q below e) ∙ (a.each i q below e).0) u.at;
+                ap is_some (staying_live before after database less start ids refs watched old.trail.places l a i q below e) ∙ (a.each i q below e).0) u.at;
             reason = u.reason;
             sole = ap (λ o. unwrap_or (option_map (λ (x : Held). x.literals) o) []) kept ∙ u.sole;
             found = ap (entry_of (without_ids ids es)) (ap (λ o. unwrap_or (option_map (λ (x : Held). x.id) o) 0) kept) ∙
@@ -597,19 +597,19 @@ ground_less old new before after stock less start ids refs watched es l a trail 
           };
     })
 
-ground_moved : (lists : List (List Watcher)) (before after : List Held) (names : List (ℕ × ℕ)) (stock more : Stock) (es : List Entry) (places : List Place) →
-    IsStocked lists before stock es → IsMoved before after names → more.shorts.items ≡ map (renamed_ref names) stock.shorts.items →
-    IsGround es stock.shorts.items before places → IsGround es more.shorts.items after (map (renamed_place names) places)
-ground_moved lists before after names stock more es places s m shorts g = record {
+ground_moved : (lists : List (List Watcher)) (before after : List Held) (names : List (ℕ × ℕ)) (database more : Database) (es : List Entry) (places : List Place) →
+    HoldsEntries lists before database es → IsMoved before after names → more.shorts.items ≡ map (renamed_ref names) database.shorts.items →
+    IsGround es database.shorts.items before places → IsGround es more.shorts.items after (map (renamed_place names) places)
+ground_moved lists before after names database more es places s m shorts g = record {
   each = λ k q e.
       let (p, at, is) = get_map_cases (renamed_place names) places k q e in
       let u = g.each k p at in
-      let live = All-contains (λ r. is_live before r ≡ true) stock.shorts.items u.ref s.listed (Contains_from_get stock.shorts.items k u.ref u.at) in
+      let live = All-contains (λ r. is_live before r ≡ true) database.shorts.items u.ref s.listed (Contains_from_get database.shorts.items k u.ref u.at) in
       let n = m.named u.ref live in
       record {
         ref = renamed_ref names u.ref;
         entry = u.entry;
-        at = subst (λ xs. slice_get xs k ≡ Some (renamed_ref names u.ref)) (sym shorts) (get_map (renamed_ref names) stock.shorts.items k u.ref u.at);
+        at = subst (λ xs. slice_get xs k ≡ Some (renamed_ref names u.ref)) (sym shorts) (get_map (renamed_ref names) database.shorts.items k u.ref u.at);
         reason = ap (λ (x : Place). x.reason) (sym is) ∙ ap (option_map (λ r. unwrap_or (new_name names r) r)) u.reason;
         sole = n.2 ∙ u.sole ∙ ap (λ (x : Place). x.literal ∷ []) is;
         found = ap (entry_of es) (ap (λ o. unwrap_or o 0) n.1) ∙ u.found;
@@ -617,44 +617,44 @@ ground_moved lists before after names stock more es places s m shorts g = record
       };
 }
 
-pub has_dropped : (old new : WatchState) (before after : List Held) (stock less : Stock) (start : ℕ) (ids refs : List ℕ) (watched : List Literal) →
-    IsLess before after stock less start ids refs watched → AreStaying before stock.shorts.items old.trail.places ids → HasSwept old new after →
-    HasDropped old new before after stock less start ids
-has_dropped old new before after stock less start ids refs watched l a swept = record {
+pub has_dropped : (old new : WatchState) (before after : List Held) (database less : Database) (start : ℕ) (ids refs : List ℕ) (watched : List Literal) →
+    IsLess before after database less start ids refs watched → AreStaying before database.shorts.items old.trail.places ids → HasSwept old new after →
+    HasDropped old new before after database less start ids
+has_dropped old new before after database less start ids refs watched l a swept = record {
   serves = swept.serves;
   vars = ap (λ (t : TrailState). t.vars) swept.trail;
-  ground = λ es s g. ground_less old new before after stock less start ids refs watched es l a swept.trail g;
+  ground = λ es s g. ground_less old new before after database less start ids refs watched es l a swept.trail g;
   levels = swept.levels;
-  stocked = λ es s. stocked_less old new before after stock less start ids refs watched es l swept s;
-  front = λ es s. (front_stays old before after stock less start ids refs watched es l s).0;
-  low = less_low before after stock less start ids refs watched l;
+  holds_entries = λ es s. holds_less old new before after database less start ids refs watched es l swept s;
+  front = λ es s. (front_stays old before after database less start ids refs watched es l s).0;
+  low = less_low before after database less start ids refs watched l;
   live = λ r is. sym (ap is_some (killed_still before after refs r l.killed is)) ∙ is;
 }
 
-pub has_compacted : (old new : WatchState) (before after : List Held) (names : List (ℕ × ℕ)) (stock more : Stock) →
+pub has_compacted : (old new : WatchState) (before after : List Held) (names : List (ℕ × ℕ)) (database more : Database) →
     AllPairs (λ (x y : Held). x.ref < y.ref) before → AllPairs (λ (x y : Held). x.ref < y.ref) after → Serves new after →
     map meaning after ≡ map meaning before → IsRenaming before after names → new ≡ renamed_watch names old →
-    more.rows.items ≡ map (renamed_row names) stock.rows.items → more.shorts.items ≡ map (renamed_ref names) stock.shorts.items →
-    HasCompacted old new before after stock more
-has_compacted old new before after names stock more up_before up_after serves same ren is rows shorts = record {
+    more.rows.items ≡ map (renamed_row names) database.rows.items → more.shorts.items ≡ map (renamed_ref names) database.shorts.items →
+    HasCompacted old new before after database more
+has_compacted old new before after names database more up_before up_after serves same ren is rows shorts = record {
   serves = serves;
   vars = ap (λ (w : WatchState). w.trail.vars) is;
   ground = λ es s g. subst (IsGround es more.shorts.items after) (sym (ap (λ (w : WatchState). w.trail.places) is))
-      (ground_moved old.lists before after names stock more es old.trail.places s (moved old.lists stock es before after names s up_before up_after same ren)
+      (ground_moved old.lists before after names database more es old.trail.places s (moved old.lists database es before after names s up_before up_after same ren)
       shorts g);
   levels = ap (λ (w : WatchState). w.levels) is;
-  stocked = λ es s. subst (λ ls. IsStocked ls after more es) (sym (ap (λ (w : WatchState). w.lists) is))
-      (stocked_moved old.lists before after names stock more es s (moved old.lists stock es before after names s up_before up_after same ren)
+  holds_entries = λ es s. subst (λ ls. HoldsEntries ls after more es) (sym (ap (λ (w : WatchState). w.lists) is))
+      (holds_moved old.lists before after names database more es s (moved old.lists database es before after names s up_before up_after same ren)
       rows shorts);
 }
 
-pub not_compacted : (w : WatchState) (clauses : List Held) (stock : Stock) → Serves w clauses → HasCompacted w w clauses clauses stock stock
-not_compacted w clauses stock serves = record {
+pub not_compacted : (w : WatchState) (clauses : List Held) (database : Database) → Serves w clauses → HasCompacted w w clauses clauses database database
+not_compacted w clauses database serves = record {
   serves = serves;
   vars = refl;
   ground = λ es s g. g;
   levels = refl;
-  stocked = λ es s. s;
+  holds_entries = λ es s. s;
 }
 
 -- ---- words

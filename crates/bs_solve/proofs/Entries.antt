@@ -11,12 +11,12 @@ use Rattle.bs_log.specs.declared.origin.Origin.TheVariants.{Axiom, Learnt, Block
 use Rattle.bs_log.specs.History.{Entry}
 use Rattle.bs_log.specs.Refusal.{entry_of, is_lemma_or_block}
 use Rattle.bs_arena.specs.Arena.{Held, held_at, literals_at}
-use Rattle.bs_solve_reduction.specs.declared.row.Row.{Row}
+use Rattle.bs_solve_reduction.specs.declared.row.LoggedClause.{LoggedClause}
 use Rattle.bs_solve_reduction.specs.Rows.{IsRowOf, AreRowsOf, AreRowsAmong}
 use Rattle.bs_watch.proofs.Gets.{none_is_not_some}
 use Rattle.bs_solve_analysis.proofs.Clauses.{nothing_in, contains_first, cons_contains, contains_cases}
-use Rattle.bs_solve_recording.specs.Book.{Book, standing}
-use Rattle.bs_solve.specs.Stock.{entries, rows_for}
+use Rattle.bs_solve_recording.specs.ProofLog.{ProofLog, standing}
+use Rattle.bs_solve.specs.Database.{entries, rows_for}
 
 -- the id of a live clause
 abbrev pub id_of : List Held → ℕ → Option ℕ
@@ -79,8 +79,8 @@ id_is_live clauses r id is = sym (live_id clauses r) ∙ ap is_some is
 
 -- ---- rows
 
-pub rows_permuted : (old new : List Held) (rows : List Row) (es : List Entry) → AreRowsOf old rows es →
-    ((row : Row) → Contains rows row → IsPermutation (literals_at old row.clause) (literals_at new row.clause)) → AreRowsOf new rows es
+pub rows_permuted : (old new : List Held) (rows : List LoggedClause) (es : List Entry) → AreRowsOf old rows es →
+    ((row : LoggedClause) → Contains rows row → IsPermutation (literals_at old row.clause) (literals_at new row.clause)) → AreRowsOf new rows es
 rows_permuted old new [] [] r same = tt
 rows_permuted old new [] (e ∷ es) r same = absurd r
 rows_permuted old new (row ∷ rows) [] r same = absurd r
@@ -93,7 +93,7 @@ rows_permuted old new (row ∷ rows) (e ∷ es) r same = (
   rows_permuted old new rows es r.1 (λ x there. same x (cons_contains row rows x there)),
 )
 
-pub rows_last : (clauses : List Held) (rows : List Row) (es : List Entry) (row : Row) (e : Entry) → AreRowsOf clauses rows es → IsRowOf clauses row e →
+pub rows_last : (clauses : List Held) (rows : List LoggedClause) (es : List Entry) (row : LoggedClause) (e : Entry) → AreRowsOf clauses rows es → IsRowOf clauses row e →
     AreRowsOf clauses (rows ++ row ∷ []) (es ++ e ∷ [])
 rows_last clauses [] [] row e r one = (one, tt)
 rows_last clauses [] (x ∷ es) row e r one = absurd r
@@ -104,7 +104,7 @@ abbrev pub with_origin : Entry → Origin → Entry
 with_origin e o = record { id = e.id; origin = o; literals = e.literals }
 
 -- one more entry, and its row if it has one
-pub rows_among : (clauses : List Held) (rows : List Row) (es : List Entry) (e : Entry) (r : ℕ) → AreRowsAmong clauses rows es →
+pub rows_among : (clauses : List Held) (rows : List LoggedClause) (es : List Entry) (e : Entry) (r : ℕ) → AreRowsAmong clauses rows es →
     IsPermutation e.literals (literals_at clauses r) → AreRowsAmong clauses (rows ++ rows_for e.id r e.origin) (es ++ e ∷ [])
 rows_among clauses rows es e r all same = by e.origin
   where
@@ -125,5 +125,5 @@ rows_among clauses rows es e r all same = by e.origin
         (subst (AreRowsOf clauses rows) (sym (filter_last is_lemma_or_block es (with_origin e Retired) ∙ append-nil (filter is_lemma_or_block es))) all)
 
 -- the clauses that stand, with one more
-pub stands_grown : (book new : Book) (e : Entry) → entries new ≡ entries book ++ e ∷ [] → standing new ≡ standing book ++ e.literals ∷ []
-stands_grown book new e grown = ap clauses_in grown ∙ map-append (λ (x : Entry). x.literals) (entries book) (e ∷ [])
+pub stands_grown : (proof new : ProofLog) (e : Entry) → entries new ≡ entries proof ++ e ∷ [] → standing new ≡ standing proof ++ e.literals ∷ []
+stands_grown proof new e grown = ap clauses_in grown ∙ map-append (λ (x : Entry). x.literals) (entries proof) (e ∷ [])

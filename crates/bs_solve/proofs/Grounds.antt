@@ -5,21 +5,21 @@ use Rattle.std.proofs.lemmas.Bool.{cases_lt, false≢true}
 use Rattle.std.proofs.lemmas.List.Elements.{All-contains}
 use Rattle.std.proofs.lemmas.List.Sorted.{Contains-permutation, length_permutation}
 use Rattle.bs_clause.specs.Literal.{Literal, Clause, negation}
-use Rattle.bs_log.specs.History.{Entry, step_of, guard_of}
+use Rattle.bs_log.specs.History.{Entry, step_of, activation_of}
 use Rattle.bs_log.specs.Refusal.{entry_of}
 use Rattle.bs_arena.specs.Arena.{Held, held_at, literals_at, KeepsOthers}
 use Rattle.bs_watch.specs.declared.lists.Watcher.{Watcher}
-use Rattle.bs_watch.specs.Trail.{IsTrueOn, IsFalseOn, IsOpenOn, Forces}
+use Rattle.bs_watch.specs.Trail.{IsTrueOn, IsFalseOn, IsOpenOn, Implies}
 use Rattle.bs_watch.specs.Places.{Place, AreApart, literals_of}
 use Rattle.bs_watch.specs.Scene.{AreShuffled}
 use Rattle.bs_solve_analysis.specs.Reasons.{IsReasoned, IsSpared}
-use Rattle.bs_solve_recording.specs.Book.{Book}
+use Rattle.bs_solve_recording.specs.ProofLog.{ProofLog}
 use Rattle.bs_watch.proofs.Gets.{some_at, same_some, get_take, get_map_cases, get_from_Contains, Contains_from_get, get_within}
 use Rattle.bs_watch.proofs.Literals.{negation-negation}
 use Rattle.bs_solve_analysis.proofs.Clauses.{all_from, nothing_in, contains_first, contains_cases}
 use Rattle.bs_solve_recording.proofs.Entries.{found_still, found_stands}
-use Rattle.bs_solve.specs.declared.stock.Stock.{Stock}
-use Rattle.bs_solve.specs.Stock.{entries, is_live, id_in, IsStocked}
+use Rattle.bs_solve.specs.declared.database.Database.{Database}
+use Rattle.bs_solve.specs.Database.{entries, is_live, id_in, HoldsEntries}
 use Rattle.bs_solve.specs.Ground.{IsUnitAt, IsGround}
 use Rattle.bs_solve.proofs.Seens.{id_shuffled}
 use Rattle.bs_solve.proofs.Plains.{IsPlain, retired_live}
@@ -53,10 +53,10 @@ ground_low es shorts clauses places g = elim (cases_lt 0 (length places)) [
   | inr none ↦ omega (arith, none)
 ]
 
-pub unit_is_live : (lists : List (List Watcher)) (clauses : List Held) (stock : Stock) (es : List Entry) (k : ℕ) (p : Place) →
-    IsStocked lists clauses stock es → (u : IsUnitAt es stock.shorts.items clauses k p) → is_live clauses u.ref ≡ true
-unit_is_live lists clauses stock es k p s u =
-    All-contains (λ r. is_live clauses r ≡ true) stock.shorts.items u.ref s.listed (Contains_from_get stock.shorts.items k u.ref u.at)
+pub unit_is_live : (lists : List (List Watcher)) (clauses : List Held) (database : Database) (es : List Entry) (k : ℕ) (p : Place) →
+    HoldsEntries lists clauses database es → (u : IsUnitAt es database.shorts.items clauses k p) → is_live clauses u.ref ≡ true
+unit_is_live lists clauses database es k p s u =
+    All-contains (λ r. is_live clauses r ≡ true) database.shorts.items u.ref s.listed (Contains_from_get database.shorts.items k u.ref u.at)
 
 pub ground_shuffled : (es : List Entry) (shorts : List ℕ) (old new : List Held) (places : List Place) → AreShuffled old new →
     IsGround es shorts old places → IsGround es shorts new places
@@ -75,15 +75,15 @@ ground_shuffled es shorts old new places x g = record {
 }
 
 -- one more clause has come
-pub ground_added : (lists : List (List Watcher)) (old new : List Held) (stock : Stock) (more : List ℕ) (es : List Entry) (e : Entry) (q : ℕ)
+pub ground_added : (lists : List (List Watcher)) (old new : List Held) (database : Database) (more : List ℕ) (es : List Entry) (e : Entry) (q : ℕ)
     (places : List Place) →
-    IsStocked lists old stock es → KeepsOthers old new q → held_at old q ≡ None →
-    ((k r : ℕ) → k < length places → slice_get stock.shorts.items k ≡ Some r → slice_get more k ≡ Some r) →
-    IsGround es stock.shorts.items old places → IsGround (es ++ e ∷ []) more new places
-ground_added lists old new stock more es e q places s others fresh front g = record {
+    HoldsEntries lists old database es → KeepsOthers old new q → held_at old q ≡ None →
+    ((k r : ℕ) → k < length places → slice_get database.shorts.items k ≡ Some r → slice_get more k ≡ Some r) →
+    IsGround es database.shorts.items old places → IsGround (es ++ e ∷ []) more new places
+ground_added lists old new database more es e q places s others fresh front g = record {
   each = λ k p at.
       let u = g.each k p at in
-      let live = unit_is_live lists old stock es k p s u in
+      let live = unit_is_live lists old database es k p s u in
       let other : u.ref ≢ q = λ is. false≢true (ap is_some (sym fresh ∙ ap (held_at old) (sym is)) ∙ live) in
       let kept : held_at new u.ref ≡ held_at old u.ref = others.kept u.ref other in
       record {
@@ -100,46 +100,46 @@ ground_added lists old new stock more es e q places s others fresh front g = rec
 
 -- ---- the literals that stand
 
--- the negation of a guard of a step that has ended
-pub ground_literal : (book : Book) (lists : List (List Watcher)) (clauses : List Held) (stock : Stock) (places : List Place) (k : ℕ) (p : Place) →
-    IsStocked lists clauses stock (entries book) → IsGround (entries book) stock.shorts.items clauses places → slice_get places k ≡ Some p →
-    (j : ℕ) × (1 ≤ j) × (j < step_of book.history) × (p.literal ≡ negation (guard_of book.problem j))
-ground_literal book lists clauses stock places k p s g at =
+-- the negation of an activation literal of a step that has ended
+pub ground_literal : (proof : ProofLog) (lists : List (List Watcher)) (clauses : List Held) (database : Database) (places : List Place) (k : ℕ) (p : Place) →
+    HoldsEntries lists clauses database (entries proof) → IsGround (entries proof) database.shorts.items clauses places → slice_get places k ≡ Some p →
+    (j : ℕ) × (1 ≤ j) × (j < step_of proof.history) × (p.literal ≡ negation (activation_of proof.problem j))
+ground_literal proof lists clauses database places k p s g at =
     let u = g.each k p at in
-    let live = unit_is_live lists clauses stock (entries book) k p s u in
+    let live = unit_is_live lists clauses database (entries proof) k p s u in
     let (e, found, same) = s.spelled u.ref live in
     let one : e ≡ u.entry = same_some e u.entry (sym found ∙ u.found) in
-    let (j, low, high, is) = retired_live book.problem book.history u.entry
-    (found_stands (entries book) (id_in clauses u.ref) u.entry u.found) u.retired in
-    let same_one : IsPermutation (negation (guard_of book.problem j) ∷ []) (p.literal ∷ []) =
+    let (j, low, high, is) = retired_live proof.problem proof.history u.entry
+    (found_stands (entries proof) (id_in clauses u.ref) u.entry u.found) u.retired in
+    let same_one : IsPermutation (negation (activation_of proof.problem j) ∷ []) (p.literal ∷ []) =
     subst (λ c. IsPermutation c (p.literal ∷ [])) (ap (λ (x : Entry). x.literals) one ∙ is) (subst (IsPermutation e.literals) u.sole same) in
-    let h = sole_permuted (negation (guard_of book.problem j)) (p.literal ∷ []) same_one in
-    (j, low, high, first_of p.literal (negation (guard_of book.problem j)) h)
+    let h = sole_permuted (negation (activation_of proof.problem j)) (p.literal ∷ []) same_one in
+    (j, low, high, first_of p.literal (negation (activation_of proof.problem j)) h)
   where
     first_of : (a b : Literal) → (a ∷ []) ≡ (b ∷ []) → a ≡ b
     first_of a b same = same_some a b (ap (λ (xs : Clause). slice_get xs 0) same)
 
--- a literal that is false there is a guard
-pub lost_there : (book : Book) (lists : List (List Watcher)) (clauses : List Held) (stock : Stock) (places : List Place) (l : Literal) →
-    IsStocked lists clauses stock (entries book) → IsGround (entries book) stock.shorts.items clauses places → IsFalseOn (literals_of places) l →
-    (l.positive ≡ true) × (book.problem.vars < l.variable)
-lost_there book lists clauses stock places l s g lost =
+-- a literal that is false there is an activation literal
+pub lost_there : (proof : ProofLog) (lists : List (List Watcher)) (clauses : List Held) (database : Database) (places : List Place) (l : Literal) →
+    HoldsEntries lists clauses database (entries proof) → IsGround (entries proof) database.shorts.items clauses places → IsFalseOn (literals_of places) l →
+    (l.positive ≡ true) × (proof.problem.vars < l.variable)
+lost_there proof lists clauses database places l s g lost =
     let (k, found) = get_from_Contains (literals_of places) (negation l) lost in
     let (p, at, is) = get_map_cases (λ (x : Place). x.literal) places k (negation l) found in
-    let (j, low, high, guard) = ground_literal book lists clauses stock places k p s g at in
-    let l_is : l ≡ guard_of book.problem j =
-    sym (negation-negation l) ∙ ap negation (sym is ∙ guard) ∙ negation-negation (guard_of book.problem j) in (
+    let (j, low, high, activation) = ground_literal proof lists clauses database places k p s g at in
+    let l_is : l ≡ activation_of proof.problem j =
+    sym (negation-negation l) ∙ ap negation (sym is ∙ activation) ∙ negation-negation (activation_of proof.problem j) in (
       ap (λ (x : Literal). x.positive) l_is,
       (let v = ap (λ (x : Literal). x.variable) l_is in omega (arith, v, low)),
     )
 
 -- so none of a plain clause is
-pub plain_spared : (book : Book) (lists : List (List Watcher)) (clauses : List Held) (stock : Stock) (places : List Place) (c : Clause) →
-    IsStocked lists clauses stock (entries book) → IsGround (entries book) stock.shorts.items clauses places →
-    All (IsPlain book.problem.vars) c → IsSpared places c
-plain_spared book lists clauses stock places c s g plain = all_from (λ l. ¬ IsFalseOn (literals_of places) l) c (λ l there lost.
-    let (on, high) = lost_there book lists clauses stock places l s g lost in
-    let low = All-contains (IsPlain book.problem.vars) c l plain there on in
+pub plain_spared : (proof : ProofLog) (lists : List (List Watcher)) (clauses : List Held) (database : Database) (places : List Place) (c : Clause) →
+    HoldsEntries lists clauses database (entries proof) → IsGround (entries proof) database.shorts.items clauses places →
+    All (IsPlain proof.problem.vars) c → IsSpared places c
+plain_spared proof lists clauses database places c s g plain = all_from (λ l. ¬ IsFalseOn (literals_of places) l) c (λ l there lost.
+    let (on, high) = lost_there proof lists clauses database places l s g lost in
+    let low = All-contains (IsPlain proof.problem.vars) c l plain there on in
     omega (arith, high, low))
 
 -- ---- places that are apart
@@ -157,24 +157,24 @@ open_in_front places k p a at = (gone p.literal refl, gone (negation p.literal) 
         let one = a.apart i k q p in_all at (ap (λ (y : Literal). y.variable) is ∙ same) in
         omega (arith, before, one)
 
--- a unit forces its literal
-pub unit_forces : (clauses : List Held) (trail : List Literal) (r : ℕ) (l : Literal) → literals_at clauses r ≡ l ∷ [] → IsOpenOn trail l →
-    Forces trail (literals_at clauses r) l
-unit_forces clauses trail r l is open_l = record {
+-- a unit implies its literal
+pub unit_implies : (clauses : List Held) (trail : List Literal) (r : ℕ) (l : Literal) → literals_at clauses r ≡ l ∷ [] → IsOpenOn trail l →
+    Implies trail (literals_at clauses r) l
+unit_implies clauses trail r l is open_l = record {
   stands = subst (λ c. Contains c l) (sym is) (contains_first l []);
   unassigned = open_l;
   others = subst (All (λ m. (m ≡ l) ⊎ IsFalseOn trail m)) (sym is) (all_from (λ m. (m ≡ l) ⊎ IsFalseOn trail m) (l ∷ []) (λ m there.
       elim (contains_cases l [] m there) [ inl same ↦ inl (sym same) | inr none ↦ absurd (nothing_in m none) ]));
 }
 
-pub ground_reasoned : (lists : List (List Watcher)) (clauses : List Held) (stock : Stock) (es : List Entry) (places : List Place) →
-    IsStocked lists clauses stock es → AreApart places → IsGround es stock.shorts.items clauses places → IsReasoned clauses places
-ground_reasoned lists clauses stock es places s a g = record {
+pub ground_reasoned : (lists : List (List Watcher)) (clauses : List Held) (database : Database) (es : List Entry) (places : List Place) →
+    HoldsEntries lists clauses database es → AreApart places → IsGround es database.shorts.items clauses places → IsReasoned clauses places
+ground_reasoned lists clauses database es places s a g = record {
   reasoned = λ k p r e is.
       let u = g.each k p e in
       let one : u.ref ≡ r = same_some u.ref r (sym u.reason ∙ is) in
-      subst (λ x. (is_some (held_at clauses x) ≡ true) × Forces (literals_of (take k places)) (literals_at clauses x) p.literal) one (
-        unit_is_live lists clauses stock es k p s u,
-        unit_forces clauses (literals_of (take k places)) u.ref p.literal u.sole (open_in_front places k p a e),
+      subst (λ x. (is_some (held_at clauses x) ≡ true) × Implies (literals_of (take k places)) (literals_at clauses x) p.literal) one (
+        unit_is_live lists clauses database es k p s u,
+        unit_implies clauses (literals_of (take k places)) u.ref p.literal u.sole (open_in_front places k p a e),
       );
 }

@@ -1,4 +1,4 @@
--- No clause of a log has a guard itself: it names guards only by their negations.
+-- No clause of a log has an activation literal itself: it names activation literals only by their negations.
 use Rattle.std.proofs.Common.{◌≡◌, ℕ, ◌+◌, ◌<◌, ◌≤◌, arith, Bool, true, false, not, List, [], ◌∷◌, refl, sym, ap, subst, ◌∙◌, inl, inr, Option, Some, None}
 use Rattle.std.specs.Prelude.{All, Contains, nat_le, option_map}
 use Rattle.std.specs.List.{list_all, cons_option}
@@ -10,7 +10,7 @@ use Rattle.bs_clause.proofs.Literals.{same_literal-true}
 use Rattle.bs_log.specs.declared.line.Line.TheVariants.{Solve, Lemma, Block, Finish, Retire, Delete}
 use Rattle.bs_log.specs.declared.origin.Origin.{Origin}
 use Rattle.bs_log.specs.declared.origin.Origin.TheVariants.{Axiom, Learnt, Blocked, Retired}
-use Rattle.bs_log.specs.History.{Problem, History, Entry, axioms_from, added, live, step_of, guard_of, state_of, is_deleted}
+use Rattle.bs_log.specs.History.{Problem, History, Entry, axioms_from, added, live, step_of, activation_of, state_of, is_deleted}
 use Rattle.bs_log.specs.Refusal.{NoneRefused, clauses_of, entry_of, is_block_of}
 use Rattle.bs_log.specs.Lean.{LemmasAreLean, IsResolventOf}
 use Rattle.bs_log.proofs.Tests.{right_from_none}
@@ -64,9 +64,9 @@ plain_resolvent own es lits ids r plain = all_from (IsPlain own) lits (λ l ther
 block_plain : (p : Problem) (step : ℕ) (lits : Clause) → is_block_of p step lits ≡ true → All (IsPlain p.vars) lits
 block_plain p step [] fits = absurd (false≢true fits)
 block_plain p step (l ∷ ls) fits =
-    let parts = and_parts (same_literal l (negation (guard_of p step))) (list_all (λ (m : Literal). nat_le m.variable p.vars) ls) fits in
+    let parts = and_parts (same_literal l (negation (activation_of p step))) (list_all (λ (m : Literal). nat_le m.variable p.vars) ls) fits in
     all_from (IsPlain p.vars) (l ∷ ls) (λ m there. elim (contains_cases l ls m there) [
-      | inl first ↦ λ on. absurd (false≢true (ap (λ (x : Literal). x.positive) (sym (same_literal-true l (negation (guard_of p step)) parts.0)) ∙
+      | inl first ↦ λ on. absurd (false≢true (ap (λ (x : Literal). x.positive) (sym (same_literal-true l (negation (activation_of p step)) parts.0)) ∙
           ap (λ (x : Literal). x.positive) first ∙ on))
       | inr later ↦ λ on. low ls parts.1 m later
     ])
@@ -105,7 +105,7 @@ plain_added p (Block id lits ∷ h) own right lean e there =
     ]
 plain_added p (Finish id ∷ h) own right lean e there = plain_added p h own right.1 lean e there
 plain_added p (Retire id ∷ h) own right lean e there =
-    let n : Literal = negation (guard_of p (step_of h)) in
+    let n : Literal = negation (activation_of p (step_of h)) in
     elim (push_cases (added p h) (record { id = id; origin = Retired; literals = n ∷ [] }) e there) [
       | inl was ↦ plain_added p h own right.1 lean e was
       | inr is ↦ subst (IsPlainEntry p.vars) is (all_from (IsPlain p.vars) (n ∷ []) (λ l in_one. elim (contains_cases n [] l in_one) [
@@ -141,9 +141,9 @@ is_blocked_retired r = false≢true (ap test r)
     test Retired = true
     test _ = false
 
--- the negation of the guard of a step that has ended
+-- the negation of the activation literal of a step that has ended
 abbrev pub IsRetiredIn : Problem → ℕ → Entry → Type 0
-IsRetiredIn p step e = (j : ℕ) × (1 ≤ j) × (j < step) × (e.literals ≡ negation (guard_of p j) ∷ [])
+IsRetiredIn p step e = (j : ℕ) × (1 ≤ j) × (j < step) × (e.literals ≡ negation (activation_of p j) ∷ [])
 
 one_on : (p : Problem) (step : ℕ) (e : Entry) → IsRetiredIn p step e → IsRetiredIn p (step + 1) e
 one_on p step e (j, low, high, is) = (j, low, omega (arith, high), is)
@@ -172,7 +172,7 @@ retired_added p (Block id lits ∷ h) e there r =
     ]
 retired_added p (Finish id ∷ h) e there r = retired_added p h e there r
 retired_added p (Retire id ∷ h) e there r =
-    elim (push_cases (added p h) (record { id = id; origin = Retired; literals = negation (guard_of p (step_of h)) ∷ [] }) e there) [
+    elim (push_cases (added p h) (record { id = id; origin = Retired; literals = negation (activation_of p (step_of h)) ∷ [] }) e there) [
       | inl was ↦ one_on p (step_of h) e (retired_added p h e was r)
       | inr is ↦ (step_of h, step_low h, omega arith, sym (ap (λ (x : Entry). x.literals) is))
     ]

@@ -13,7 +13,7 @@ use Rattle.bs_log.specs.History.{Entry, live}
 use Rattle.bs_log.specs.Refusal.{has_distinct_variables, entry_of}
 use Rattle.bs_log.specs.Lean.{IsNew}
 use Rattle.bs_arena.specs.Arena.{Held, held_at, literals_at}
-use Rattle.bs_solve.specs.Laying.{AreShort}
+use Rattle.bs_solve.specs.FirstLevel.{AreShort}
 use Rattle.bs_watch.specs.declared.visit.Outcome.{Outcome}
 use Rattle.bs_watch.specs.declared.visit.Outcome.TheVariants.{Quiet, Conflict}
 use Rattle.bs_watch.specs.declared.watch.Level.{Level}
@@ -22,10 +22,10 @@ use Rattle.bs_watch.specs.Places.{Place, TrailState, IsUnassigned, AreApart, lit
 use Rattle.bs_watch.specs.Tables.{AreDistinct}
 use Rattle.bs_watch.specs.Watch.{WatchState, Serves, HasGoneBack}
 use Rattle.bs_watch.proofs.TableLemmas.{at_most, open_apart}
-use Rattle.bs_solve_analysis.specs.Point.{IsUnforced}
+use Rattle.bs_solve_analysis.specs.Point.{IsReasonless}
 use Rattle.bs_solve_analysis.specs.Walk.{IsLearnt}
-use Rattle.bs_solve_recording.specs.Point.{IsLoggedUnforced}
-use Rattle.bs_solve_recording.specs.Book.{Book, standing, next_id, with_lemma}
+use Rattle.bs_solve_recording.specs.Point.{IsLoggedReasonless}
+use Rattle.bs_solve_recording.specs.ProofLog.{ProofLog, standing, next_id, with_lemma}
 use Rattle.bs_solve_recording.specs.Values.{positive, AreAssigned, HasValues}
 use Rattle.bs_solve_recording.specs.Ending.{SomeLemmas}
 use Rattle.bs_solve_recording.specs.declared.answer.Answer.TheVariants.{Found, Refuted, Spent}
@@ -33,19 +33,19 @@ use Rattle.bs_watch.proofs.Gets.{some_at, none_is_not_some, same_some, get_map_c
 use Rattle.bs_solve_analysis.proofs.Clauses.{all_from, map_contains}
 use Rattle.bs_solve_recording.proofs.Searching.{learnt_range, ending_lemma}
 use Rattle.bs_solve_recording.proofs.Endings.{search_finds, refuted_ranges, refuted_distinct, search_is_spent, learnt_ranges, learnt_distinct, some_lemmas, one_more, no_lemmas}
-use Rattle.bs_solve.specs.declared.stock.Stock.{Stock}
-use Rattle.bs_solve.specs.Stock.{entries, id_in, IsStocked}
+use Rattle.bs_solve.specs.declared.database.Database.{Database}
+use Rattle.bs_solve.specs.Database.{entries, id_in, HoldsEntries}
 use Rattle.bs_solve.proofs.Entries.{stands_grown}
 use Rattle.bs_solve_recording.proofs.Entries.{found_stands}
 use Rattle.bs_solve.specs.Seen.{seen_place, seen}
-use Rattle.bs_solve.specs.Ground.{HasStocked, IsGround, IsOff}
-use Rattle.bs_solve.specs.Running.{seen_trail, IsRunning, InTurn}
-use Rattle.bs_solve.specs.Teaching.{IsAtRest, Teaches}
+use Rattle.bs_solve.specs.Ground.{HasAdded, IsGround, IsOff}
+use Rattle.bs_solve.specs.Running.{seen_trail, IsRunning, InRound}
+use Rattle.bs_solve.specs.Learning.{IsAtRest, LearnsFrom}
 use Rattle.bs_solve.specs.Searching.{IsFirstConflict, IsOver, HasEndedBy}
 use Rattle.bs_solve.specs.Pausing.{IsPaused}
 use Rattle.bs_solve.proofs.Seens.{literals_seen, length_seen}
-use Rattle.bs_solve.proofs.Teachings.{logged_learnt}
-use Rattle.bs_solve.proofs.Turns.{conflict_in, learnt_in}
+use Rattle.bs_solve.proofs.LearningLemmas.{logged_learnt}
+use Rattle.bs_solve.proofs.Rounds.{conflict_in, learnt_in}
 
 -- ---- the trail goes back to what stands for good
 
@@ -58,28 +58,28 @@ gone_back_to w mid v at back =
 pub gone_vars : (w mid : WatchState) → 1 ≤ length w.levels → IfSome (slice_get w.levels 0) (HasGoneBack w mid) → mid.trail.vars ≡ w.trail.vars
 gone_vars w mid some back = let (v, at) = some_at w.levels 0 (omega (arith, some)) in (gone_back_to w mid v at back).1
 
-pub at_rest : (base : ℕ) (book : Book) (w mid : WatchState) (clauses : List Held) (stock : Stock) → IsRunning base book w clauses stock →
+pub at_rest : (base : ℕ) (proof : ProofLog) (w mid : WatchState) (clauses : List Held) (database : Database) → IsRunning base proof w clauses database →
     mid.levels ≡ take 0 w.levels → mid.lists ≡ w.lists → IfSome (slice_get w.levels 0) (HasGoneBack w mid) → Serves mid clauses →
-    IsAtRest book mid clauses stock
-at_rest base book w mid clauses stock r levels lists back serves = record {
-  stocked = subst (λ ls. IsStocked ls clauses stock (entries book)) (sym lists) r.stocked;
+    IsAtRest proof mid clauses database
+at_rest base proof w mid clauses database r levels lists back serves = record {
+  holds_entries = subst (λ ls. HoldsEntries ls clauses database (entries proof)) (sym lists) r.holds_entries;
   serves = serves;
   ground =
       let (v, at) = some_at w.levels 0 (let some = r.begun.some in omega (arith, some)) in
-      subst (IsGround (entries book) stock.shorts.items clauses) (sym (gone_back_to w mid v at back).0) (r.ground v at);
+      subst (IsGround (entries proof) database.shorts.items clauses) (sym (gone_back_to w mid v at back).0) (r.ground v at);
   levels = levels;
 }
 
 -- ---- the last lemma
 
--- what no clause forced stands behind what stands for good
-pub lemma_off : (base : ℕ) (book : Book) (w mid : WatchState) (clauses : List Held) (stock : Stock) (conflict : ℕ) (lits : Clause) →
-    IsFirstConflict base book w clauses stock conflict → AreApart w.trail.places → IfSome (slice_get w.levels 0) (HasGoneBack w mid) →
-    All (λ l. IsUnforced w.trail.places (negation l)) lits → IsOff mid.trail.places lits
-lemma_off base book w mid clauses stock conflict lits c apart back free =
+-- what no clause implied stands behind what stands for good
+pub lemma_off : (base : ℕ) (proof : ProofLog) (w mid : WatchState) (clauses : List Held) (database : Database) (conflict : ℕ) (lits : Clause) →
+    IsFirstConflict base proof w clauses database conflict → AreApart w.trail.places → IfSome (slice_get w.levels 0) (HasGoneBack w mid) →
+    All (λ l. IsReasonless w.trail.places (negation l)) lits → IsOff mid.trail.places lits
+lemma_off base proof w mid clauses database conflict lits c apart back free =
     let (v, at) = some_at w.levels 0 (let some = c.some in omega (arith, some)) in
     subst (λ ps. IsOff ps lits) (sym (gone_back_to w mid v at back).0) (all_from (IsOpenOn (literals_of (take v.start w.trail.places))) lits (λ l there.
-    let u = All-contains (λ x. IsUnforced w.trail.places (negation x)) lits l free there in
+    let u = All-contains (λ x. IsReasonless w.trail.places (negation x)) lits l free there in
     let gone : (x : Literal) → x.variable ≡ l.variable → ¬ IsTrueOn (literals_of (take v.start w.trail.places)) x = λ x same holds.
     let (k, found) = get_from_Contains (literals_of (take v.start w.trail.places)) x holds in
     let (p, here, is) = get_map_cases (λ (y : Place). y.literal) (take v.start w.trail.places) k x found in
@@ -91,9 +91,9 @@ lemma_off base book w mid clauses stock conflict lits c apart back free =
     none_is_not_some unit.ref (sym u.free ∙ ap (λ (y : Place). y.reason) (sym place) ∙ unit.reason) in
     (gone l refl, gone (negation l) refl)))
 
-pub unforced_seen : (places : List Place) (lits : Clause) → All (λ l. IsUnforced places (negation l)) lits →
-    All (λ l. IsLoggedUnforced (seen places) (negation l)) lits
-unforced_seen places lits all = λ k d h.
+pub reasonless_seen : (places : List Place) (lits : Clause) → All (λ l. IsReasonless places (negation l)) lits →
+    All (λ l. IsLoggedReasonless (seen places) (negation l)) lits
+reasonless_seen places lits all = λ k d h.
     let x = all k d h in
     record {
       at = x.at;
@@ -103,29 +103,29 @@ unforced_seen places lits all = λ k d h.
       free = ap is_some x.free;
     }
 
-pub last_learnt : (base : ℕ) (book : Book) (w : WatchState) (clauses : List Held) (stock : Stock) (conflict : ℕ) (lits : Clause) (hints : List ℕ) →
-    IsFirstConflict base book w clauses stock conflict → IsLearnt clauses lits hints → HasVariables w.trail.vars lits
-last_learnt base book w clauses stock conflict lits hints c l =
-    learnt_range (entries book) w.trail.vars lits (map (id_in clauses) (reverse hints))
-    (logged_learnt w.lists clauses stock (entries book) lits hints c.stocked l) c.range
+pub last_learnt : (base : ℕ) (proof : ProofLog) (w : WatchState) (clauses : List Held) (database : Database) (conflict : ℕ) (lits : Clause) (hints : List ℕ) →
+    IsFirstConflict base proof w clauses database conflict → IsLearnt clauses lits hints → HasVariables w.trail.vars lits
+last_learnt base proof w clauses database conflict lits hints c l =
+    learnt_range (entries proof) w.trail.vars lits (map (id_in clauses) (reverse hints))
+    (logged_learnt w.lists clauses database (entries proof) lits hints c.holds_entries l) c.range
 
-pub last_is_new : (base : ℕ) (book : Book) (w : WatchState) (clauses : List Held) (stock : Stock) (conflict : ℕ) (lits : Clause) →
-    IsFirstConflict base book w clauses stock conflict → All (λ l. IsUnforced w.trail.places (negation l)) lits → IsNew book.problem book.history lits
-last_is_new base book w clauses stock conflict lits c free =
-    inl (ending_lemma book base (seen w.trail.places) lits c.sound c.forced (unforced_seen w.trail.places lits free))
+pub last_is_new : (base : ℕ) (proof : ProofLog) (w : WatchState) (clauses : List Held) (database : Database) (conflict : ℕ) (lits : Clause) →
+    IsFirstConflict base proof w clauses database conflict → All (λ l. IsReasonless w.trail.places (negation l)) lits → IsNew proof.problem proof.history lits
+last_is_new base proof w clauses database conflict lits c free =
+    inl (ending_lemma proof base (seen w.trail.places) lits c.sound c.implied (reasonless_seen w.trail.places lits free))
 
-pub ended_by : (base : ℕ) (book new_book : Book) (w mid new : WatchState) (clauses after : List Held) (stock more : Stock) (conflict id other : ℕ)
+pub ended_by : (base : ℕ) (proof new_proof : ProofLog) (w mid new : WatchState) (clauses after : List Held) (database more : Database) (conflict id other : ℕ)
     (lits : Clause)
-    (hints : List ℕ) → IsFirstConflict base book w clauses stock conflict → IsLearnt clauses lits hints →
-    All (λ l. IsUnforced w.trail.places (negation l)) lits →
+    (hints : List ℕ) → IsFirstConflict base proof w clauses database conflict → IsLearnt clauses lits hints →
+    All (λ l. IsReasonless w.trail.places (negation l)) lits →
     mid.levels ≡ take 0 w.levels → mid.lists ≡ w.lists → IfSome (slice_get w.levels 0) (HasGoneBack w mid) →
-    Serves new after → new.trail ≡ mid.trail → new.levels ≡ mid.levels → HasStocked mid.lists new.lists clauses after stock more
-    (record { id = other; origin = FromConflict; literals = lits }) → other ≡ id → entry_of (entries book) other ≡ None → id ≡ next_id book →
-    new_book ≡ with_lemma book id lits (map (id_in clauses) (reverse hints)) →
-    entries new_book ≡ entries book ++ record { id = id; origin = FromConflict; literals = lits } ∷ [] →
-    entry_of (live new_book.problem new_book.history) id ≡ Some (record { id = id; origin = FromConflict; literals = lits }) →
-    HasEndedBy book new_book w.trail.vars new after more id
-ended_by base book new_book w mid new clauses after stock more conflict id other lits hints c l free levels lists back serves trail new_levels stocked
+    Serves new after → new.trail ≡ mid.trail → new.levels ≡ mid.levels → HasAdded mid.lists new.lists clauses after database more
+    (record { id = other; origin = FromConflict; literals = lits }) → other ≡ id → entry_of (entries proof) other ≡ None → id ≡ next_id proof →
+    new_proof ≡ with_lemma proof id lits (map (id_in clauses) (reverse hints)) →
+    entries new_proof ≡ entries proof ++ record { id = id; origin = FromConflict; literals = lits } ∷ [] →
+    entry_of (live new_proof.problem new_proof.history) id ≡ Some (record { id = id; origin = FromConflict; literals = lits }) →
+    HasEndedBy proof new_proof w.trail.vars new after more id
+ended_by base proof new_proof w mid new clauses after database more conflict id other lits hints c l free levels lists back serves trail new_levels holds_entries
     is_other unused is line grown entry =
     let (v, at) = some_at w.levels 0 (let some = c.some in omega (arith, some)) in
     let (places, vars) = gone_back_to w mid v at back in
@@ -134,26 +134,26 @@ ended_by base book new_book w mid new clauses after stock more conflict id other
         lemma = lits;
         logged = record {
           hints = map (id_in clauses) (reverse hints);
-          book = line;
+          proof = line;
           next = is;
           grown = grown;
-          stands = stands_grown book new_book (record { id = id; origin = FromConflict; literals = lits }) grown;
+          stands = stands_grown proof new_proof (record { id = id; origin = FromConflict; literals = lits }) grown;
           entry = entry;
         };
-        ends = ending_lemma book base (seen w.trail.places) lits c.sound c.forced (unforced_seen w.trail.places lits free);
+        ends = ending_lemma proof base (seen w.trail.places) lits c.sound c.implied (reasonless_seen w.trail.places lits free);
         distinct = l.distinct;
-        range = λ n range. learnt_range (entries book) n lits (map (id_in clauses) (reverse hints))
-            (logged_learnt w.lists clauses stock (entries book) lits hints c.stocked l) range;
+        range = λ n range. learnt_range (entries proof) n lits (map (id_in clauses) (reverse hints))
+            (logged_learnt w.lists clauses database (entries proof) lits hints c.holds_entries l) range;
       };
       rest = record {
-        stocked = subst (IsStocked new.lists after more)
-            (ap (λ n. entries book ++ record { id = n; origin = FromConflict; literals = lits } ∷ []) is_other ∙ sym grown)
-            (stocked.more (entries book) unused (subst (λ ls. IsStocked ls clauses stock (entries book)) (sym lists) c.stocked));
+        holds_entries = subst (HoldsEntries new.lists after more)
+            (ap (λ n. entries proof ++ record { id = n; origin = FromConflict; literals = lits } ∷ []) is_other ∙ sym grown)
+            (holds_entries.more (entries proof) unused (subst (λ ls. HoldsEntries ls clauses database (entries proof)) (sym lists) c.holds_entries));
         serves = serves;
-        ground = subst (IsGround (entries new_book) more.shorts.items after) (sym (ap (λ (t : TrailState). t.places) trail ∙ places))
+        ground = subst (IsGround (entries new_proof) more.shorts.items after) (sym (ap (λ (t : TrailState). t.places) trail ∙ places))
             (subst (λ es. IsGround es more.shorts.items after (take v.start w.trail.places))
-            (ap (λ n. entries book ++ record { id = n; origin = FromConflict; literals = lits } ∷ []) is_other ∙ sym grown)
-            (stocked.ground (entries book) unused (subst (λ ls. IsStocked ls clauses stock (entries book)) (sym lists) c.stocked) (take v.start w.trail.places)
+            (ap (λ n. entries proof ++ record { id = n; origin = FromConflict; literals = lits } ∷ []) is_other ∙ sym grown)
+            (holds_entries.ground (entries proof) unused (subst (λ ls. HoldsEntries ls clauses database (entries proof)) (sym lists) c.holds_entries) (take v.start w.trail.places)
             (c.ground v at)));
         levels = new_levels ∙ levels;
       };
@@ -172,61 +172,61 @@ pub all_assigned : (w : WatchState) → AreAssignedBelow (literals_of w.trail.pl
 all_assigned w all = assigned_logged (literals_of w.trail.places) w.trail.vars all
 
 -- the trail stays
-pub paused_in : (old : Book) (vars base conflicts limit : ℕ) (book : Book) (w : WatchState) (clauses : List Held) (stock : Stock) (o : Outcome) →
-    InTurn old vars base conflicts limit book w clauses stock o → IsPaused base book w clauses stock
-paused_in old vars base conflicts limit book w clauses stock o t = record {
+pub paused_in : (old : ProofLog) (vars base conflicts limit : ℕ) (proof : ProofLog) (w : WatchState) (clauses : List Held) (database : Database) (o : Outcome) →
+    InRound old vars base conflicts limit proof w clauses database o → IsPaused base proof w clauses database
+paused_in old vars base conflicts limit proof w clauses database o t = record {
   running = t.running;
   sound = t.search.sound;
   given = t.search.given;
   low = let l = t.search.low in let n = length_seen w.trail.places in omega (arith, l, n);
 }
 
-pub over_found : (old : Book) (vars base conflicts limit : ℕ) (book : Book) (w now : WatchState) (clauses : List Held) (stock : Stock)
+pub over_found : (old : ProofLog) (vars base conflicts limit : ℕ) (proof : ProofLog) (w now : WatchState) (clauses : List Held) (database : Database)
     (values : List (Option Bool)) →
-    InTurn old vars base conflicts limit book w clauses stock Quiet → now ≡ w → AreAssigned (literals_of w.trail.places) w.trail.vars →
-    HasValues (literals_of now.trail.places) vars values → IsOver old book vars limit now clauses stock (Found values)
-over_found old vars base conflicts limit book w now clauses stock values t same all has = record {
-  ends = search_finds old vars base conflicts limit book (seen w.trail.places) values t.search
+    InRound old vars base conflicts limit proof w clauses database Quiet → now ≡ w → AreAssigned (literals_of w.trail.places) w.trail.vars →
+    HasValues (literals_of now.trail.places) vars values → IsOver old proof vars limit now clauses database (Found values)
+over_found old vars base conflicts limit proof w now clauses database values t same all has = record {
+  ends = search_finds old vars base conflicts limit proof (seen w.trail.places) values t.search
       (subst (λ ls. AreAssigned ls vars) (sym (literals_seen w.trail.places)) (subst (AreAssigned (literals_of w.trail.places)) t.vars_is all))
       (subst (λ ls. HasValues ls vars values) (sym (literals_seen w.trail.places))
       (subst (λ (x : WatchState). HasValues (literals_of x.trail.places) vars values) same has));
-  left = inr (base, subst (λ x. IsPaused base book x clauses stock) (sym same) (paused_in old vars base conflicts limit book w clauses stock Quiet t));
+  left = inr (base, subst (λ x. IsPaused base proof x clauses database) (sym same) (paused_in old vars base conflicts limit proof w clauses database Quiet t));
   vars_is = ap (λ (x : WatchState). x.trail.vars) same ∙ t.vars_is;
   range = t.search.range;
   distinct = t.search.distinct;
 }
 
-pub over_spent : (old : Book) (vars base conflicts limit r : ℕ) (book new_book : Book) (w mid rest : WatchState) (clauses later : List Held)
-    (stock more : Stock) →
-    InTurn old vars base conflicts limit book w clauses stock (Conflict r) → Teaches book new_book w mid clauses later stock more r → conflicts + 1 ≡ limit →
+pub over_spent : (old : ProofLog) (vars base conflicts limit r : ℕ) (proof new_proof : ProofLog) (w mid rest : WatchState) (clauses later : List Held)
+    (database more : Database) →
+    InRound old vars base conflicts limit proof w clauses database (Conflict r) → LearnsFrom proof new_proof w mid clauses later database more r → conflicts + 1 ≡ limit →
     rest.levels ≡ take 0 mid.levels → rest.lists ≡ mid.lists → IfSome (slice_get mid.levels 0) (HasGoneBack mid rest) → Serves rest later →
-    IsOver old new_book vars limit rest later more Spent
-over_spent old vars base conflicts limit r book new_book w mid rest clauses later stock more t h all levels lists back serves =
-    let c = conflict_in old vars base conflicts limit book w clauses stock r t in
-    let learnt = learnt_in vars base book new_book w mid t.vars_is (h.learnt base c) in
+    IsOver old new_proof vars limit rest later more Spent
+over_spent old vars base conflicts limit r proof new_proof w mid rest clauses later database more t h all levels lists back serves =
+    let c = conflict_in old vars base conflicts limit proof w clauses database r t in
+    let learnt = learnt_in vars base proof new_proof w mid t.vars_is (h.learnt base c) in
     let running = h.running base c in
     record {
-      ends = search_is_spent old vars base conflicts limit book new_book (seen w.trail.places) (seen_trail mid)
+      ends = search_is_spent old vars base conflicts limit proof new_proof (seen w.trail.places) (seen_trail mid)
           false t.search learnt all;
-      left = at_rest base new_book mid rest later more running levels lists back serves;
+      left = at_rest base new_proof mid rest later more running levels lists back serves;
       vars_is = gone_vars mid rest running.begun.some back ∙ h.vars ∙ t.vars_is;
-      range = subst (λ n. All (HasVariables n) (standing new_book)) (h.vars ∙ t.vars_is)
-          (learnt_ranges old vars base conflicts limit book new_book (seen w.trail.places)
+      range = subst (λ n. All (HasVariables n) (standing new_proof)) (h.vars ∙ t.vars_is)
+          (learnt_ranges old vars base conflicts limit proof new_proof (seen w.trail.places)
           (record { vars = vars; places = seen w.trail.places }) (seen_trail mid) false t.search learnt refl);
-      distinct = learnt_distinct old vars base conflicts limit book new_book (seen w.trail.places)
+      distinct = learnt_distinct old vars base conflicts limit proof new_proof (seen w.trail.places)
           (record { vars = vars; places = seen w.trail.places }) (seen_trail mid) false t.search learnt;
     }
 
-pub over_refuted : (old : Book) (vars base conflicts limit r id : ℕ) (book new_book : Book) (w new : WatchState) (clauses after : List Held)
-    (stock more : Stock) →
-    InTurn old vars base conflicts limit book w clauses stock (Conflict r) → HasEndedBy book new_book w.trail.vars new after more id →
-    IsOver old new_book vars limit new after more (Refuted id)
-over_refuted old vars base conflicts limit r id book new_book w new clauses after stock more t e = record {
-  ends = record { middle = book; count = conflicts; before = t.search.logged; under = t.search.under; last = e.refuted };
+pub over_refuted : (old : ProofLog) (vars base conflicts limit r id : ℕ) (proof new_proof : ProofLog) (w new : WatchState) (clauses after : List Held)
+    (database more : Database) →
+    InRound old vars base conflicts limit proof w clauses database (Conflict r) → HasEndedBy proof new_proof w.trail.vars new after more id →
+    IsOver old new_proof vars limit new after more (Refuted id)
+over_refuted old vars base conflicts limit r id proof new_proof w new clauses after database more t e = record {
+  ends = record { middle = proof; count = conflicts; before = t.search.logged; under = t.search.under; last = e.refuted };
   left = e.rest;
   vars_is = e.vars_is ∙ t.vars_is;
-  range = refuted_ranges vars book new_book id e.refuted t.search.range;
-  distinct = refuted_distinct book new_book id e.refuted t.search.distinct;
+  range = refuted_ranges vars proof new_proof id e.refuted t.search.range;
+  distinct = refuted_distinct proof new_proof id e.refuted t.search.distinct;
 }
 
 -- ---- there is room for a level
@@ -292,34 +292,34 @@ full_assigned w apart range full = λ v low high.
 
 -- ---- what was logged
 
-pub logged_after : (old : Book) (vars base conflicts limit r : ℕ) (book new_book : Book) (w mid : WatchState) (clauses later : List Held)
-    (stock more : Stock) →
-    InTurn old vars base conflicts limit book w clauses stock (Conflict r) → Teaches book new_book w mid clauses later stock more r → SomeLemmas old new_book
-logged_after old vars base conflicts limit r book new_book w mid clauses later stock more t h =
-    let c = conflict_in old vars base conflicts limit book w clauses stock r t in
+pub logged_after : (old : ProofLog) (vars base conflicts limit r : ℕ) (proof new_proof : ProofLog) (w mid : WatchState) (clauses later : List Held)
+    (database more : Database) →
+    InRound old vars base conflicts limit proof w clauses database (Conflict r) → LearnsFrom proof new_proof w mid clauses later database more r → SomeLemmas old new_proof
+logged_after old vars base conflicts limit r proof new_proof w mid clauses later database more t h =
+    let c = conflict_in old vars base conflicts limit proof w clauses database r t in
     let learnt = h.learnt base c in
-    some_lemmas old new_book (conflicts + 1) (one_more old book new_book conflicts learnt.id learnt.lemma t.search.logged learnt.logged learnt.open_yet)
+    some_lemmas old new_proof (conflicts + 1) (one_more old proof new_proof conflicts learnt.id learnt.lemma t.search.logged learnt.logged learnt.open_yet)
 
-pub over_at_once : (book new_book : Book) (vars limit id : ℕ) (w new : WatchState) (after : List Held) (more : Stock) → 1 ≤ limit →
-    All (HasVariables vars) (standing book) → All (λ c. has_distinct_variables c ≡ true) (standing book) →
-    HasEndedBy book new_book w.trail.vars new after more id → w.trail.vars ≡ vars → IsOver book new_book vars limit new after more (Refuted id)
-over_at_once book new_book vars limit id w new after more one range distinct e is = record {
-  ends = record { middle = book; count = 0; before = no_lemmas book; under = one; last = e.refuted };
+pub over_at_once : (proof new_proof : ProofLog) (vars limit id : ℕ) (w new : WatchState) (after : List Held) (more : Database) → 1 ≤ limit →
+    All (HasVariables vars) (standing proof) → All (λ c. has_distinct_variables c ≡ true) (standing proof) →
+    HasEndedBy proof new_proof w.trail.vars new after more id → w.trail.vars ≡ vars → IsOver proof new_proof vars limit new after more (Refuted id)
+over_at_once proof new_proof vars limit id w new after more one range distinct e is = record {
+  ends = record { middle = proof; count = 0; before = no_lemmas proof; under = one; last = e.refuted };
   left = e.rest;
   vars_is = e.vars_is ∙ is;
-  range = refuted_ranges vars book new_book id e.refuted range;
-  distinct = refuted_distinct book new_book id e.refuted distinct;
+  range = refuted_ranges vars proof new_proof id e.refuted range;
+  distinct = refuted_distinct proof new_proof id e.refuted distinct;
 }
 
-pub are_short : (book : Book) (w : WatchState) (clauses : List Held) (stock : Stock) → IsAtRest book w clauses stock →
-    All (HasVariables w.trail.vars) (standing book) →
-    AreShort w.trail.vars clauses stock.shorts.items
-are_short book w clauses stock r range = record {
-  live = r.stocked.listed;
-  few = r.stocked.few;
-  range = all_from (λ q. HasVariables w.trail.vars (literals_at clauses q)) stock.shorts.items (λ q there.
-      let (d, at, same) = r.stocked.spelled q (All-contains (λ x. is_some (held_at clauses x) ≡ true) stock.shorts.items q r.stocked.listed there) in
+pub are_short : (proof : ProofLog) (w : WatchState) (clauses : List Held) (database : Database) → IsAtRest proof w clauses database →
+    All (HasVariables w.trail.vars) (standing proof) →
+    AreShort w.trail.vars clauses database.shorts.items
+are_short proof w clauses database r range = record {
+  live = r.holds_entries.listed;
+  few = r.holds_entries.few;
+  range = all_from (λ q. HasVariables w.trail.vars (literals_at clauses q)) database.shorts.items (λ q there.
+      let (d, at, same) = r.holds_entries.spelled q (All-contains (λ x. is_some (held_at clauses x) ≡ true) database.shorts.items q r.holds_entries.listed there) in
       All-permutation (IsWithin w.trail.vars) d.literals (literals_at clauses q) same
-      (All-contains (HasVariables w.trail.vars) (standing book) d.literals range
-      (map_contains (λ (x : Entry). x.literals) (entries book) d (found_stands (entries book) (id_in clauses q) d at))));
+      (All-contains (HasVariables w.trail.vars) (standing proof) d.literals range
+      (map_contains (λ (x : Entry). x.literals) (entries proof) d (found_stands (entries proof) (id_in clauses q) d at))));
 }

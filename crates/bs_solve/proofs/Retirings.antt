@@ -1,4 +1,4 @@
--- The unit of a retired guard comes.
+-- The unit of a retired activation literal comes.
 use Rattle.std.proofs.Common.{◌≡◌, ◌≢◌, ℕ, zero, suc, ◌<◌, arith, List, [], ◌∷◌, ◌++◌, length, refl, sym, ap, subst, ◌∙◌, inl, inr, Some, None}
 use Rattle.std.specs.Prelude.{Contains, slice_get, slice_set, IsPermutation}
 use Rattle.std.proofs.lemmas.Bool.{cases_eq}
@@ -14,12 +14,12 @@ use Rattle.bs_watch.specs.Watch.{WatchState, Serves, KeepsService, assigned, wit
 use Rattle.bs_watch.proofs.CallerLemmas.{serves_more}
 use Rattle.bs_watch.proofs.Gets.{same_some, get_left, get_last, get_push_cases, get_from_Contains, Contains_from_get, get_within}
 use Rattle.std.proofs.lemmas.List.{append-nil}
-use Rattle.bs_solve.specs.declared.stock.Stock.{Stock}
-use Rattle.bs_solve.specs.Stock.{IsStocked}
+use Rattle.bs_solve.specs.declared.database.Database.{Database}
+use Rattle.bs_solve.specs.Database.{HoldsEntries}
 use Rattle.bs_solve.specs.Ground.{IsGround}
 use Rattle.bs_solve.specs.Retiring.{IsPut, HasRetired}
 use Rattle.bs_solve.proofs.Entries.{push_cases, entry_last}
-use Rattle.bs_solve.proofs.Stocks.{others_added, stocked_more, literals_from, id_from, live_from}
+use Rattle.bs_solve.proofs.Databases.{others_added, holds_more, literals_from, id_from, live_from}
 use Rattle.bs_solve.proofs.Grounds.{ground_added}
 
 -- ---- one more reference in a place
@@ -79,12 +79,12 @@ put_inside old new at r first less is_first is =
 
 -- ---- the unit
 
-pub retired : (old new : WatchState) (before after : List Held) (stock more : Stock) (id r : ℕ) (unit : Literal) → Serves old before → Keeps before after →
+pub retired : (old new : WatchState) (before after : List Held) (database more : Database) (id r : ℕ) (unit : Literal) → Serves old before → Keeps before after →
     after ≡ before ++ record { ref = r; id = id; literals = unit ∷ [] } ∷ [] → held_at before r ≡ None →
     held_at after r ≡ Some (record { ref = r; id = id; literals = unit ∷ [] }) →
-    IsPut stock.shorts.items more.shorts.items (length old.trail.places) r → more.rows.items ≡ stock.rows.items →
-    new ≡ assigned old unit (Some r) → KeepsService old new → HasRetired old new before after stock more id unit
-retired old new before after stock more id r unit serves keeps added fresh found put rows is service =
+    IsPut database.shorts.items more.shorts.items (length old.trail.places) r → more.rows.items ≡ database.rows.items →
+    new ≡ assigned old unit (Some r) → KeepsService old new → HasRetired old new before after database more id unit
+retired old new before after database more id r unit serves keeps added fresh found put rows is service =
     let h : Held = record { ref = r; id = id; literals = unit ∷ [] } in
     let e : Entry = record { id = id; origin = Retired; literals = unit ∷ [] } in
     let p : Place = record { literal = unit; reason = Some r; level = length old.levels } in
@@ -96,7 +96,7 @@ retired old new before after stock more id r unit serves keeps added fresh found
       vars = ap (λ (x : WatchState). x.trail.vars) is;
       levels = ap (λ (x : WatchState). x.levels) is;
       rows = rows;
-      stocked = λ es free s. stocked_more old.lists new.lists before after stock more es r e s free others fresh (live_from after r h found)
+      holds_entries = λ es free s. holds_more old.lists new.lists before after database more es r e s free others fresh (live_from after r h found)
           (id_from after r h found) (subst (IsPermutation (unit ∷ [])) (sym sole) (IsPermutation-refl (unit ∷ [])))
           (λ q a. subst (λ ls. IsAttached ls q) (sym (ap (λ (x : WatchState). x.lists) is)) a)
           (λ two. absurd (let n = ap length sole in omega (arith, two, n)))
@@ -104,9 +104,9 @@ retired old new before after stock more id r unit serves keeps added fresh found
           (λ q there. elim (put.only q there) [
             | inl was ↦ inl was
             | inr here ↦ inr (here, (let n = ap length sole in omega (arith, n)))
-          ]) (rows ∙ sym (append-nil stock.rows.items));
+          ]) (rows ∙ sym (append-nil database.rows.items));
       ground = λ es free s g.
-          let front = ground_added old.lists before after stock more.shorts.items es e r old.trail.places s others fresh put.front g in
+          let front = ground_added old.lists before after database more.shorts.items es e r old.trail.places s others fresh put.front g in
           record {
             each = λ k q at. elim (get_push_cases old.trail.places p q k (subst (λ ps. slice_get ps k ≡ Some q) places at)) [
               | inl was ↦ front.each k q was
@@ -124,16 +124,16 @@ retired old new before after stock more id r unit serves keeps added fresh found
     }
 
 -- the same, where places that nobody watches have been passed over since
-pub retired_passed : (old mid new : WatchState) (before after : List Held) (stock more : Stock) (id head : ℕ) (unit : Literal) →
-    HasRetired old mid before after stock more id unit → new ≡ with_head mid head → KeepsService mid new →
-    HasRetired old new before after stock more id unit
-retired_passed old mid new before after stock more id head unit h is service = record {
+pub retired_passed : (old mid new : WatchState) (before after : List Held) (database more : Database) (id head : ℕ) (unit : Literal) →
+    HasRetired old mid before after database more id unit → new ≡ with_head mid head → KeepsService mid new →
+    HasRetired old new before after database more id unit
+retired_passed old mid new before after database more id head unit h is service = record {
   serves = service.keeps after h.serves;
   vars = ap (λ (x : WatchState). x.trail.vars) is ∙ h.vars;
   levels = ap (λ (x : WatchState). x.levels) is ∙ h.levels;
   rows = h.rows;
-  stocked = λ es free s. subst (λ ls. IsStocked ls after more (es ++ record { id = id; origin = Retired; literals = unit ∷ [] } ∷ []))
-      (sym (ap (λ (x : WatchState). x.lists) is)) (h.stocked es free s);
+  holds_entries = λ es free s. subst (λ ls. HoldsEntries ls after more (es ++ record { id = id; origin = Retired; literals = unit ∷ [] } ∷ []))
+      (sym (ap (λ (x : WatchState). x.lists) is)) (h.holds_entries es free s);
   ground = λ es free s g.
       subst (λ ps. IsGround (es ++ record { id = id; origin = Retired; literals = unit ∷ [] } ∷ []) more.shorts.items after ps)
       (sym (ap (λ (x : WatchState). x.trail.places) is)) (h.ground es free s g);

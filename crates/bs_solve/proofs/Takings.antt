@@ -13,14 +13,14 @@ use Rattle.bs_watch.specs.Watch.{WatchState, Serves, AreLevelled, HasGoneBack, a
 use Rattle.bs_watch.proofs.Gets.{same_some, Contains_from_get}
 use Rattle.bs_watch.proofs.CallerLemmas.{serves_kept, attached_is_live}
 use Rattle.bs_log.specs.declared.origin.Origin.TheVariants.{Learnt}
-use Rattle.bs_solve.specs.declared.stock.Stock.{Stock}
-use Rattle.bs_solve.specs.Stock.{is_live, HasJoined, rows_for}
-use Rattle.bs_solve.specs.Lesson.{IsBackLevel, IsLesson, HasTaken, TakesLesson}
-use Rattle.bs_solve.proofs.Stocks.{others_added, others_trans}
+use Rattle.bs_solve.specs.declared.database.Database.{Database}
+use Rattle.bs_solve.specs.Database.{is_live, HasJoined, rows_for}
+use Rattle.bs_solve.specs.Backjump.{IsBackLevel, IsLearntClause, HasTaken, JumpsBack}
+use Rattle.bs_solve.proofs.Databases.{others_added, others_trans}
 use Rattle.bs_solve.proofs.Backs.{Back, back_short, back_long}
 
 -- how far the trail goes back
-pub goes_back : (base : ℕ) (w : WatchState) (lits c : Clause) (n : ℕ) (s : IsLesson base w lits) → AreLevelled w.trail.places w.levels →
+pub goes_back : (base : ℕ) (w : WatchState) (lits c : Clause) (n : ℕ) (s : IsLearntClause base w lits) → AreLevelled w.trail.places w.levels →
     AreApart w.trail.places →
     IsPermutation lits c → IsBackLevel w.trail.places c n → (2 ≤ length c → IsWatchable w.trail.vars c) →
     (v : Level) × Back w lits c (negation s.point.place.literal) n v
@@ -34,7 +34,7 @@ pub gone_back : (old new : WatchState) (n : ℕ) (v : Level) → slice_get old.l
 gone_back old new n v at back = subst (λ o. IfSome o (HasGoneBack old new)) at back
 
 -- the first literal is open then
-pub first_open_back : (base : ℕ) (old new : WatchState) (lits c : Clause) (n : ℕ) (v : Level) (l : Literal) (s : IsLesson base old lits) →
+pub first_open_back : (base : ℕ) (old new : WatchState) (lits c : Clause) (n : ℕ) (v : Level) (l : Literal) (s : IsLearntClause base old lits) →
     Back old lits c (negation s.point.place.literal) n v → IfSome (slice_get old.levels n) (HasGoneBack old new) → slice_get c 0 ≡ Some l →
     IsUnassigned new.trail l
 first_open_back base old new lits c n v l s b back at =
@@ -59,7 +59,7 @@ pub levels_assigned : (old mid new : WatchState) (n r : ℕ) (l : Literal) → m
     new.levels ≡ take n old.levels
 levels_assigned old mid new n r l levels is = ap (λ (x : WatchState). x.levels) is ∙ levels
 
-pub places_assigned : (base : ℕ) (old mid new : WatchState) (lits c : Clause) (n r : ℕ) (v : Level) (l : Literal) (s : IsLesson base old lits) →
+pub places_assigned : (base : ℕ) (old mid new : WatchState) (lits c : Clause) (n r : ℕ) (v : Level) (l : Literal) (s : IsLearntClause base old lits) →
     Back old lits c (negation s.point.place.literal) n v → IfSome (slice_get old.levels n) (HasGoneBack old mid) → slice_get c 0 ≡ Some l →
     mid.levels ≡ take n old.levels → new ≡ assigned mid l (Some r) →
     new.trail.places ≡ take v.start old.trail.places ++
@@ -73,9 +73,9 @@ places_assigned base old mid new lits c n r v l s b back at levels is =
     ap (λ m. take v.start old.trail.places ++ record { literal = m; reason = Some r; level = length mid.levels } ∷ []) is_u ∙
     ap (λ k. take v.start old.trail.places ++ record { literal = u; reason = Some r; level = length k } ∷ []) levels
 
-pub takes_lesson : (base : ℕ) (old mid assigned_w new : WatchState) (before middle after : List Held) (stock more : Stock) (id r n : ℕ) (v : Level)
+pub jumps_back : (base : ℕ) (old mid assigned_w new : WatchState) (before middle after : List Held) (database more : Database) (id r n : ℕ) (v : Level)
     (lits : Clause) (l : Literal)
-    (s : IsLesson base old lits) → Back old lits (literals_at after r) (negation s.point.place.literal) n v →
+    (s : IsLearntClause base old lits) → Back old lits (literals_at after r) (negation s.point.place.literal) n v →
     middle ≡ before ++ record { ref = r; id = id; literals = lits } ∷ [] → held_at before r ≡ None →
     held_at middle r ≡ Some (record { ref = r; id = id; literals = lits }) →
     KeepsOthers middle after r → is_live after r ≡ true →
@@ -83,13 +83,13 @@ pub takes_lesson : (base : ℕ) (old mid assigned_w new : WatchState) (before mi
     IsPermutation lits (literals_at after r) →
     mid.levels ≡ take n old.levels → mid.lists ≡ old.lists → IfSome (slice_get old.levels n) (HasGoneBack old mid) →
     slice_get (literals_at after r) 0 ≡ Some l →
-    assigned_w ≡ assigned mid l (Some r) → HasJoined assigned_w new stock.shorts.items more.shorts.items after r →
-    more.rows.items ≡ stock.rows.items ++ rows_for id r Learnt → TakesLesson old new before after stock more id lits
-takes_lesson base old mid assigned_w new before middle after stock more id r n v lits l s b added fresh found others live ids same levels lists back
+    assigned_w ≡ assigned mid l (Some r) → HasJoined assigned_w new database.shorts.items more.shorts.items after r →
+    more.rows.items ≡ database.rows.items ++ rows_for id r Learnt → JumpsBack old new before after database more id lits
+jumps_back base old mid assigned_w new before middle after database more id r n v lits l s b added fresh found others live ids same levels lists back
     at is joined rows = record {
       taken = λ u first.
           let is_u : u ≡ negation s.point.place.literal = same_some u (negation s.point.place.literal) (sym first ∙ s.point.first) in
-          subst (HasTaken old new before after stock more id Learnt lits) (sym is_u) (record {
+          subst (HasTaken old new before after database more id Learnt lits) (sym is_u) (record {
             ref = r;
             level = n;
             end = v;

@@ -15,7 +15,7 @@ use Rattle.bs_solve_recording.specs.Values.{positive, HasValues, values_of}
 use Rattle.bs_watch.proofs.Gets.{get_left, get_last, get_map, Contains_from_get}
 use Rattle.bs_solve_recording.proofs.Solutions.{value_in_front, value_in_middle, value_behind, length_values}
 use Rattle.bs_solve.specs.Between.{AreBetween}
-use Rattle.bs_solve.proofs.Layings.{value_by_code}
+use Rattle.bs_solve.proofs.FirstLevels.{value_by_code}
 
 -- no variable
 pub between_none : (trues : List Bool) (first : ℕ) → AreBetween trues first first []

@@ -19,7 +19,7 @@ pub record AreBegun (base : ℕ) (levels : List Level) (places : List Place) : T
   pub few : length levels ≤ length places + 1
 
 -- each short clause has a true literal, on the first level where there are others
-pub record AreLaid (shorts : List ℕ) (clauses : List Held) (levels : List Level) (places : List Place) : Type 0 where
+pub record AreSatisfied (shorts : List ℕ) (clauses : List Held) (levels : List Level) (places : List Place) : Type 0 where
   pub now : (r : ℕ) → Contains shorts r → HasTrue (literals_of places) (literals_at clauses r)
   pub below : (r : ℕ) (v : Level) → Contains shorts r → slice_get levels 1 ≡ Some v →
       HasTrue (literals_of (take v.start places)) (literals_at clauses r)

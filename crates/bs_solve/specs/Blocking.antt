@@ -7,15 +7,15 @@ use Rattle.bs_watch.specs.Trail.{IsFalseOn, IsOpenOn}
 use Rattle.bs_watch.specs.Places.{Place, literals_of, IsOnLevel}
 use Rattle.bs_watch.specs.Choice.{AreHighest}
 use Rattle.bs_watch.specs.Watch.{WatchState}
-use Rattle.bs_solve_recording.specs.Book.{Book}
+use Rattle.bs_solve_recording.specs.ProofLog.{ProofLog}
 use Rattle.bs_solve_recording.specs.Search.{assumed}
 use Rattle.bs_solve.specs.declared.blocking.Retreat.{Retreat}
-use Rattle.bs_solve.specs.declared.blocking.Retreat.TheVariants.{Bottom, Forced, Open}
+use Rattle.bs_solve.specs.declared.blocking.Retreat.TheVariants.{Bottom, Implied, Open}
 use Rattle.bs_log.specs.declared.origin.Origin.TheVariants.{Blocked}
 use Rattle.bs_log.specs.Refusal.{entry_of}
-use Rattle.bs_solve.specs.declared.stock.Stock.{Stock}
-use Rattle.bs_solve.specs.Stock.{entries, HasJoined}
-use Rattle.bs_solve.specs.Lesson.{IsOpenYet}
+use Rattle.bs_solve.specs.declared.database.Database.{Database}
+use Rattle.bs_solve.specs.Database.{entries, HasJoined}
+use Rattle.bs_solve.specs.Backjump.{IsOpenYet}
 use Rattle.bs_solve.specs.Pausing.{IsKept}
 
 -- the first two literals are those that became false last
@@ -35,17 +35,17 @@ pub record AreLast (places : List Place) (c : Clause) : Type 0 where
 -- a retreat for two levels: the lower one, where it is lower; the one before the higher one, where it is not
 abbrev pub IsBetween : ℕ → ℕ → Retreat → Type 0
 IsBetween high low Bottom = Unit {0}
-IsBetween high low (Forced n) = (n ≡ low) × (1 ≤ n) × (n < high)
+IsBetween high low (Implied n) = (n ≡ low) × (1 ≤ n) × (n < high)
 IsBetween high low (Open n) = (1 ≤ n) × (n < high) × (n < low)
 
 -- one of the levels of the first two literals at which the clause has one open literal, or two
 abbrev pub IsRetreat : List Place → Clause → Retreat → Type 0
 IsRetreat places c Bottom = Unit {0}
-IsRetreat places c (Forced n) = (l : AreLast places c) × IsBetween l.high l.low (Forced n)
+IsRetreat places c (Implied n) = (l : AreLast places c) × IsBetween l.high l.low (Implied n)
 IsRetreat places c (Open n) = (l : AreLast places c) × IsBetween l.high l.low (Open n)
 
--- the clause forces its first literal at the end of the level, which has come, and the literal was assigned
-pub record HasForced (old new : WatchState) (clauses : List Held) (shorts more : List ℕ) (r : ℕ) : Type 0 where
+-- the clause implies its first literal at the end of the level, which has come, and the literal was assigned
+pub record HasImplied (old new : WatchState) (clauses : List Held) (shorts more : List ℕ) (r : ℕ) : Type 0 where
   pub literal : Literal
   pub level : ℕ
   pub end : Level
@@ -100,16 +100,16 @@ pub record HasEmptied (old new : WatchState) (clauses : List Held) (shorts more 
 -- the trail went back to the retreat, and the clause has joined
 abbrev pub HasGoneFor : Retreat → WatchState → WatchState → List Held → List ℕ → List ℕ → ℕ → Type 0
 HasGoneFor Bottom old new clauses shorts more r = HasEmptied old new clauses shorts more r
-HasGoneFor (Forced n) old new clauses shorts more r = HasForced old new clauses shorts more r
+HasGoneFor (Implied n) old new clauses shorts more r = HasImplied old new clauses shorts more r
 HasGoneFor (Open n) old new clauses shorts more r = HasOpened old new clauses shorts more r
 
 -- what was kept is kept with the block, wherever the old clauses stood
-pub record HasHeld (old new : WatchState) (before after : List Held) (stock more : Stock) (id : ℕ) (c : Clause) : Type 0 where
+pub record HasHeld (old new : WatchState) (before after : List Held) (database more : Database) (id : ℕ) (c : Clause) : Type 0 where
   pub vars : new.trail.vars ≡ old.trail.vars
-  pub keeps : (book other : Book) → entry_of (entries book) id ≡ None →
-      entries other ≡ entries book ++ record { id = id; origin = Blocked; literals = c } ∷ [] →
-      assumed other ≡ assumed book → IsKept book old before stock → IsKept other new after more
+  pub keeps : (proof other : ProofLog) → entry_of (entries proof) id ≡ None →
+      entries other ≡ entries proof ++ record { id = id; origin = Blocked; literals = c } ∷ [] →
+      assumed other ≡ assumed proof → IsKept proof old before database → IsKept other new after more
 
--- whatever the book
-abbrev pub IsSomeKept : WatchState → List Held → Stock → Type 0
-IsSomeKept w clauses stock = (book : Book) × IsKept book w clauses stock
+-- whatever the proof log
+abbrev pub IsSomeKept : WatchState → List Held → Database → Type 0
+IsSomeKept w clauses database = (proof : ProofLog) × IsKept proof w clauses database

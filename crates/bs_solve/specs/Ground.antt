@@ -1,4 +1,4 @@
--- What stands on the trail for good: the negations of retired guards.
+-- What stands on the trail for good: the negations of retired activation literals.
 use Rattle.std.specs.Prelude.{◌≡◌, ℕ, List, [], ◌∷◌, ◌++◌, Some, None, All, slice_get}
 use Rattle.bs_clause.specs.Literal.{Clause}
 use Rattle.bs_log.specs.declared.origin.Origin.TheVariants.{Retired}
@@ -9,10 +9,10 @@ use Rattle.bs_arena.specs.Arena.{Held, literals_at}
 use Rattle.bs_watch.specs.Trail.{IsOpenOn}
 use Rattle.bs_watch.specs.Places.{Place, literals_of}
 use Rattle.bs_watch.specs.declared.lists.Watcher.{Watcher}
-use Rattle.bs_solve.specs.declared.stock.Stock.{Stock}
-use Rattle.bs_solve.specs.Stock.{id_in, IsStocked}
+use Rattle.bs_solve.specs.declared.database.Database.{Database}
+use Rattle.bs_solve.specs.Database.{id_in, HoldsEntries}
 
--- the unit of a retired guard, which is the short clause of this number, forced the literal at the place
+-- the unit of a retired activation literal, which is the short clause of this number, implied the literal at the place
 pub record IsUnitAt (es : List Entry) (shorts : List ℕ) (clauses : List Held) (k : ℕ) (p : Place) : Type 0 where
   pub ref : ℕ
   pub entry : Entry
@@ -35,7 +35,7 @@ abbrev pub IsOwn : Problem → Type 0
 IsOwn p = All (HasVariables p.vars) p.clauses
 
 -- one more clause has come, wherever the old ones stood
-pub record HasStocked (old_lists new_lists : List (List Watcher)) (old new : List Held) (old_stock new_stock : Stock) (e : Entry) : Type 0 where
-  pub more : (es : List Entry) → entry_of es e.id ≡ None → IsStocked old_lists old old_stock es → IsStocked new_lists new new_stock (es ++ e ∷ [])
-  pub ground : (es : List Entry) → entry_of es e.id ≡ None → IsStocked old_lists old old_stock es → (places : List Place) →
-      IsGround es old_stock.shorts.items old places → IsGround (es ++ e ∷ []) new_stock.shorts.items new places
+pub record HasAdded (old_lists new_lists : List (List Watcher)) (old new : List Held) (old_database new_database : Database) (e : Entry) : Type 0 where
+  pub more : (es : List Entry) → entry_of es e.id ≡ None → HoldsEntries old_lists old old_database es → HoldsEntries new_lists new new_database (es ++ e ∷ [])
+  pub ground : (es : List Entry) → entry_of es e.id ≡ None → HoldsEntries old_lists old old_database es → (places : List Place) →
+      IsGround es old_database.shorts.items old places → IsGround (es ++ e ∷ []) new_database.shorts.items new places

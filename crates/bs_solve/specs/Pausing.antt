@@ -6,36 +6,36 @@ use Rattle.bs_watch.specs.declared.watch.Level.{Level}
 use Rattle.bs_watch.specs.Trail.{IsTrueOn}
 use Rattle.bs_watch.specs.Watch.{WatchState}
 use Rattle.bs_solve_recording.specs.Places.{AreWarranted, logged_literals}
-use Rattle.bs_solve_recording.specs.Book.{Book, standing}
+use Rattle.bs_solve_recording.specs.ProofLog.{ProofLog, standing}
 use Rattle.bs_solve_recording.specs.Search.{assumed}
 use Rattle.bs_solve_recording.specs.declared.answer.Answer.{Answer}
 use Rattle.bs_solve_recording.specs.declared.answer.Answer.TheVariants.{Found, Refuted, Spent}
-use Rattle.bs_solve.specs.declared.stock.Stock.{Stock}
+use Rattle.bs_solve.specs.declared.database.Database.{Database}
 use Rattle.bs_solve.specs.Seen.{seen}
 use Rattle.bs_solve.specs.Ground.{IsOff}
 use Rattle.bs_solve.specs.Running.{IsRunning}
-use Rattle.bs_solve.specs.Teaching.{IsAtRest}
+use Rattle.bs_solve.specs.Learning.{IsAtRest}
 
 -- the trail is sound for the clauses that stand, and the assumptions are true on its first `base` places
-pub record IsPaused (base : ℕ) (book : Book) (w : WatchState) (clauses : List Held) (stock : Stock) : Type 0 where
-  pub running : IsRunning base book w clauses stock
-  pub sound : AreWarranted (standing book) base (assumed book) (seen w.trail.places)
-  pub given : All (IsTrueOn (logged_literals (take base (seen w.trail.places)))) (assumed book)
+pub record IsPaused (base : ℕ) (proof : ProofLog) (w : WatchState) (clauses : List Held) (database : Database) : Type 0 where
+  pub running : IsRunning base proof w clauses database
+  pub sound : AreWarranted (standing proof) base (assumed proof) (seen w.trail.places)
+  pub given : All (IsTrueOn (logged_literals (take base (seen w.trail.places)))) (assumed proof)
   pub low : base ≤ length w.trail.places
 
 -- whatever the length of the first level
-abbrev pub IsSomePause : Book → WatchState → List Held → Stock → Type 0
-IsSomePause book w clauses stock = (base : ℕ) × IsPaused base book w clauses stock
+abbrev pub IsSomePause : ProofLog → WatchState → List Held → Database → Type 0
+IsSomePause proof w clauses database = (base : ℕ) × IsPaused base proof w clauses database
 
 -- nothing is assigned, or the search waits
-abbrev pub IsKept : Book → WatchState → List Held → Stock → Type 0
-IsKept book w clauses stock = IsAtRest book w clauses stock ⊎ IsSomePause book w clauses stock
+abbrev pub IsKept : ProofLog → WatchState → List Held → Database → Type 0
+IsKept proof w clauses database = IsAtRest proof w clauses database ⊎ IsSomePause proof w clauses database
 
 -- how a search leaves its trail: where values were found, for the next solve of the step
-abbrev pub IsLeft : Answer → Book → WatchState → List Held → Stock → Type 0
-IsLeft (Found values) book w clauses stock = IsKept book w clauses stock
-IsLeft (Refuted id) book w clauses stock = IsAtRest book w clauses stock
-IsLeft Spent book w clauses stock = IsAtRest book w clauses stock
+abbrev pub IsLeft : Answer → ProofLog → WatchState → List Held → Database → Type 0
+IsLeft (Found values) proof w clauses database = IsKept proof w clauses database
+IsLeft (Refuted id) proof w clauses database = IsAtRest proof w clauses database
+IsLeft Spent proof w clauses database = IsAtRest proof w clauses database
 
 -- no variable of the clause stands for good
 pub record IsGrounded (w : WatchState) (c : Clause) : Type 0 where
@@ -45,4 +45,4 @@ pub record IsGrounded (w : WatchState) (c : Clause) : Type 0 where
 -- what was kept is at rest, and the variables are the same
 pub record GoesToRest (old new : WatchState) : Type 0 where
   pub vars : new.trail.vars ≡ old.trail.vars
-  pub keeps : (book : Book) (clauses : List Held) (stock : Stock) → IsKept book old clauses stock → IsAtRest book new clauses stock
+  pub keeps : (proof : ProofLog) (clauses : List Held) (database : Database) → IsKept proof old clauses database → IsAtRest proof new clauses database

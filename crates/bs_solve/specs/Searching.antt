@@ -11,54 +11,54 @@ use Rattle.bs_watch.specs.Scene.{Advances, Propagated}
 use Rattle.bs_watch.specs.Watch.{WatchState, Serves, KeepsService, decided, assigned, scene}
 use Rattle.bs_solve_analysis.specs.Reasons.{IsReasoned, IsConflictAt}
 use Rattle.bs_solve_recording.specs.Places.{AreWarranted}
-use Rattle.bs_solve_recording.specs.Point.{AreForced}
-use Rattle.bs_solve_recording.specs.Book.{Book, standing}
+use Rattle.bs_solve_recording.specs.Point.{AreImplied}
+use Rattle.bs_solve_recording.specs.ProofLog.{ProofLog, standing}
 use Rattle.bs_solve_recording.specs.declared.answer.Answer.{Answer}
 use Rattle.bs_solve_recording.specs.Search.{assumed, HasRefuted}
 use Rattle.bs_solve_recording.specs.Ending.{Ends}
 use Rattle.bs_solve_recording.specs.Values.{AreAssigned}
-use Rattle.bs_solve.specs.Stock.{IsStocked, entries}
+use Rattle.bs_solve.specs.Database.{HoldsEntries, entries}
 use Rattle.bs_solve.specs.Ground.{IsGround}
-use Rattle.bs_solve.specs.declared.stock.Stock.{Stock}
+use Rattle.bs_solve.specs.declared.database.Database.{Database}
 use Rattle.bs_solve.specs.Seen.{seen}
-use Rattle.bs_solve.specs.Running.{InTurn}
-use Rattle.bs_solve.specs.Teaching.{IsAtRest}
+use Rattle.bs_solve.specs.Running.{InRound}
+use Rattle.bs_solve.specs.Learning.{IsAtRest}
 use Rattle.bs_solve.specs.Pausing.{IsLeft}
 
 -- a trail of one level that makes a clause false
-pub record IsFirstConflict (base : ℕ) (book : Book) (w : WatchState) (clauses : List Held) (stock : Stock) (conflict : ℕ) : Type 0 where
-  pub stocked : IsStocked w.lists clauses stock (entries book)
+pub record IsFirstConflict (base : ℕ) (proof : ProofLog) (w : WatchState) (clauses : List Held) (database : Database) (conflict : ℕ) : Type 0 where
+  pub holds_entries : HoldsEntries w.lists clauses database (entries proof)
   pub serves : Serves w clauses
   pub reasoned : IsReasoned clauses w.trail.places
-  pub sound : AreWarranted (standing book) base (assumed book) (seen w.trail.places)
-  pub forced : AreForced (seen w.trail.places) base
-  pub range : All (HasVariables w.trail.vars) (standing book)
-  pub distinct : All (λ c. has_distinct_variables c ≡ true) (standing book)
+  pub sound : AreWarranted (standing proof) base (assumed proof) (seen w.trail.places)
+  pub implied : AreImplied (seen w.trail.places) base
+  pub range : All (HasVariables w.trail.vars) (standing proof)
+  pub distinct : All (λ c. has_distinct_variables c ≡ true) (standing proof)
   pub clash : IsConflictAt clauses (literals_of w.trail.places) conflict
   pub some : 1 ≤ length w.levels
-  pub ground : (v : Level) → slice_get w.levels 0 ≡ Some v → IsGround (entries book) stock.shorts.items clauses (take v.start w.trail.places)
+  pub ground : (v : Level) → slice_get w.levels 0 ≡ Some v → IsGround (entries proof) database.shorts.items clauses (take v.start w.trail.places)
 
 -- an assumption whose negation stands for good
-pub record IsDenial (book : Book) (w : WatchState) (clauses : List Held) (stock : Stock) (denied : Literal) : Type 0 where
-  pub stocked : IsStocked w.lists clauses stock (entries book)
+pub record IsFailedAssumption (proof : ProofLog) (w : WatchState) (clauses : List Held) (database : Database) (denied : Literal) : Type 0 where
+  pub holds_entries : HoldsEntries w.lists clauses database (entries proof)
   pub serves : Serves w clauses
   pub level : Level
   pub levels : w.levels ≡ level ∷ []
-  pub ground : IsGround (entries book) stock.shorts.items clauses (take level.start w.trail.places)
+  pub ground : IsGround (entries proof) database.shorts.items clauses (take level.start w.trail.places)
   pub at : ℕ
   pub place : Place
   pub there : slice_get (take level.start w.trail.places) at ≡ Some place
   pub is : place.literal ≡ negation denied
-  pub assumes : Contains (assumed book) denied
-  pub range : All (HasVariables w.trail.vars) (standing book)
+  pub assumes : Contains (assumed proof) denied
+  pub range : All (HasVariables w.trail.vars) (standing proof)
 
 -- whatever the length of the first level
-abbrev pub IsSomeFirstConflict : Book → WatchState → List Held → Stock → ℕ → Type 0
-IsSomeFirstConflict book w clauses stock conflict = (base : ℕ) × IsFirstConflict base book w clauses stock conflict
+abbrev pub IsSomeFirstConflict : ProofLog → WatchState → List Held → Database → ℕ → Type 0
+IsSomeFirstConflict proof w clauses database conflict = (base : ℕ) × IsFirstConflict base proof w clauses database conflict
 
-abbrev pub IsSomeTurn : Book → ℕ → ℕ → ℕ → Book → WatchState → List Held → Stock → Outcome → Type 0
-IsSomeTurn old vars conflicts limit book w clauses stock outcome =
-    (base : ℕ) × InTurn old vars base conflicts limit book w clauses stock outcome
+abbrev pub IsSomeRound : ProofLog → ℕ → ℕ → ℕ → ProofLog → WatchState → List Held → Database → Outcome → Type 0
+IsSomeRound old vars conflicts limit proof w clauses database outcome =
+    (base : ℕ) × InRound old vars base conflicts limit proof w clauses database outcome
 
 -- an open literal was assumed on a new level
 pub record HasDecided (old new : WatchState) : Type 0 where
@@ -72,7 +72,7 @@ abbrev pub Decides : WatchState → WatchState → Bool → Type 0
 Decides old new true = HasDecided old new
 Decides old new false = (new ≡ old) × AreAssigned (literals_of old.trail.places) old.trail.vars
 
--- what was forced has been assigned, until no clause is unit, or one is false
+-- what was implied has been assigned, until no clause is unit, or one is false
 pub record HasPropagated (old new : WatchState) (before after : List Held) (outcome : Outcome) : Type 0 where
   pub advances : Advances (length old.levels) (scene old before) (scene new after)
   pub levels : new.levels ≡ old.levels
@@ -82,15 +82,15 @@ pub record HasPropagated (old new : WatchState) (before after : List Held) (outc
   pub ends : Propagated (scene new after) outcome
 
 -- the search has ended, and its trail stays where it found values
-pub record IsOver (old new : Book) (vars limit : ℕ) (w : WatchState) (clauses : List Held) (stock : Stock) (answer : Answer) : Type 0 where
+pub record IsOver (old new : ProofLog) (vars limit : ℕ) (w : WatchState) (clauses : List Held) (database : Database) (answer : Answer) : Type 0 where
   pub ends : Ends old new vars limit answer
-  pub left : IsLeft answer new w clauses stock
+  pub left : IsLeft answer new w clauses database
   pub vars_is : w.trail.vars ≡ vars
   pub range : All (HasVariables vars) (standing new)
   pub distinct : All (λ c. has_distinct_variables c ≡ true) (standing new)
 
 -- the lemma of the id ends the step, and nothing is assigned
-pub record HasEndedBy (old new : Book) (vars : ℕ) (w : WatchState) (clauses : List Held) (stock : Stock) (id : ℕ) : Type 0 where
+pub record HasEndedBy (old new : ProofLog) (vars : ℕ) (w : WatchState) (clauses : List Held) (database : Database) (id : ℕ) : Type 0 where
   pub refuted : HasRefuted old new id
-  pub rest : IsAtRest new w clauses stock
+  pub rest : IsAtRest new w clauses database
   pub vars_is : w.trail.vars ≡ vars

@@ -6,7 +6,7 @@ use Rattle.bs_watch.specs.Places.{Place}
 use Rattle.bs_solve_recording.specs.Place.{LoggedPlace}
 
 abbrev pub seen_place : Place → LoggedPlace
-seen_place p = record { literal = p.literal; forced = is_some p.reason }
+seen_place p = record { literal = p.literal; implied = is_some p.reason }
 
 abbrev pub seen : List Place → List LoggedPlace
 seen places = map seen_place places

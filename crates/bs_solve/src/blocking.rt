@@ -7,11 +7,11 @@ ghost use Rattle.bs_watch.specs.Scene.{IsWatchable};
 ghost use Rattle.bs_watch.specs.Lists.{IsAttached};
 ghost use Rattle.bs_watch.specs.Watch.{Serves};
 ghost use Rattle.bs_solve.specs.Pausing.{IsGrounded};
-ghost use Rattle.bs_solve.specs.Blocking.{IsBetween, IsRetreat, HasForced, HasOpened, HasEmptied, HasGoneFor, HasHeld, IsSomeKept};
-ghost use Rattle.bs_solve.specs.declared.blocking.Retreat.TheVariants.{Forced as ForcedRetreat, Open as OpenRetreat};
+ghost use Rattle.bs_solve.specs.Blocking.{IsBetween, IsRetreat, HasImplied, HasOpened, HasEmptied, HasGoneFor, HasHeld, IsSomeKept};
+ghost use Rattle.bs_solve.specs.declared.blocking.Retreat.TheVariants.{Implied as ImpliedRetreat, Open as OpenRetreat};
 
 use crate::reading::{clause_len, literal_in};
-use crate::stock::{Stock, join, note};
+use crate::database::{Database, join, note};
 use crate::value::is_true;
 use bs_arena::{Arena, Ref};
 use bs_clause::{Lit, NoMemory};
@@ -22,7 +22,7 @@ use bs_watch::Watch;
 /// else false ones, or of one at which it has two open literals.
 pub enum Retreat {
     Bottom,
-    Forced(u32),
+    Implied(u32),
     Open(u32),
 }
 
@@ -34,7 +34,7 @@ fn retreat_between(high: u32, low: u32) -> Retreat
         return Retreat::Bottom;
     }
     if low < high {
-        return Retreat::Forced(low);
+        return Retreat::Implied(low);
     }
     if high < 2 {
         return Retreat::Bottom;
@@ -67,7 +67,7 @@ fn retreat_of(watch: &Watch, arena: &mut Arena, r: Ref) -> Retreat
 }
 
 // Goes back to the end of the level, assigns the clause's first literal, and attaches the clause.
-fn force_at(
+fn imply_at(
     watch: &mut Watch,
     arena: &Arena,
     shorts: &mut Vec<Ref>,
@@ -78,8 +78,8 @@ fn force_at(
     requires live { IsSome (held_at arena.now.clauses r) }
     requires watchable { 2 ≤ length (literals_at arena.now.clauses r) → IsWatchable watch.old.trail.vars (literals_at arena.now.clauses r) }
     requires fresh { ¬ IsAttached watch.old.lists r }
-    requires retreat { IsRetreat watch.old.trail.places (literals_at arena.now.clauses r) (ForcedRetreat level) }
-    ensures { OnOk result (HasForced watch.old watch.new arena.now.clauses shorts.old.items shorts.new.items r) }
+    requires retreat { IsRetreat watch.old.trail.places (literals_at arena.now.clauses r) (ImpliedRetreat level) }
+    ensures { OnOk result (HasImplied watch.old watch.new arena.now.clauses shorts.old.items shorts.new.items r) }
 {
     watch.holds_levels();
     watch.cancel_to(level);
@@ -150,8 +150,8 @@ fn join_back(
             join_at_bottom(watch, arena, shorts, r)?;
             Ok(())
         }
-        Retreat::Forced(level) => {
-            force_at(watch, arena, shorts, r, level)?;
+        Retreat::Implied(level) => {
+            imply_at(watch, arena, shorts, r, level)?;
             Ok(())
         }
         Retreat::Open(level) => {
@@ -166,19 +166,19 @@ fn join_back(
 pub fn add_between(
     watch: &mut Watch,
     arena: &mut Arena,
-    stock: &mut Stock,
+    database: &mut Database,
     id: u64,
     lits: &[Lit],
 ) -> Result<(), NoMemory>
-    requires kept { IsSomeKept watch.old arena.old.clauses stock.old }
+    requires kept { IsSomeKept watch.old arena.old.clauses database.old }
     requires ground { IsGrounded watch.old lits.now }
     requires range { HasVariables watch.old.trail.vars lits.now }
     requires distinct { has_distinct_variables lits.now ≡ true }
-    ensures { OnOk result (HasHeld watch.old watch.new arena.old.clauses arena.new.clauses stock.old stock.new id lits.now) }
+    ensures { OnOk result (HasHeld watch.old watch.new arena.old.clauses arena.new.clauses database.old database.new id lits.now) }
 {
     let r = arena.add(id, lits)?;
     let retreat = retreat_of(watch, arena, r);
-    join_back(watch, arena, &mut stock.shorts, r, retreat)?;
-    note(&mut stock.rows, id, r, Origin::Blocked)?;
+    join_back(watch, arena, &mut database.shorts, r, retreat)?;
+    note(&mut database.rows, id, r, Origin::Blocked)?;
     Ok(())
 }

@@ -1,11 +1,11 @@
-//! The unit of a retired guard comes, and its literal stands for good.
+//! The unit of a retired activation literal comes, and its literal stands for good.
 ghost use Rattle.std.specs.Prelude.{◌≡◌, ◌+◌, ◌<◌, ◌≤◌, length, slice_set, OnOk};
 ghost use Rattle.bs_arena.specs.Arena.{live_words};
 ghost use Rattle.bs_watch.specs.Places.{IsUnassigned};
 ghost use Rattle.bs_watch.specs.Watch.{Serves};
 ghost use Rattle.bs_solve.specs.Retiring.{IsPut, HasRetired};
 
-use crate::stock::Stock;
+use crate::database::Database;
 use bs_arena::{Arena, Ref};
 use bs_clause::{Lit, NoMemory};
 use bs_watch::Watch;
@@ -33,24 +33,24 @@ fn put_in(refs: &mut Vec<Ref>, at: usize, r: Ref) -> Result<(), NoMemory>
     Ok(())
 }
 
-/// Adds the unit of a retired guard, whose literal is true from then on: it stands behind those that do, and no level undoes it.
-/// Where nobody watches the guard, no later propagation looks at it.
+/// Adds the unit of a retired activation literal, whose literal is true from then on: it stands behind those that do, and no level undoes it.
+/// Where nobody watches the activation literal, no later propagation looks at it.
 pub fn retire(
     watch: &mut Watch,
     arena: &mut Arena,
-    stock: &mut Stock,
+    database: &mut Database,
     id: u64,
     unit: Lit,
 ) -> Result<(), NoMemory>
     requires serves { Serves watch.old arena.old.clauses }
-    requires low { length watch.old.trail.places ≤ length stock.old.shorts.items }
+    requires low { length watch.old.trail.places ≤ length database.old.shorts.items }
     requires free { IsUnassigned watch.old.trail unit }
-    ensures retired { OnOk result (HasRetired watch.old watch.new arena.old.clauses arena.new.clauses stock.old stock.new id unit) }
+    ensures retired { OnOk result (HasRetired watch.old watch.new arena.old.clauses arena.new.clauses database.old database.new id unit) }
     ensures words { OnOk result (arena.new.words + live_words arena.old.clauses ≡ arena.old.words + live_words arena.new.clauses) }
 {
     let stand = watch.trail().len();
     let r = arena.add(id, &[unit])?;
-    put_in(&mut stock.shorts, stand, r)?;
+    put_in(&mut database.shorts, stand, r)?;
     watch.assign(unit, Some(r));
     watch.pass();
     Ok(())

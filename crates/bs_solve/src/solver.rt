@@ -1,34 +1,34 @@
 //! An incremental solver that logs what it learns: clauses stay from one step to the next.
 ghost use Rattle.std.specs.Prelude.{◌≡◌, ◌⊎◌, ◌+◌, ◌*◌, ◌^◌, ◌<◌, ◌≤◌, [], true, false, All, IfOk, IfErr, IfSome};
-ghost use Rattle.bs_log.specs.History.{step_of, guard_of, live};
+ghost use Rattle.bs_log.specs.History.{step_of, activation_of, live};
 ghost use Rattle.bs_log.specs.Refusal.{has_distinct_variables, history_of, NoneRefused, IsAccepted};
 ghost use Rattle.bs_log.specs.Lean.{LemmasAreLean, StepsLeaveKept};
 ghost use Rattle.bs_log.specs.LineForms.{HasText};
 ghost use Rattle.bs_solve_recording.specs.declared.stage.Stage.TheVariants.{Idle, Begun, Solved, Ended};
 ghost use Rattle.bs_clause.specs.Range.{HasVariables};
-ghost use Rattle.bs_solve_recording.specs.Book.{standing, lemma_ids};
+ghost use Rattle.bs_solve_recording.specs.ProofLog.{standing, lemma_ids};
 ghost use Rattle.bs_solve_recording.specs.Stages.{is_begun, is_solved};
 ghost use Rattle.bs_solve_recording.specs.Solver.{MaySolve, HasSolved, HasBlocked, HasEnded, Follows, finished};
 ghost use Rattle.bs_arena.specs.Arena.{live_words};
 ghost use Rattle.bs_solve.specs.Opening.{HasOpened};
-ghost use Rattle.bs_solve.specs.Denying.{Denies, HasDenied};
+ghost use Rattle.bs_solve.specs.Failure.{FailsBy, HasDenied};
 ghost use Rattle.bs_solve.specs.Starting.{HoldsStanding};
 
 use crate::blocking::add_between;
-use crate::denying::{Denial, end_by};
-use crate::dropping::Known;
+use crate::failure::{FailedAssumption, end_by};
+use crate::dropping::CountedRows;
 use crate::ending::{prepare, settle};
 use crate::pausing::rest;
 use crate::starting::{filled, grow_to};
-use crate::stock::Stock;
-use crate::turning::search;
+use crate::database::Database;
+use crate::cdcl::search;
 use bs_arena::{Arena, Renaming};
 use bs_bits::List;
 use bs_clause::{Clauses, Lit, Lits, NoMemory, Var};
 use bs_log::Log;
 use bs_solve_analysis::Marks;
 use bs_solve_recording::{Answer, Recording, Stage, begin_solve, finish, guarded, is_begun, stage_after};
-use bs_solve_reduction::Guards;
+use bs_solve_reduction::Activations;
 use bs_watch::Watch;
 use std::alloc::Global;
 use std::marker::Model;
@@ -37,14 +37,14 @@ use std::marker::Model;
 /// a call has answered out of memory; each later call that can answers it again.
 #[derive(Drop)]
 pub struct Solver {
-    book: Recording,
+    proof: Recording,
     watch: Watch,
     arena: Arena,
-    stock: Stock,
+    database: Database,
     marks: Marks,
     renaming: Renaming,
     own: u32,
-    known: Known,
+    known: CountedRows,
     vars: u32,
     stage: Stage,
     failed: bool,
@@ -56,9 +56,9 @@ impl Model for Solver {
 
     ghost Value = { SolverState };
 
-    ghost view = { λ s. record { book = s.book; vars = s.vars; stage = s.stage; failed = s.failed } };
+    ghost view = { λ s. record { proof = s.proof; vars = s.vars; stage = s.stage; failed = s.failed } };
 
-    ghost invariant = { λ s. IsEngine (record { book = s.book; vars = s.vars; stage = s.stage; failed = s.failed }) s.watch s.arena s.stock s.marks s.own s.known };
+    ghost invariant = { λ s. IsEngine (record { proof = s.proof; vars = s.vars; stage = s.stage; failed = s.failed }) s.watch s.arena s.database s.marks s.own s.known };
 }
 
 impl Solver {
@@ -68,7 +68,7 @@ impl Solver {
         requires distinct { All (λ c. has_distinct_variables c ≡ true) axioms }
         requires vars { vars < 2 ^ 30 }
         ensures { IfOk result (λ s. s ≡ record {
-          book = record { problem = record { vars = vars; clauses = axioms; steps = [] }; history = [] };
+          proof = record { problem = record { vars = vars; clauses = axioms; steps = [] }; history = [] };
           vars = vars;
           stage = Idle;
           failed = false;
@@ -84,7 +84,7 @@ impl Solver {
         requires distinct { All (λ c. has_distinct_variables c ≡ true) axioms.now }
         requires vars { vars < 2 ^ 30 }
         ensures { IfOk result (λ s. s ≡ record {
-          book = record { problem = record { vars = vars; clauses = axioms.now; steps = [] }; history = [] };
+          proof = record { problem = record { vars = vars; clauses = axioms.now; steps = [] }; history = [] };
           vars = vars;
           stage = Idle;
           failed = false;
@@ -92,29 +92,29 @@ impl Solver {
     {
         let marks = Marks::new(alloc, vars)?;
         let filled = filled(alloc, vars, axioms.slice())?;
-        let book = Recording::new(alloc, vars, axioms);
+        let proof = Recording::new(alloc, vars, axioms);
         Ok(Solver {
-            book,
+            proof,
             watch: filled.watch,
             arena: filled.arena,
-            stock: filled.stock,
+            database: filled.database,
             marks,
             renaming: Renaming::new(alloc),
             own: vars,
-            known: Known { rows: 0, long: 0 },
+            known: CountedRows { rows: 0, long: 0 },
             vars,
             stage: Stage::Idle,
             failed: false,
         })
     }
 
-    /// Begins a step, and gives its guard, a new variable.
+    /// Begins a step, and gives its activation literal, a new variable.
     pub fn begin_step(&mut self) -> Result<Lit, NoMemory>
         requires stage { self.old.failed ≡ false → self.old.stage ≡ Idle }
         requires room { self.old.vars + 1 < 2 ^ 30 }
         ensures well { IfOk result (λ _. self.old.failed ≡ false) }
-        ensures guard { IfOk result (λ guard. guard ≡ guard_of self.old.book.problem (step_of self.old.book.history)) }
-        ensures ok { IfOk result (λ _. self.new ≡ record { book = self.old.book; vars = self.old.vars + 1; stage = Begun; failed = false }) }
+        ensures activation { IfOk result (λ activation. activation ≡ activation_of self.old.proof.problem (step_of self.old.proof.history)) }
+        ensures ok { IfOk result (λ _. self.new ≡ record { proof = self.old.proof; vars = self.old.vars + 1; stage = Begun; failed = false }) }
         ensures err { IfErr result (λ _. (self.old.failed ≡ true) × (self.new ≡ self.old)) }
     {
         let failed = self.failed;
@@ -139,21 +139,21 @@ impl Solver {
         requires distinct { has_distinct_variables assumptions.now ≡ true }
         requires limit { 1 ≤ limit }
         ensures ok { IfOk result (HasSolved self.old self.new assumptions.now limit) }
-        ensures lines { Follows (is_begun self.old.stage) self.old.book self.new.book assumptions.now }
+        ensures lines { Follows (is_begun self.old.stage) self.old.proof self.new.proof assumptions.now }
         ensures err { IfErr result (λ _. self.new.failed ≡ true) }
     {
         if self.failed {
             return Err(NoMemory);
         }
         self.failed = true;
-        begin_solve(alloc, &mut self.book, is_begun(self.stage), assumptions)?;
+        begin_solve(alloc, &mut self.proof, is_begun(self.stage), assumptions)?;
         grow_to(alloc, &mut self.watch, &mut self.marks, self.vars)?;
         let answer = search(
             alloc,
-            &mut self.book,
+            &mut self.proof,
             &mut self.watch,
             &mut self.arena,
-            &mut self.stock,
+            &mut self.database,
             &mut self.marks,
             assumptions.slice(),
             limit,
@@ -169,29 +169,29 @@ impl Solver {
         &mut self,
         alloc: Global,
         assumptions: &Lits,
-        denial: Denial,
+        failed_assumption: FailedAssumption,
     ) -> Result<u64, NoMemory>
         requires stage { MaySolve self.old assumptions.now }
         requires first { self.old.failed ≡ false → self.old.stage ≡ Begun }
-        requires denial { Denies self.old.book.problem.clauses assumptions.now denial }
+        requires failed_assumption { FailsBy self.old.proof.problem.clauses assumptions.now failed_assumption }
         ensures ok { IfOk result (HasDenied self.old self.new assumptions.now) }
-        ensures lines { Follows (is_begun self.old.stage) self.old.book self.new.book assumptions.now }
+        ensures lines { Follows (is_begun self.old.stage) self.old.proof self.new.proof assumptions.now }
         ensures err { IfErr result (λ _. self.new.failed ≡ true) }
     {
         if self.failed {
             return Err(NoMemory);
         }
         self.failed = true;
-        begin_solve(alloc, &mut self.book, is_begun(self.stage), assumptions)?;
+        begin_solve(alloc, &mut self.proof, is_begun(self.stage), assumptions)?;
         grow_to(alloc, &mut self.watch, &mut self.marks, self.vars)?;
-        let _ = self.book.log();
+        let _ = self.proof.log();
         let id = end_by(
-            &mut self.book,
+            &mut self.proof,
             &mut self.watch,
             &mut self.arena,
-            &mut self.stock,
-            denial.lits,
-            denial.hints,
+            &mut self.database,
+            failed_assumption.lits,
+            failed_assumption.hints,
         )?;
         self.stage = Stage::Ended(id);
         self.failed = false;
@@ -202,88 +202,88 @@ impl Solver {
     pub fn solve_unsearched(&mut self, alloc: Global, assumptions: &Lits) -> Result<(), NoMemory>
         requires stage { MaySolve self.old assumptions.now }
         ensures ok { IfOk result (λ _. HasOpened self.old self.new assumptions.now) }
-        ensures lines { Follows (is_begun self.old.stage) self.old.book self.new.book assumptions.now }
+        ensures lines { Follows (is_begun self.old.stage) self.old.proof self.new.proof assumptions.now }
         ensures err { IfErr result (λ _. self.new.failed ≡ true) }
     {
         if self.failed {
             return Err(NoMemory);
         }
         self.failed = true;
-        begin_solve(alloc, &mut self.book, is_begun(self.stage), assumptions)?;
+        begin_solve(alloc, &mut self.proof, is_begun(self.stage), assumptions)?;
         grow_to(alloc, &mut self.watch, &mut self.marks, self.vars)?;
         self.stage = Stage::Solved;
         self.failed = false;
         Ok(())
     }
 
-    /// Keeps a solution from coming again in this step: adds the clause of the negated guard and these literals. It
+    /// Keeps a solution from coming again in this step: adds the clause of the negated activation literal and these literals. It
     /// answers the clause's id.
     pub fn block(&mut self, alloc: Global, lits: &Lits) -> Result<u64, NoMemory>
         requires stage { self.old.failed ≡ false → self.old.stage ≡ Solved }
-        requires range { HasVariables self.old.book.problem.vars lits.now }
+        requires range { HasVariables self.old.proof.problem.vars lits.now }
         requires distinct { has_distinct_variables lits.now ≡ true }
         ensures ok { IfOk result (HasBlocked self.old self.new lits.now) }
-        ensures err { IfErr result (λ _. (self.new.failed ≡ true) × (self.new.book ≡ self.old.book)) }
+        ensures err { IfErr result (λ _. (self.new.failed ≡ true) × (self.new.proof ≡ self.old.proof)) }
     {
         if self.failed {
             return Err(NoMemory);
         }
         self.failed = true;
         let clause = guarded(alloc, Lit::new(Var(self.vars), false), lits.slice())?;
-        let next = self.book.next_id()?;
+        let next = self.proof.next_id()?;
         add_between(
             &mut self.watch,
             &mut self.arena,
-            &mut self.stock,
+            &mut self.database,
             next,
             clause.slice(),
         )?;
-        let id = self.book.log_block(clause)?;
+        let id = self.proof.log_block(clause)?;
         self.stage = Stage::Blocked;
         self.failed = false;
         Ok(id)
     }
 
-    /// Ends the step: logs the lemma that ends it, if there is one, that its guard is retired, and that what is not kept goes,
-    /// if anything is not: the blocks, each lemma that names a retired guard, and of the long lemmas all but the newest.
+    /// Ends the step: logs the lemma that ends it, if there is one, that its activation literal is retired, and that what is not kept goes,
+    /// if anything is not: the blocks, each lemma that names a retired activation literal, and of the long lemmas all but the newest.
     pub fn end_step(&mut self, alloc: Global, end: Option<u64>) -> Result<(), NoMemory>
         requires stage { self.old.failed ≡ false → is_solved self.old.stage ≡ true }
         requires end { IfSome end (λ id. self.old.failed ≡ false → self.old.stage ≡ Ended id) }
         ensures ok { IfOk result (λ _. HasEnded self.old self.new end) }
         ensures err { IfErr result (λ _. self.new.failed ≡ true) }
-        ensures lines { IfErr result (λ _. (self.new.book ≡ self.old.book) ⊎ (self.new.book ≡ finished self.old.book end)) }
+        ensures lines { IfErr result (λ _. (self.new.proof ≡ self.old.proof) ⊎ (self.new.proof ≡ finished self.old.proof end)) }
     {
         if self.failed {
             return Err(NoMemory);
         }
         self.failed = true;
         rest(&mut self.watch);
-        let guard = Lit::new(Var(self.vars), true);
-        let guards = Guards {
+        let activation = Lit::new(Var(self.vars), true);
+        let activations = Activations {
             own: self.own,
             steps: self.vars - self.own,
         };
         let leaving = prepare(
             alloc,
-            &self.book,
+            &self.proof,
             &mut self.watch,
             &mut self.arena,
             &mut self.renaming,
-            &mut self.stock,
-            guards,
+            &mut self.database,
+            activations,
             self.known,
-            guard,
+            activation,
         )?;
-        finish(&mut self.book, end)?;
-        self.book.holds_end(guard);
-        self.book.log_end(alloc, leaving.ids.slice())?;
+        finish(&mut self.proof, end)?;
+        self.proof.holds_end(activation);
+        self.proof.log_end(alloc, leaving.ids.slice())?;
         self.known = settle(
             &mut self.watch,
             &mut self.arena,
             &mut self.renaming,
-            &mut self.stock,
+            &mut self.database,
             &leaving,
-            guards,
+            activations,
             self.known,
         );
         self.stage = Stage::Idle;
@@ -293,7 +293,7 @@ impl Solver {
 
     /// The arena of the clauses that stand. Between two steps it has at most twice the words of these.
     pub fn arena(&self) -> &Arena
-        ensures standing { self.now.failed ≡ false → HoldsStanding result.now.clauses (live self.now.book.problem self.now.book.history) }
+        ensures standing { self.now.failed ≡ false → HoldsStanding result.now.clauses (live self.now.proof.problem self.now.proof.history) }
         ensures words { self.now.failed ≡ false → is_solved self.now.stage ≡ false → result.now.words ≤ 2 * live_words result.now.clauses }
     {
         &self.arena
@@ -301,44 +301,44 @@ impl Solver {
 
     /// The assumptions of each step that has had a solve, in order.
     pub fn steps(&self) -> &List<Lits>
-        ensures { result.now ≡ self.now.book.problem.steps }
+        ensures { result.now ≡ self.now.proof.problem.steps }
     {
-        self.book.steps()
+        self.proof.steps()
     }
 
     /// The log. No line of it is refused for `steps`, its lemmas are lean, and each line has a text. Between two steps
     /// it is accepted, while no call has answered out of memory.
     pub fn log(&self) -> &Log
-        ensures lines { history_of result.now ≡ self.now.book.history }
-        ensures right { NoneRefused self.now.book.problem (history_of result.now) }
-        ensures lean { LemmasAreLean self.now.book.problem (history_of result.now) }
-        ensures steps { self.now.failed ≡ false → StepsLeaveKept self.now.book.problem (history_of result.now) }
+        ensures lines { history_of result.now ≡ self.now.proof.history }
+        ensures right { NoneRefused self.now.proof.problem (history_of result.now) }
+        ensures lean { LemmasAreLean self.now.proof.problem (history_of result.now) }
+        ensures steps { self.now.failed ≡ false → StepsLeaveKept self.now.proof.problem (history_of result.now) }
         ensures texts { All HasText result.now }
-        ensures accepted { self.now.failed ≡ false → self.now.stage ≡ Idle → IsAccepted self.now.book.problem result.now }
+        ensures accepted { self.now.failed ≡ false → self.now.stage ≡ Idle → IsAccepted self.now.proof.problem result.now }
     {
-        self.book.log()
+        self.proof.log()
     }
 
     /// The log, when the solver is done with. It is as `log` says.
     pub fn into_log(self) -> Log
-        ensures lines { history_of result ≡ self.book.history }
-        ensures right { NoneRefused self.book.problem (history_of result) }
-        ensures lean { LemmasAreLean self.book.problem (history_of result) }
-        ensures steps { self.failed ≡ false → StepsLeaveKept self.book.problem (history_of result) }
+        ensures lines { history_of result ≡ self.proof.history }
+        ensures right { NoneRefused self.proof.problem (history_of result) }
+        ensures lean { LemmasAreLean self.proof.problem (history_of result) }
+        ensures steps { self.failed ≡ false → StepsLeaveKept self.proof.problem (history_of result) }
         ensures texts { All HasText result }
-        ensures accepted { self.failed ≡ false → self.stage ≡ Idle → IsAccepted self.book.problem result }
+        ensures accepted { self.failed ≡ false → self.stage ≡ Idle → IsAccepted self.proof.problem result }
     {
-        self.book.into_log()
+        self.proof.into_log()
     }
 
     /// The ids of the lemmas that stand, in ascending order.
     pub fn lemma_ids(&self) -> &[u64]
-        ensures { result.now ≡ lemma_ids self.now.book }
+        ensures { result.now ≡ lemma_ids self.now.proof }
     {
-        self.book.lemma_ids()
+        self.proof.lemma_ids()
     }
 
-    /// The number of variables in use: those of `new` and the guards given so far.
+    /// The number of variables in use: those of `new` and the activation literals given so far.
     pub fn vars(&self) -> u32
         ensures { result ≡ self.now.vars }
     {

@@ -6,11 +6,11 @@ ghost use Rattle.bs_log.specs.Refusal.{has_distinct_variables};
 ghost use Rattle.bs_arena.specs.Arena.{live_words};
 ghost use Rattle.bs_watch.specs.Watch.{Serves};
 ghost use Rattle.bs_solve_analysis.specs.Marks.{IsClear};
-ghost use Rattle.bs_solve.specs.Stock.{IsStocked};
+ghost use Rattle.bs_solve.specs.Database.{HoldsEntries};
 ghost use Rattle.bs_solve.specs.Starting.{KeepsRest};
 
 use crate::room::roomy_watch;
-use crate::stock::{Stock, add_clause};
+use crate::database::{Database, add_clause};
 use bs_arena::Arena;
 use bs_clause::{Lits, NoMemory};
 use bs_log::Origin;
@@ -22,18 +22,18 @@ use std::alloc::Global;
 fn add_all(
     watch: &mut Watch,
     arena: &mut Arena,
-    stock: &mut Stock,
+    database: &mut Database,
     clauses: &[Lits],
 ) -> Result<(), NoMemory>
     requires serves { Serves watch.old arena.old.clauses }
     requires empty { watch.old.trail.places ≡ [] }
     requires none { arena.old.clauses ≡ [] }
-    requires short { stock.old.shorts.items ≡ [] }
-    requires rows { stock.old.rows.items ≡ [] }
+    requires short { database.old.shorts.items ≡ [] }
+    requires rows { database.old.rows.items ≡ [] }
     requires words { arena.old.words ≡ 0 }
     requires range { All (HasVariables watch.old.trail.vars) clauses.now }
     requires distinct { All (λ c. has_distinct_variables c ≡ true) clauses.now }
-    ensures stocked { OnOk result (IsStocked watch.new.lists arena.new.clauses stock.new (axioms_from 1 clauses.now)) }
+    ensures holds_entries { OnOk result (HoldsEntries watch.new.lists arena.new.clauses database.new (axioms_from 1 clauses.now)) }
     ensures serves { OnOk result (Serves watch.new arena.new.clauses) }
     ensures trail { OnOk result (watch.new.trail ≡ watch.old.trail) }
     ensures levels { OnOk result (watch.new.levels ≡ watch.old.levels) }
@@ -43,7 +43,7 @@ fn add_all(
         add_clause(
             watch,
             arena,
-            stock,
+            database,
             at as u64 + 1,
             clauses[at].slice(),
             Origin::Axiom,
@@ -57,7 +57,7 @@ fn add_all(
 pub struct Standing {
     pub watch: Watch,
     pub arena: Arena,
-    pub stock: Stock,
+    pub database: Database,
 }
 
 /// Clauses under the ids 1, 2, 3 and so on, over the variables 1 to `vars`, of which none has a value.
@@ -65,7 +65,7 @@ pub fn filled(alloc: Global, vars: u32, clauses: &[Lits]) -> Result<Standing, No
     requires vars { vars < 2 ^ 30 }
     requires range { All (HasVariables vars) clauses.now }
     requires distinct { All (λ c. has_distinct_variables c ≡ true) clauses.now }
-    ensures stocked { IfOk result (λ f. IsStocked f.watch.lists f.arena.clauses f.stock (axioms_from 1 clauses.now)) }
+    ensures holds_entries { IfOk result (λ f. HoldsEntries f.watch.lists f.arena.clauses f.database (axioms_from 1 clauses.now)) }
     ensures serves { IfOk result (λ f. Serves f.watch f.arena.clauses) }
     ensures trail { IfOk result (λ f. f.watch.trail ≡ record { vars = vars; places = [] }) }
     ensures levels { IfOk result (λ f. f.watch.levels ≡ []) }
@@ -73,15 +73,15 @@ pub fn filled(alloc: Global, vars: u32, clauses: &[Lits]) -> Result<Standing, No
 {
     let mut watch = roomy_watch(alloc, vars, clauses)?;
     let mut arena = Arena::new(alloc);
-    let mut stock = Stock {
+    let mut database = Database {
         shorts: Vec::new(alloc),
         rows: Vec::new(alloc),
     };
-    add_all(&mut watch, &mut arena, &mut stock, clauses)?;
+    add_all(&mut watch, &mut arena, &mut database, clauses)?;
     Ok(Standing {
         watch,
         arena,
-        stock,
+        database,
     })
 }
 

@@ -9,9 +9,9 @@ use Rattle.bs_clause.specs.Literal.{Literal, Clause}
 use Rattle.bs_arena.specs.Arena.{Held, held_at, literals_at, KeepsOthers}
 use Rattle.bs_arena.specs.Renaming.{new_name, IsRenaming}
 use Rattle.bs_arena.proofs.Lookups.{renamed_is_live}
-use Rattle.bs_watch.specs.Trail.{IsFalseOn, Forces}
+use Rattle.bs_watch.specs.Trail.{IsFalseOn, Implies}
 use Rattle.bs_watch.specs.Places.{Place, literals_of, renamed_place}
-use Rattle.bs_watch.specs.Scene.{AreShuffled, IsForced, Grows}
+use Rattle.bs_watch.specs.Scene.{AreShuffled, IsImplied, Grows}
 use Rattle.bs_watch.proofs.Gets.{none_is_not_some, same_some, get_push_cases, get_within, get_take, take_get, get_map_cases}
 use Rattle.bs_watch.proofs.Advancing.{take_front}
 use Rattle.bs_watch.proofs.Renames.{same_literals}
@@ -28,24 +28,24 @@ reasoned_take clauses places n w = record {
       let found = get_take n places k p e in
       let before = found.0 in
       let f = w.reasoned k p r found.1 is in
-      (f.0, subst (λ ps. Forces (literals_of ps) (literals_at clauses r) p.literal) (sym (take_front n k places (omega (arith, before)))) f.1);
+      (f.0, subst (λ ps. Implies (literals_of ps) (literals_at clauses r) p.literal) (sym (take_front n k places (omega (arith, before)))) f.1);
 }
 
 -- one more place, whose reason is right
 pub reasoned_push : (clauses : List Held) (places : List Place) (p : Place) → IsReasoned clauses places →
-    ((r : ℕ) → p.reason ≡ Some r → (is_some (held_at clauses r) ≡ true) × Forces (literals_of places) (literals_at clauses r) p.literal) →
+    ((r : ℕ) → p.reason ≡ Some r → (is_some (held_at clauses r) ≡ true) × Implies (literals_of places) (literals_at clauses r) p.literal) →
     IsReasoned clauses (places ++ p ∷ [])
 reasoned_push clauses places p w last = record {
   reasoned = λ k q r e is. elim (get_push_cases places p q k e) [
     | inl there ↦
         let within = get_within places k q there in
         let f = w.reasoned k q r there is in
-        (f.0, subst (λ ps. Forces (literals_of ps) (literals_at clauses r) q.literal) (sym (take-append-le k places (p ∷ []) (omega (arith, within)))) f.1)
+        (f.0, subst (λ ps. Implies (literals_of ps) (literals_at clauses r) q.literal) (sym (take-append-le k places (p ∷ []) (omega (arith, within)))) f.1)
     | inr end ↦
         let f = last r (ap (λ (x : Place). x.reason) end.1 ∙ is) in (
           f.0,
-          subst (λ ps. Forces (literals_of ps) (literals_at clauses r) q.literal) (sym (take_at places (p ∷ []) k (sym end.0)))
-              (subst (λ (x : Place). Forces (literals_of places) (literals_at clauses r) x.literal) end.1 f.1),
+          subst (λ ps. Implies (literals_of ps) (literals_at clauses r) q.literal) (sym (take_at places (p ∷ []) k (sym end.0)))
+              (subst (λ (x : Place). Implies (literals_of places) (literals_at clauses r) x.literal) end.1 f.1),
         )
   ];
 }
@@ -56,8 +56,8 @@ reasoned_free clauses places p free w = reasoned_push clauses places p w (λ r i
 
 -- ---- the clauses change
 
-pub forces_permuted : (trail : List Literal) (c d : Clause) (l : Literal) → IsPermutation c d → Forces trail c l → Forces trail d l
-forces_permuted trail c d l same f = record {
+pub implies_permuted : (trail : List Literal) (c d : Clause) (l : Literal) → IsPermutation c d → Implies trail c l → Implies trail d l
+implies_permuted trail c d l same f = record {
   stands = Contains-permutation c d l same f.stands;
   unassigned = f.unassigned;
   others = All-permutation (λ m. (m ≡ l) ⊎ IsFalseOn trail m) c d same f.others;
@@ -71,7 +71,7 @@ reasoned_respelled old new places same w = record {
   reasoned = λ k p r e is.
       let f = w.reasoned k p r e is in
       let s = same r f.0 in
-      (s.0, forces_permuted (literals_of (take k places)) (literals_at old r) (literals_at new r) p.literal s.1 f.1);
+      (s.0, implies_permuted (literals_of (take k places)) (literals_at old r) (literals_at new r) p.literal s.1 f.1);
 }
 
 pub reasoned_shuffled : (old new : List Held) (places : List Place) → AreShuffled old new → IsReasoned old places → IsReasoned new places
@@ -86,7 +86,7 @@ reasoned_kept old new places kept w = record {
       let f = w.reasoned k p r e is in
       let same = kept k p r e is in (
         ap is_some same ∙ f.0,
-        subst (λ c. Forces (literals_of (take k places)) c p.literal) (sym (ap (λ o. unwrap_or (option_map (λ (h : Held). h.literals) o) []) same)) f.1,
+        subst (λ c. Implies (literals_of (take k places)) c p.literal) (sym (ap (λ o. unwrap_or (option_map (λ (h : Held). h.literals) o) []) same)) f.1,
       );
 }
 
@@ -98,16 +98,16 @@ pub reasoned_swapped : (old new : List Held) (places : List Place) (r : ℕ) →
 reasoned_swapped old new places r others live same w = record {
   reasoned = λ k p q e is.
       let f = w.reasoned k p q e is in
-      elim (cases_eq q r) as (λ _. (is_some (held_at new q) ≡ true) × Forces (literals_of (take k places)) (literals_at new q) p.literal) [
+      elim (cases_eq q r) as (λ _. (is_some (held_at new q) ≡ true) × Implies (literals_of (take k places)) (literals_at new q) p.literal) [
         | inl one ↦ (
           ap (λ n. is_some (held_at new n)) one ∙ live,
-          subst (λ n. Forces (literals_of (take k places)) (literals_at new n) p.literal) (sym one)
-              (forces_permuted (literals_of (take k places)) (literals_at old r) (literals_at new r) p.literal same
-              (subst (λ n. Forces (literals_of (take k places)) (literals_at old n) p.literal) one f.1)),
+          subst (λ n. Implies (literals_of (take k places)) (literals_at new n) p.literal) (sym one)
+              (implies_permuted (literals_of (take k places)) (literals_at old r) (literals_at new r) p.literal same
+              (subst (λ n. Implies (literals_of (take k places)) (literals_at old n) p.literal) one f.1)),
         )
         | inr other ↦ (
           is_live_of (held_at new q) (held_at old q) (others.kept q other) f.0,
-          subst (λ c. Forces (literals_of (take k places)) c p.literal)
+          subst (λ c. Implies (literals_of (take k places)) c p.literal)
               (sym (ap (λ o. unwrap_or (option_map (λ (h : Held). h.literals) o) []) (others.kept q other))) f.1,
         )
       ];
@@ -122,12 +122,12 @@ reasoned_grows old new level a b s g w = record {
         let in_a : slice_get a k ≡ Some p = subst (λ ps. slice_get ps k ≡ Some p) g.front (take_get (length a) b k p before e) in
         let front : take k a ≡ take k b = ap (take k) (sym g.front) ∙ take_front (length a) k b (omega (arith, before)) in
         let f = (reasoned_shuffled old new a s w).reasoned k p r in_a is in
-        (f.0, subst (λ ps. Forces (literals_of ps) (literals_at new r) p.literal) front f.1)
+        (f.0, subst (λ ps. Implies (literals_of ps) (literals_at new r) p.literal) front f.1)
     | inr past ↦
-        let f : IsForced new (take k b) p = g.forced k p past e in
+        let f : IsImplied new (take k b) p = g.implied k p past e in
         let one : f.by ≡ r = same_some f.by r (sym f.reason ∙ is) in (
           ap (λ n. is_some (held_at new n)) (sym one) ∙ f.live,
-          subst (λ n. Forces (literals_of (take k b)) (literals_at new n) p.literal) one f.forces,
+          subst (λ n. Implies (literals_of (take k b)) (literals_at new n) p.literal) one f.implies,
         )
   ];
 }
@@ -152,7 +152,7 @@ reasoned_renamed old new names places renames w = record {
 }
   where
     by : (o : Option ℕ) (k : ℕ) (q : Place) (s : ℕ) (p : Place) → slice_get places k ≡ Some p → renamed_place names p ≡ q → q.reason ≡ Some s → p.reason ≡ o →
-        (is_some (held_at new s) ≡ true) × Forces (literals_of (take k (map (renamed_place names) places))) (literals_at new s) q.literal
+        (is_some (held_at new s) ≡ true) × Implies (literals_of (take k (map (renamed_place names) places))) (literals_at new s) q.literal
     by None k q s p at same is reason =
         absurd (none_is_not_some s (ap (option_map (λ r. unwrap_or (new_name names r) r)) (sym reason) ∙ ap (λ (x : Place). x.reason) same ∙ is))
     by (Some r) k q s p at same is reason =
@@ -163,7 +163,7 @@ reasoned_renamed old new names places renames w = record {
         (ap (option_map (λ x. unwrap_or (new_name names x) x)) (sym reason) ∙ ap (λ (x : Place). x.reason) same ∙ is) in
         let name : new_name names r ≡ Some s = from_some (new_name names r) r s named gives in (
           renamed_is_live old new names r s renames name,
-          subst (λ c. Forces (literals_of (take k (map (renamed_place names) places))) c q.literal) (sym (same_literals old new names r s renames name))
-              (subst (λ ls. Forces ls (literals_at old r) q.literal) (sym (renamed_literals names places k))
-              (subst (Forces (literals_of (take k places)) (literals_at old r)) (ap (λ (x : Place). x.literal) same) f.1)),
+          subst (λ c. Implies (literals_of (take k (map (renamed_place names) places))) c q.literal) (sym (same_literals old new names r s renames name))
+              (subst (λ ls. Implies ls (literals_at old r) q.literal) (sym (renamed_literals names places k))
+              (subst (Implies (literals_of (take k places)) (literals_at old r)) (ap (λ (x : Place). x.literal) same) f.1)),
         )

@@ -11,7 +11,7 @@ use Rattle.bs_clause.specs.Range.{IsWithin, HasVariables}
 use Rattle.bs_log.specs.Refusal.{has_distinct_variables}
 use Rattle.bs_arena.specs.Arena.{Held}
 use Rattle.bs_watch.specs.Places.{Place, literals_of, AreApart}
-use Rattle.bs_watch.specs.Trail.{IsFalseOn, IsConflict, Forces}
+use Rattle.bs_watch.specs.Trail.{IsFalseOn, IsConflict, Implies}
 use Rattle.bs_solve_analysis.specs.Chain.{Link, IsDenied}
 use Rattle.bs_solve_analysis.specs.Walk.{IsLearnt, IsWalk}
 use Rattle.bs_solve_analysis.specs.Marks.{MarkState, is_marked, marks_in, added, marked_with, unmarked, IsClear, AreWithin, AreTouched, HasMarked, HasTraded}
@@ -362,18 +362,18 @@ mark_step clauses places i s now hints p r c vars sound w at is there distinct r
     stepped : IsWalk clauses places i (resolvent c w.left p.literal) (hints ++ r ∷ [])
     stepped = walk_step clauses places i w.left hints p r c sound w.walk at is there distinct denied
 
-    forces : Forces (literals_of (take i places)) c p.literal
-    forces =
-        let f = (sound.placed i p at).forced r is in
-        subst (λ x. Forces (literals_of (take i places)) x p.literal) (sym f.1.is ∙ there.is) f.2
+    implies : Implies (literals_of (take i places)) c p.literal
+    implies =
+        let f = (sound.placed i p at).implied r is in
+        subst (λ x. Implies (literals_of (take i places)) x p.literal) (sym f.1.is ∙ there.is) f.2
 
     pivot_within : pivot.variable < length middle.flags
     pivot_within =
-        let within = (All-contains (IsWithin vars) c pivot range forces.stands).1 in
+        let within = (All-contains (IsWithin vars) c pivot range implies.stands).1 in
         omega (arith, within, flags, marked.length_is)
 
     reason_false : (l : Literal) → Contains c l → l ≢ p.literal → IsFalseOn (literals_of places) l
-    reason_false l in_c other = elim (All-contains (λ x. (x ≡ p.literal) ⊎ IsFalseOn (literals_of (take i places)) x) c l forces.others in_c) [
+    reason_false l in_c other = elim (All-contains (λ x. (x ≡ p.literal) ⊎ IsFalseOn (literals_of (take i places)) x) c l implies.others in_c) [
       | inl same ↦ absurd (other same)
       | inr f ↦ true_at_end (λ (x : Place). x.literal) places i (negation l) f
     ]
@@ -387,8 +387,8 @@ mark_step clauses places i s now hints p r c vars sound w at is there distinct r
         let is_l : l ≡ negation p.literal = false_same clauses places sound l (negation p.literal) l_false pivot_false same in
         elim (resolvent_cases c w.left p.literal l in_next) [
           | inr old ↦ old.1 is_l
-          | inl new ↦ forces.unassigned.0 (subst (Contains (literals_of (take i places))) (ap negation is_l ∙ negation-negation p.literal)
-              (elim (All-contains (λ x. (x ≡ p.literal) ⊎ IsFalseOn (literals_of (take i places)) x) c l forces.others new.0) [
+          | inl new ↦ implies.unassigned.0 (subst (Contains (literals_of (take i places))) (ap negation is_l ∙ negation-negation p.literal)
+              (elim (All-contains (λ x. (x ≡ p.literal) ⊎ IsFalseOn (literals_of (take i places)) x) c l implies.others new.0) [
                 | inl same_l ↦ absurd (new.1 same_l)
                 | inr f ↦ f
               ]))

@@ -1,4 +1,4 @@
--- The walk over marks to the first unique implication point, and to what no clause forced.
+-- The walk over marks to the first unique implication point, and to what no clause implied.
 use Rattle.std.proofs.Common.{◌≡◌, ◌≢◌, ℕ, suc, ◌+◌, ◌-◌, ◌<◌, ◌≤◌, arith, true, false, List, [], ◌∷◌, ◌++◌, length, take, drop, get_or, sym, ap}
 use Rattle.std.proofs.Common.{subst, ◌∙◌, inl, inr, ◌⊎◌, Some, None}
 use Rattle.std.specs.Prelude.{All, Contains, slice_get, is_some}
@@ -15,7 +15,7 @@ use Rattle.bs_solve_analysis.specs.Reasons.{live_clauses, IsSpared, AreSpared}
 use Rattle.bs_watch.specs.declared.watch.Level.{Level}
 use Rattle.bs_watch.specs.Trail.{IsFalseOn, IsConflict, IsQuiet}
 use Rattle.bs_watch.proofs.Advancing.{true_in_front, take_front}
-use Rattle.bs_solve_analysis.specs.Point.{IsFirstPoint, IsLastDecision, IsUnforced, Bypasses}
+use Rattle.bs_solve_analysis.specs.Point.{IsFirstPoint, IsLastDecision, IsReasonless, Bypasses}
 use Rattle.bs_solve_analysis.specs.Marks.{MarkState, is_marked, marks_in, IsClear, HasMarked, HasTraded}
 use Rattle.bs_watch.proofs.Gets.{same_some, get_take, take_get, Contains_from_get, get_map}
 use Rattle.bs_solve_analysis.proofs.Literals.{absent, Contains-from_has}
@@ -173,7 +173,7 @@ point_step clauses places conflict start down i vars s now hints more ahead left
     fewer many is_more v =
     let w : PointMarks clauses places conflict start (suc i) vars s hints ahead =
     subst (λ d. PointMarks clauses places conflict start d vars s hints ahead) e v in
-    let f = (sound.placed i p at).forced r is in
+    let f = (sound.placed i p at).implied r is in
     let c : Clause = f.0 in
     let at_r : literals_at clauses r ≡ c = f.1.is in
     let in_clauses : Contains (live_clauses clauses) c = live_contains clauses r c f.1 in
@@ -264,11 +264,11 @@ point_end clauses places conflict start down i vars s hints p lits sound e at on
     low : start ≤ i
     low = let h = above_start clauses places conflict start down vars s hints 1 sound w in omega (arith, h, e)
 
--- the walk to what no clause forced
+-- the walk to what no clause implied
 pub record FinalMarks (clauses : List Held) (levels : List Level) (places : List Place) (down vars : ℕ) (s : MarkState) (hints : List ℕ) : Type 0 where
   pub high : down ≤ length places
   pub walk : MarkWalk clauses places down s hints
-  pub below : All (λ m. IsFalseOn (literals_of (take down places)) m ⊎ IsUnforced places (negation m)) walk.left
+  pub below : All (λ m. IsFalseOn (literals_of (take down places)) m ⊎ IsReasonless places (negation m)) walk.left
   pub spared : (v : Level) → slice_get levels 0 ≡ Some v → IsSpared (take v.start places) walk.left
   pub flags : length s.flags ≡ vars + 1
 
@@ -282,14 +282,14 @@ final_start clauses levels places vars at c s0 s hints down sound there distinct
     (subst (λ hs. FinalMarks clauses levels places (length places) vars s hs) (sym is_hints) (record {
       high = omega arith;
       walk = first.0;
-      below = subst (All (λ m. IsFalseOn (literals_of (take (length places) places)) m ⊎ IsUnforced places (negation m))) (sym first.1)
+      below = subst (All (λ m. IsFalseOn (literals_of (take (length places) places)) m ⊎ IsReasonless places (negation m))) (sym first.1)
           (λ k d h. inl (subst (λ ps. IsFalseOn (literals_of ps) (get_or c k d)) (sym (take_all (length places) places (omega arith))) (conflict k d h)));
       spared = λ v is. subst (IsSpared (take v.start places)) (sym first.1)
           (All-contains (IsSpared (take v.start places)) (live_clauses clauses) c (spared.each v is) (live_contains clauses at c there));
       flags = marked.length_is ∙ clear.length_is;
     }))
 
--- a place without a mark, or that no clause forced
+-- a place without a mark, or that no clause implied
 pub final_past : (clauses : List Held) (levels : List Level) (places : List Place) (down i vars : ℕ) (s : MarkState) (hints : List ℕ) (p : Place) →
     down ≡ suc i →
     slice_get places i ≡ Some p →
@@ -300,9 +300,9 @@ final_past clauses levels places down i vars s hints p e at past v =
     record {
       high = (let h = w.high in omega (arith, h));
       walk = next.0;
-      below = subst (All (λ m. IsFalseOn (literals_of (take i places)) m ⊎ IsUnforced places (negation m))) (sym next.1)
-          (all_from (λ m. IsFalseOn (literals_of (take i places)) m ⊎ IsUnforced places (negation m)) w.walk.left (λ m in_left.
-          elim (All-contains (λ x. IsFalseOn (literals_of (take (suc i) places)) x ⊎ IsUnforced places (negation x)) w.walk.left m w.below in_left) [
+      below = subst (All (λ m. IsFalseOn (literals_of (take i places)) m ⊎ IsReasonless places (negation m))) (sym next.1)
+          (all_from (λ m. IsFalseOn (literals_of (take i places)) m ⊎ IsReasonless places (negation m)) w.walk.left (λ m in_left.
+          elim (All-contains (λ x. IsFalseOn (literals_of (take (suc i) places)) x ⊎ IsReasonless places (negation x)) w.walk.left m w.below in_left) [
             | inr free ↦ inr free
             | inl false_m ↦ elim (true_split places i p (negation m) at false_m) [
               | inr before ↦ inl before
@@ -325,7 +325,7 @@ pub final_step : (clauses : List Held) (levels : List Level) (places : List Plac
     FinalMarks clauses levels places down vars s hints → FinalMarks clauses levels places i vars now more
 final_step clauses levels places down i vars s now hints more p r sound distinct range spared e at is on traded is_more v =
     let w : FinalMarks clauses levels places (suc i) vars s hints = subst (λ d. FinalMarks clauses levels places d vars s hints) e v in
-    let f = (sound.placed i p at).forced r is in
+    let f = (sound.placed i p at).implied r is in
     let c : Clause = f.0 in
     let at_r : literals_at clauses r ≡ c = f.1.is in
     let in_clauses : Contains (live_clauses clauses) c = live_contains clauses r c f.1 in
@@ -336,15 +336,15 @@ final_step clauses levels places down i vars s now hints more p r sound distinct
     subst (λ hs. FinalMarks clauses levels places i vars now hs) (sym is_more) (record {
       high = (let h = w.high in omega (arith, h));
       walk = next.0;
-      below = subst (All (λ m. IsFalseOn (literals_of (take i places)) m ⊎ IsUnforced places (negation m))) (sym next.1)
-          (all_from (λ m. IsFalseOn (literals_of (take i places)) m ⊎ IsUnforced places (negation m)) (resolvent c w.walk.left p.literal) (λ m in_new.
+      below = subst (All (λ m. IsFalseOn (literals_of (take i places)) m ⊎ IsReasonless places (negation m))) (sym next.1)
+          (all_from (λ m. IsFalseOn (literals_of (take i places)) m ⊎ IsReasonless places (negation m)) (resolvent c w.walk.left p.literal) (λ m in_new.
           elim (resolvent_cases c w.walk.left p.literal m in_new) [
             | inl fresh ↦ elim (All-contains (λ x. (x ≡ p.literal) ⊎ IsFalseOn (literals_of (take i places)) x) c m f.2.others fresh.0) [
               | inl same ↦ absurd (fresh.1 same)
               | inr false_m ↦ inl false_m
             ]
             | inr old ↦ elim (All-contains
-                (λ x. IsFalseOn (literals_of (take (suc i) places)) x ⊎ IsUnforced places (negation x)) w.walk.left m w.below old.0) [
+                (λ x. IsFalseOn (literals_of (take (suc i) places)) x ⊎ IsReasonless places (negation x)) w.walk.left m w.below old.0) [
                   | inl false_m ↦ inl (false_before places i p m at old.1 false_m)
                   | inr free ↦ inr free
                 ]
@@ -369,11 +369,11 @@ false_further places n m l h lost =
 -- the walk may end where the first level begins
 pub final_end : (clauses : List Held) (levels : List Level) (places : List Place) (down vars : ℕ) (s : MarkState) (hints : List ℕ) (lits : Clause)
     (v : Level) → slice_get levels 0 ≡ Some v → down ≤ v.start → (w : FinalMarks clauses levels places down vars s hints) →
-    Taken clauses w.walk.left lits hints → All (λ l. IsUnforced places (negation l)) lits
+    Taken clauses w.walk.left lits hints → All (λ l. IsReasonless places (negation l)) lits
 final_end clauses levels places down vars s hints lits v first low w t =
-    all_from (λ l. IsUnforced places (negation l)) lits (λ m in_lits.
+    all_from (λ l. IsReasonless places (negation l)) lits (λ m in_lits.
     let in_left = (t.same m).1 in_lits in
-    elim (All-contains (λ x. IsFalseOn (literals_of (take down places)) x ⊎ IsUnforced places (negation x)) w.walk.left m w.below in_left) [
+    elim (All-contains (λ x. IsFalseOn (literals_of (take down places)) x ⊎ IsReasonless places (negation x)) w.walk.left m w.below in_left) [
       | inl false_m ↦ absurd (All-contains (λ x. ¬ IsFalseOn (literals_of (take v.start places)) x) w.walk.left m (w.spared v first) in_left
           (false_further places down v.start m low false_m))
       | inr free ↦ free
@@ -386,7 +386,7 @@ pub reason_known : (clauses : List Held) (places : List Place) (i : ℕ) (s : Ma
     slice_get places i ≡ Some p → p.reason ≡ Some r → is_marked s p.literal ≡ true →
     All (λ m. (is_marked s m ≡ true) ⊎ IsFalseOn (literals_of places) m) (literals_at clauses r)
 reason_known clauses places i s p r sound at is on =
-    let f = (sound.placed i p at).forced r is in
+    let f = (sound.placed i p at).implied r is in
     subst (All (λ m. (is_marked s m ≡ true) ⊎ IsFalseOn (literals_of places) m)) (sym (f.1.is))
     (all_from (λ m. (is_marked s m ≡ true) ⊎ IsFalseOn (literals_of places) m) f.0 (λ m in_c.
     elim (All-contains (λ x. (x ≡ p.literal) ⊎ IsFalseOn (literals_of (take i places)) x) f.0 m f.2.others in_c) as
@@ -402,12 +402,12 @@ stands_behind places start i p low at =
     Contains_from_get (literals_of (drop start places)) (i - start) p.literal
     (get_map (λ (x : Place). x.literal) (drop start places) (i - start) p (at_drop places start i p low at))
 
--- where more than one place is marked, the newest was forced
-pub point_forced : (clauses : List Held) (places : List Place) (conflict start down i vars : ℕ) (s : MarkState) (hints : List ℕ) (ahead : ℕ) (p : Place) →
+-- where more than one place is marked, the newest was implied
+pub point_implied : (clauses : List Held) (places : List Place) (conflict start down i vars : ℕ) (s : MarkState) (hints : List ℕ) (ahead : ℕ) (p : Place) →
     IsWalkable clauses places → IsLastDecision places start → down ≡ suc i → slice_get places i ≡ Some p → ahead ≢ 1 → p.reason ≡ None →
     PointMarks clauses places conflict start down vars s hints ahead → ⊥
-point_forced clauses places conflict start down i vars s hints ahead p sound last e at many free w = elim (cases_lt start i) [
-  | inl later ↦ false≢true (sym (ap is_some free) ∙ last.forced i p later at)
+point_implied clauses places conflict start down i vars s hints ahead p sound last e at many free w = elim (cases_lt start i) [
+  | inl later ↦ false≢true (sym (ap is_some free) ∙ last.implied i p later at)
   | inr first ↦
       let h = w.some in
       let two : 1 < marks_in s (drop start places) =

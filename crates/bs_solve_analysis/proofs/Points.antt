@@ -6,7 +6,7 @@ use Rattle.std.proofs.lemmas.Bool.{cases_Bool, cases_lt, eq-eqb, ne_eqb}
 use Rattle.bs_clause.specs.Literal.{Literal, negation, has_literal}
 use Rattle.bs_watch.specs.declared.watch.Level.{Level}
 use Rattle.bs_watch.specs.Trail.{IsTrueOn, IsFalseOn}
-use Rattle.bs_watch.specs.Places.{Place, literals_of, AreApart, IsLevelOf, IsLiteralAt, IsForcedBy, HasNoReason}
+use Rattle.bs_watch.specs.Places.{Place, literals_of, AreApart, IsLevelOf, IsLiteralAt, IsImpliedBy, HasNoReason}
 use Rattle.bs_watch.specs.Watch.{AreLevelled}
 use Rattle.bs_watch.proofs.Gets.{same_some, get_take, take_get, get_from_Contains, Contains_from_get, get_map_cases, get_map}
 use Rattle.bs_watch.proofs.Literals.{negation-negation}
@@ -117,12 +117,12 @@ is_ahead places levels m level now apart a lost is_level is_now =
 
 -- ---- reasons
 
-pub forced_in : (places : List Place) (k : ℕ) (l : Literal) (r : ℕ) → AreApart places → IsLiteralAt places k l → IsForcedBy places l r →
+pub implied_in : (places : List Place) (k : ℕ) (l : Literal) (r : ℕ) → AreApart places → IsLiteralAt places k l → IsImpliedBy places l r →
     IsReasonIn places k (Some r)
-forced_in places k l r apart at forced =
-    let one : forced.1.at ≡ k = apart.apart forced.1.at k forced.0 at.0 forced.1.there at.1 (forced.1.same ∙ ap (λ (x : Literal). x.variable) (sym at.2)) in
-    (forced.0, ap (slice_get places) (sym one) ∙ forced.1.there, forced.2)
+implied_in places k l r apart at implied =
+    let one : implied.1.at ≡ k = apart.apart implied.1.at k implied.0 at.0 implied.1.there at.1 (implied.1.same ∙ ap (λ (x : Literal). x.variable) (sym at.2)) in
+    (implied.0, ap (slice_get places) (sym one) ∙ implied.1.there, implied.2)
 
-pub unforced_in : (places : List Place) (k : ℕ) (l : Literal) → IsLiteralAt places k l → HasNoReason places l → IsReasonIn places k None
-unforced_in places k l at none =
+pub reasonless_in : (places : List Place) (k : ℕ) (l : Literal) → IsLiteralAt places k l → HasNoReason places l → IsReasonIn places k None
+reasonless_in places k l at none =
     (at.0, at.1, none.none at.0 (record { at = k; there = at.1; same = ap (λ (x : Literal). x.variable) at.2 }))

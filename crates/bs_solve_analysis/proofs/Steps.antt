@@ -13,12 +13,12 @@ use Rattle.bs_watch.specs.Places.{Place, literals_of, AreApart, IsLiteralAt}
 use Rattle.bs_watch.proofs.Gets.{same_some}
 use Rattle.bs_solve_analysis.specs.Reasons.{live_clauses, IsReasoned, IsConflictAt, AreSpared, IsBelowLevels}
 use Rattle.bs_solve_analysis.specs.Walk.{IsLearnt}
-use Rattle.bs_solve_analysis.specs.Point.{IsFirstPoint, IsLastDecision, IsUnforced, IsReasonIn}
+use Rattle.bs_solve_analysis.specs.Point.{IsFirstPoint, IsLastDecision, IsReasonless, IsReasonIn}
 use Rattle.bs_solve_analysis.specs.Marks.{MarkState, is_marked, marks_in, unmarked, IsClear, AreWithin, HasMarked, HasTraded, HasCounted, HasMoved}
 use Rattle.bs_solve_analysis.proofs.Clauses.{all_from}
 use Rattle.bs_solve_analysis.proofs.Walkable.{IsClauseAt, sound, live_contains}
 use Rattle.bs_solve_analysis.proofs.MarkWalks.{count_first_marks, denied_at, taken, taken_at, Taken}
-use Rattle.bs_solve_analysis.proofs.Pointing.{PointMarks, FinalMarks, above_start, point_start, point_past, point_step, point_end, point_forced, final_start}
+use Rattle.bs_solve_analysis.proofs.Pointing.{PointMarks, FinalMarks, above_start, point_start, point_past, point_step, point_end, point_implied, final_start}
 use Rattle.bs_solve_analysis.proofs.Pointing.{final_past, final_step, final_end, reason_known, stands_behind}
 
 -- ---- what is read
@@ -122,7 +122,7 @@ pub never_free : (clauses : List Held) (places : List Place) (conflict start dow
     PointMarks clauses places conflict start down vars s hints ahead → ⊥
 never_free clauses places conflict start down vars s hints ahead l apart reasons last at is many w =
     let above = walk_above clauses places conflict start down vars s hints ahead apart reasons w in
-    point_forced clauses places conflict start down (down - 1) vars s hints ahead at.0 (sound clauses places apart reasons) last
+    point_implied clauses places conflict start down (down - 1) vars s hints ahead at.0 (sound clauses places apart reasons) last
     (omega (arith, above)) at.1 many (reason_is places (down - 1) l None at is) w
 
 -- the lemma at the point
@@ -150,7 +150,7 @@ found clauses places conflict start down vars s now hints ahead l lits apart rea
           (marked_at places (down - 1) l s at on) w1 (ap (λ xs. slice_get xs 0) moved.lits ∙ ap (λ x. Some (negation x)) (sym at.2)) t;
     }
 
--- ---- down to what no clause forced
+-- ---- down to what no clause implied
 
 pub at_first : (clauses : List Held) (levels : List Level) (places : List Place) (vars conflict : ℕ) (s0 s : MarkState) (hints : List ℕ) (down : ℕ) →
     AreApart places → IsReasoned clauses places → All (HasVariables vars) (live_clauses clauses) →
@@ -192,7 +192,7 @@ traded_free clauses levels places down vars s now hints next l r above apart rea
 
 pub record IsDone (clauses : List Held) (places : List Place) (lits : Clause) (hints : List ℕ) : Type 0 where
   pub learnt : IsLearnt clauses lits hints
-  pub unforced : All (λ l. IsUnforced places (negation l)) lits
+  pub reasonless : All (λ l. IsReasonless places (negation l)) lits
 
 -- the first level
 first_level : (levels : List Level) → 1 ≤ length levels → (v : Level) × (slice_get levels 0 ≡ Some v)
@@ -209,4 +209,4 @@ done clauses levels places down vars s now hints lits end spared apart reasons m
       | inl none ↦ omega (arith, none)
       | inr below ↦ let h = below.below v first in omega (arith, h)
     ] in
-    record { learnt = t.learnt; unforced = final_end clauses levels places down vars s hints lits v first low w t }
+    record { learnt = t.learnt; reasonless = final_end clauses levels places down vars s hints lits v first low w t }

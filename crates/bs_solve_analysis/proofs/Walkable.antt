@@ -5,7 +5,7 @@ use Rattle.std.specs.List.{find}
 use Rattle.std.proofs.lemmas.Bool.{false≢true, cases_lt, ltb-false}
 use Rattle.bs_clause.specs.Literal.{Literal, Clause, negation}
 use Rattle.bs_arena.specs.Arena.{Held, held_at, literals_at}
-use Rattle.bs_watch.specs.Trail.{IsOpenOn, Forces}
+use Rattle.bs_watch.specs.Trail.{IsOpenOn, Implies}
 use Rattle.bs_watch.specs.Places.{Place, literals_of, AreApart, IsLevelOf}
 use Rattle.bs_watch.specs.Watch.{AreLevelled}
 use Rattle.bs_watch.proofs.Gets.{get_take, get_from_Contains, get_map_cases}
@@ -20,7 +20,7 @@ pub record IsClauseAt (clauses : List Held) (r : ℕ) (c : Clause) : Type 0 wher
 
 pub record IsWalkablePlace (clauses : List Held) (earlier : List Place) (p : Place) : Type 0 where
   pub unassigned : IsOpenOn (literals_of earlier) p.literal
-  pub forced : (r : ℕ) → p.reason ≡ Some r → (c : Clause) × IsClauseAt clauses r c × Forces (literals_of earlier) c p.literal
+  pub implied : (r : ℕ) → p.reason ≡ Some r → (c : Clause) × IsClauseAt clauses r c × Implies (literals_of earlier) c p.literal
 
 pub record IsWalkable (clauses : List Held) (places : List Place) : Type 0 where
   pub placed : (k : ℕ) (p : Place) → slice_get places k ≡ Some p → IsWalkablePlace clauses (take k places) p
@@ -29,7 +29,7 @@ pub sound : (clauses : List Held) (places : List Place) → AreApart places → 
 sound clauses places apart reasons = record {
   placed = λ k p at. record {
     unassigned = (earlier k p at p.literal refl, earlier k p at (negation p.literal) refl);
-    forced = λ r is. let f = reasons.reasoned k p r at is in (literals_at clauses r, record { live = f.0; is = refl }, f.1);
+    implied = λ r is. let f = reasons.reasoned k p r at is in (literals_at clauses r, record { live = f.0; is = refl }, f.1);
   };
 }
   where

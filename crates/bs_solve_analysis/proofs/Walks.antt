@@ -12,7 +12,7 @@ use Rattle.bs_log.specs.Propagation.{start_of, hints_are_unit, last_is_false}
 use Rattle.bs_log.specs.Lean.{IsResolventOf}
 use Rattle.bs_arena.specs.Arena.{Held, held_at, literals_at}
 use Rattle.bs_watch.specs.Places.{Place, literals_of}
-use Rattle.bs_watch.specs.Trail.{IsFalseOn, IsOpenOn, Forces, IsConflict}
+use Rattle.bs_watch.specs.Trail.{IsFalseOn, IsOpenOn, Implies, IsConflict}
 use Rattle.bs_solve_analysis.specs.Chain.{Link, hints_of, IsChain}
 use Rattle.bs_solve_analysis.specs.Derives.{AreFresh}
 use Rattle.bs_solve_analysis.specs.Walk.{clauses_at, IsLearnt, IsRightBy, AreUsed, IsWalk}
@@ -94,7 +94,7 @@ walk_step clauses trail i left hints p r c s w at is there distinct_c denied = r
   last = w.last;
   named = ap (map (literals_at clauses)) (reverse-append hints (r ∷ [])) ∙ ap (λ x. x ∷ clauses_at clauses hints) (there.is) ∙ ap (λ xs. c ∷ xs) w.named;
   live = All-push (λ x. is_some (held_at clauses x) ≡ true) hints r w.live there.live;
-  derives = derives_backwards left next w.links w.last link w.derives (has-from_Contains c p.literal forces.stands) distinct_c
+  derives = derives_backwards left next w.links w.last link w.derives (has-from_Contains c p.literal implies.stands) distinct_c
       (all_from (λ m. (m ≡ negation p.literal) ⊎ Contains next m) left (λ m in_left. elim (same_or_not m (negation p.literal)) [
         | inl same ↦ inl same
         | inr unlike ↦ inr (resolvent_left c left p.literal m in_left (not_same m (negation p.literal) unlike))
@@ -164,13 +164,13 @@ walk_step clauses trail i left hints p r c s w at is there distinct_c denied = r
     placed : IsWalkablePlace clauses (take i trail) p
     placed = s.placed i p at
 
-    forces : Forces (literals_of (take i trail)) c p.literal
-    forces =
-        let f = placed.forced r is in
-        subst (λ x. Forces (literals_of (take i trail)) x p.literal) (sym f.1.is ∙ there.is) f.2
+    implies : Implies (literals_of (take i trail)) c p.literal
+    implies =
+        let f = placed.implied r is in
+        subst (λ x. Implies (literals_of (take i trail)) x p.literal) (sym f.1.is ∙ there.is) f.2
 
     reason_false : (m : Literal) → Contains c m → m ≢ p.literal → IsFalseOn (literals_of (take i trail)) m
-    reason_false m in_c other = elim (All-contains (λ x. (x ≡ p.literal) ⊎ IsFalseOn (literals_of (take i trail)) x) c m forces.others in_c) [
+    reason_false m in_c other = elim (All-contains (λ x. (x ≡ p.literal) ⊎ IsFalseOn (literals_of (take i trail)) x) c m implies.others in_c) [
       | inl same ↦ absurd (other same)
       | inr f ↦ f
     ]

@@ -9,7 +9,7 @@ use Rattle.bs_arena.specs.Arena.{Held}
 use Rattle.bs_watch.specs.Places.{Place, literals_of}
 use Rattle.bs_solve_analysis.specs.Reasons.{live_clauses}
 use Rattle.bs_watch.specs.Trail.{IsFalseOn, IsUnit, IsQuiet}
-use Rattle.bs_solve_analysis.specs.Point.{IsLastDecision, DeniesAt, ForcedWith, LeadsTo, Bypasses}
+use Rattle.bs_solve_analysis.specs.Point.{IsLastDecision, DeniesAt, ImpliedWith, LeadsTo, Bypasses}
 use Rattle.bs_watch.proofs.Gets.{get_take, take_get, Contains_from_get, get_map}
 use Rattle.bs_solve_analysis.proofs.Walkable.{IsWalkable, live_contains}
 use Rattle.bs_solve_analysis.proofs.Clauses.{contains_cases, all_from}
@@ -35,7 +35,7 @@ way_past clauses places conflict i at w = record {
   later = all_from (λ j. i ≤ j) w.way (λ j t. let h : suc i ≤ j = All-contains (λ x. suc i ≤ x) w.way j w.later t in omega (arith, h));
 }
 
-pub way_step : (clauses : List Held) (places : List Place) (conflict i at : ℕ) → ForcedWith clauses places at i →
+pub way_step : (clauses : List Held) (places : List Place) (conflict i at : ℕ) → ImpliedWith clauses places at i →
     WayFrom clauses places conflict (suc i) i → WayFrom clauses places conflict i at
 way_step clauses places conflict i at f w = record {
   way = i ∷ w.way;
@@ -55,13 +55,13 @@ record StepBack (clauses : List Held) (places : List Place) (start at : ℕ) : T
   there : slice_get places earlier ≡ Some place
   low : start ≤ earlier
   before : earlier < at
-  forced : ForcedWith clauses places earlier at
+  implied : ImpliedWith clauses places earlier at
 
 step_back : (clauses : List Held) (places : List Place) (start at : ℕ) (p : Place) → IsWalkable clauses places → IsLastDecision places start →
     IsQuiet (literals_of (take start places)) (live_clauses clauses) → slice_get places at ≡ Some p → start < at → StepBack clauses places start at
 step_back clauses places start at p sound last quiet there above =
-    let (r, is) = reason_of p.reason (last.forced at p above there) in
-    let f = (sound.placed at p there).forced r is in
+    let (r, is) = reason_of p.reason (last.implied at p above there) in
+    let f = (sound.placed at p there).implied r is in
     let c : Clause = f.0 in
     elim (alone_or_another (literals_of (take start places)) p.literal c) [
       | inl alone ↦ absurd (All-contains (λ x. ¬ IsUnit (literals_of (take start places)) x) (live_clauses clauses) c quiet.no_unit
@@ -88,7 +88,7 @@ step_back clauses places start at p sound last quiet there above =
               there = early.1;
               low = past;
               before = early.0;
-              forced = record {
+              implied = record {
                 place = p;
                 there = there;
                 reason = r;
@@ -146,7 +146,7 @@ climb clauses places conflict start sound last quiet (suc n) at p way there low 
       let s : StepBack clauses places start at = step_back clauses places start at p sound last quiet there above in
       let before : s.earlier < at = s.before in
       climbed_later clauses places conflict start s.earlier at way before
-      (climb clauses places conflict start sound last quiet n s.earlier s.place (at ∷ way) s.there s.low (omega (arith, high, before)) (s.forced, leads))
+      (climb clauses places conflict start sound last quiet n s.earlier s.place (at ∷ way) s.there s.low (omega (arith, high, before)) (s.implied, leads))
 ]
 
 -- a place between a marked one and the further places of its way is bypassed

@@ -5,19 +5,19 @@ use Rattle.bs_arena.specs.Arena.{Held, literals_at}
 use Rattle.bs_watch.specs.Places.{Place, literals_of}
 use Rattle.bs_watch.specs.Trail.{IsFalseOn}
 
--- no clause forced the literal at this place
+-- no clause implied the literal at this place
 pub record IsDecisionAt (places : List Place) (at : ℕ) : Type 0 where
   pub place : Place
   pub there : slice_get places at ≡ Some place
   pub decision : place.reason ≡ None
 
--- and a clause forced each later one
+-- and a clause implied each later one
 pub record IsLastDecision (places : List Place) (at : ℕ) : Type 0 where
   pub decided : IsDecisionAt places at
-  pub forced : (k : ℕ) (p : Place) → at < k → slice_get places k ≡ Some p → is_some p.reason ≡ true
+  pub implied : (k : ℕ) (p : Place) → at < k → slice_get places k ≡ Some p → is_some p.reason ≡ true
 
 -- the clause denies the literal at a place of the level that starts here, and its other literals were false before
--- that level; the denial comes first in it
+-- that level; the negated literal comes first in it
 pub record IsPoint (places : List Place) (start : ℕ) (c : Clause) : Type 0 where
   pub at : ℕ
   pub place : Place
@@ -26,8 +26,8 @@ pub record IsPoint (places : List Place) (start : ℕ) (c : Clause) : Type 0 whe
   pub first : slice_get c 0 ≡ Some (negation place.literal)
   pub others : All (λ m. (m ≡ negation place.literal) ⊎ IsFalseOn (literals_of (take start places)) m) c
 
--- the literal is true, and no clause forced it
-pub record IsUnforced (places : List Place) (l : Literal) : Type 0 where
+-- the literal is true, and no clause implied it
+pub record IsReasonless (places : List Place) (l : Literal) : Type 0 where
   pub at : ℕ
   pub place : Place
   pub there : slice_get places at ≡ Some place
@@ -43,7 +43,7 @@ pub record DeniesAt (clauses : List Held) (places : List Place) (clause at : ℕ
   pub denied : Contains (literals_at clauses clause) (negation place.literal)
 
 -- the reason of the later place denies the literal at the earlier one
-pub record ForcedWith (clauses : List Held) (places : List Place) (earlier later : ℕ) : Type 0 where
+pub record ImpliedWith (clauses : List Held) (places : List Place) (earlier later : ℕ) : Type 0 where
   pub place : Place
   pub there : slice_get places later ≡ Some place
   pub reason : ℕ
@@ -55,7 +55,7 @@ abbrev pub LeadsTo : List Held → List Place → ℕ → List ℕ → Type 0
 LeadsTo clauses places conflict [] = Unit {0}
 LeadsTo clauses places conflict (at ∷ []) = DeniesAt clauses places conflict at
 LeadsTo clauses places conflict (at ∷ later ∷ more) =
-    ForcedWith clauses places at later × LeadsTo clauses places conflict (later ∷ more)
+    ImpliedWith clauses places at later × LeadsTo clauses places conflict (later ∷ more)
 
 -- a way from the level's first place to the conflict that does not pass through this place
 pub record Bypasses (clauses : List Held) (places : List Place) (conflict start at : ℕ) : Type 0 where

@@ -4,16 +4,16 @@ use Rattle.bs_clause.specs.Literal.{Literal, Clause}
 use Rattle.bs_arena.specs.Arena.{Held, held_at, literals_at}
 use Rattle.bs_watch.specs.declared.watch.Level.{Level}
 use Rattle.bs_watch.specs.Places.{Place, literals_of}
-use Rattle.bs_watch.specs.Trail.{IsFalseOn, IsConflict, Forces}
+use Rattle.bs_watch.specs.Trail.{IsFalseOn, IsConflict, Implies}
 
 -- the literals of the live clauses
 abbrev pub live_clauses : List Held → List Clause
 live_clauses clauses = map (λ h. h.literals) clauses
 
--- the clause that a place names is live and forced the literal there, over the places before
+-- the clause that a place names is live and implied the literal there, over the places before
 pub record IsReasoned (clauses : List Held) (places : List Place) : Type 0 where
   pub reasoned : (k : ℕ) (p : Place) (r : ℕ) → slice_get places k ≡ Some p → p.reason ≡ Some r →
-      (is_some (held_at clauses r) ≡ true) × Forces (literals_of (take k places)) (literals_at clauses r) p.literal
+      (is_some (held_at clauses r) ≡ true) × Implies (literals_of (take k places)) (literals_at clauses r) p.literal
 
 -- this live clause is false
 pub record IsConflictAt (clauses : List Held) (trail : List Literal) (r : ℕ) : Type 0 where

@@ -8,7 +8,7 @@ ghost use Rattle.bs_watch.specs.Places.{IsLiteralAt, literals_of};
 ghost use Rattle.bs_solve_analysis.specs.Reasons.{IsReasoned, IsConflictAt, AreSpared, IsBelowLevels, live_clauses, last_start};
 ghost use Rattle.bs_solve_analysis.specs.Walk.{IsLearnt};
 ghost use Rattle.bs_solve_analysis.specs.Marks.{IsClear};
-ghost use Rattle.bs_solve_analysis.specs.Point.{IsLastDecision, IsFirstPoint, IsUnforced, IsReasonIn};
+ghost use Rattle.bs_solve_analysis.specs.Point.{IsLastDecision, IsFirstPoint, IsReasonless, IsReasonIn};
 
 use crate::marking::{lemma_of, mark_clause, marked_lits, trade};
 use crate::marks::Marks;
@@ -17,7 +17,7 @@ use bs_clause::{Lit, Lits, NoMemory};
 use bs_watch::Watch;
 use std::alloc::Global;
 
-/// A clause that a conflict teaches.
+/// A clause that is learnt from a conflict.
 #[derive(Drop)]
 pub struct Learnt {
     pub lits: Lits,
@@ -35,7 +35,7 @@ fn literal_at(watch: &Watch, at: usize) -> Lit
     watch.trail()[at]
 }
 
-// The clause that forced the literal in a place of the trail.
+// The clause that implied the literal in a place of the trail.
 fn reason_at(watch: &Watch, at: usize, l: Lit) -> Option<Ref>
     requires literal { IsLiteralAt watch.now.trail.places at l }
     requires range { l.variable ≤ watch.now.trail.vars }
@@ -117,8 +117,8 @@ fn goes_on(watch: &Watch, down: usize) -> bool
     is_levelled(watch, down - 1)
 }
 
-/// Resolves the false clause until it denies only literals that no clause forced. It looks at no place that stands for good.
-pub fn to_unforced(
+/// Resolves the false clause until it denies only literals that no clause implied. It looks at no place that stands for good.
+pub fn to_reasonless(
     alloc: Global,
     watch: &Watch,
     arena: &Arena,
@@ -134,8 +134,8 @@ pub fn to_unforced(
     requires spared { AreSpared arena.now.clauses watch.now.levels watch.now.trail.places }
     requires clear { IsClear (watch.now.trail.vars + 1) marks.old }
     ensures learnt { IfOk result (λ r. IsLearnt arena.now.clauses r.lits r.hints.items) }
-    ensures unforced { IfOk result (λ r.
-        All (λ l. IsUnforced watch.now.trail.places (negation l)) r.lits) }
+    ensures reasonless { IfOk result (λ r.
+        All (λ l. IsReasonless watch.now.trail.places (negation l)) r.lits) }
     ensures clear { IfOk result (λ _. IsClear (watch.now.trail.vars + 1) marks.new) }
 {
     watch.holds_levels();

@@ -13,32 +13,32 @@ use Rattle.bs_log.specs.History.{Problem, History, Entry, added, is_deleted, liv
 use Rattle.bs_log.specs.Steps.{is_lemma_line}
 use Rattle.bs_solve_recording.specs.declared.answer.Answer.{Answer}
 use Rattle.bs_solve_recording.specs.declared.answer.Answer.TheVariants as answers
-use Rattle.bs_solve_recording.specs.Book.{Book, standing, without}
+use Rattle.bs_solve_recording.specs.ProofLog.{ProofLog, standing, without}
 use Rattle.bs_solve_recording.specs.Ending.{Ends, SomeLemmas, is_open_lemma}
-use Rattle.bs_solve_recording.specs.Stages.{is_begun, begun_book}
+use Rattle.bs_solve_recording.specs.Stages.{is_begun, begun_proof}
 use Rattle.bs_solve_recording.specs.Solver.{SolverState, HasSolved, finished}
 use Rattle.bs_solve_recording.proofs.Endings.{some_lemmas, some_and_last}
 pub use Rattle.bs_solve_recording.proofs.Endings.{open_are_lemmas}
 use Rattle.bs_solve_recording.proofs.Lines.{first_stands}
-pub use Rattle.bs_solve_recording.proofs.Standing.{axioms_stand_still, guards_stay_retired}
-pub use Rattle.bs_solve_recording.proofs.Guards.{runs_over, with_guards, run_with_guards, bound_is}
+pub use Rattle.bs_solve_recording.proofs.Standing.{axioms_stand_still, activations_stay_retired}
+pub use Rattle.bs_solve_recording.proofs.Activations.{runs_over, with_activations, run_with_activations, bound_is}
 
--- ---- what a line leaves of a book
+-- ---- what a line leaves of a proof log
 
 -- the line of what goes at a step's end, if anything does
 abbrev pub delete_lines : List ℕ → List Line
 delete_lines [] = []
 delete_lines (id ∷ ids) = Delete (id ∷ ids) ∷ []
 
-pub without_history : (b : Book) (ids : List ℕ) → (without b ids).history ≡ delete_lines ids ++ b.history
+pub without_history : (b : ProofLog) (ids : List ℕ) → (without b ids).history ≡ delete_lines ids ++ b.history
 without_history b [] = refl
 without_history b (id ∷ ids) = refl
 
-pub without_problem : (b : Book) (ids : List ℕ) → (without b ids).problem ≡ b.problem
+pub without_problem : (b : ProofLog) (ids : List ℕ) → (without b ids).problem ≡ b.problem
 without_problem b [] = refl
 without_problem b (id ∷ ids) = refl
 
-pub finished_problem : (b : Book) (end : Option ℕ) → (finished b end).problem ≡ b.problem
+pub finished_problem : (b : ProofLog) (end : Option ℕ) → (finished b end).problem ≡ b.problem
 finished_problem b None = refl
 finished_problem b (Some id) = refl
 
@@ -74,24 +74,24 @@ lemmas_keep p (Retire id ∷ lines) h all c there = absurd (false≢true all.0)
 lemmas_keep p (Delete ids ∷ lines) h all c there = absurd (false≢true all.0)
 
 -- the same of books
-pub books_keep : (old new : Book) (lines : List Line) → new.problem ≡ old.problem → new.history ≡ lines ++ old.history →
+pub proofs_keep : (old new : ProofLog) (lines : List Line) → new.problem ≡ old.problem → new.history ≡ lines ++ old.history →
     Each (λ line. is_lemma_line line ≡ true) lines →
     (c : Clause) → Contains (standing old) c → Contains (standing new) c
-books_keep old new lines p h all c there =
+proofs_keep old new lines p h all c there =
     let same : new ≡ record { problem = old.problem; history = lines ++ old.history } = λ i. record { problem = p i; history = h i } in
-    subst (λ (b : Book). Contains (standing b) c) (sym same) (lemmas_keep old.problem lines old.history all c there)
+    subst (λ (b : ProofLog). Contains (standing b) c) (sym same) (lemmas_keep old.problem lines old.history all c there)
 
--- ---- the book as a search begins
+-- ---- the proof log as a search begins
 
-pub begun_history : (first : Bool) (b : Book) (a : Clause) → (begun_book first b a).history ≡ Solve ∷ b.history
+pub begun_history : (first : Bool) (b : ProofLog) (a : Clause) → (begun_proof first b a).history ≡ Solve ∷ b.history
 begun_history true b a = refl
 begun_history false b a = refl
 
-pub begun_vars : (first : Bool) (b : Book) (a : Clause) → (begun_book first b a).problem.vars ≡ b.problem.vars
+pub begun_vars : (first : Bool) (b : ProofLog) (a : Clause) → (begun_proof first b a).problem.vars ≡ b.problem.vars
 begun_vars true b a = refl
 begun_vars false b a = refl
 
-pub begun_clauses : (first : Bool) (b : Book) (a : Clause) → (begun_book first b a).problem.clauses ≡ b.problem.clauses
+pub begun_clauses : (first : Bool) (b : ProofLog) (a : Clause) → (begun_proof first b a).problem.clauses ≡ b.problem.clauses
 begun_clauses true b a = refl
 begun_clauses false b a = refl
 
@@ -106,20 +106,20 @@ open_is_lemma a (Retire id) e = e
 open_is_lemma a (Delete ids) e = e
 
 -- a search logs lemmas alone, however it ends
-pub ends_by_lemmas : (old new : Book) (vars limit : ℕ) (answer : Answer) → Ends old new vars limit answer → SomeLemmas old new
+pub ends_by_lemmas : (old new : ProofLog) (vars limit : ℕ) (answer : Answer) → Ends old new vars limit answer → SomeLemmas old new
 ends_by_lemmas old new vars limit (answers.Found values) e = some_lemmas old new e.count e.lemmas
 ends_by_lemmas old new vars limit (answers.Refuted id) e = some_and_last old e.middle new e.count id e.before e.last
 ends_by_lemmas old new vars limit answers.Spent e = some_lemmas old new limit e.lemmas
 
 -- a solve's lines behind its first
 pub solved_by_lemmas : (old new : SolverState) (a : Clause) (limit : ℕ) (answer : Answer) → HasSolved old new a limit answer →
-    SomeLemmas (begun_book (is_begun old.stage) old.book a) new.book
-solved_by_lemmas old new a limit answer s = ends_by_lemmas (begun_book (is_begun old.stage) old.book a) new.book old.vars limit answer s.ends
+    SomeLemmas (begun_proof (is_begun old.stage) old.proof a) new.proof
+solved_by_lemmas old new a limit answer s = ends_by_lemmas (begun_proof (is_begun old.stage) old.proof a) new.proof old.vars limit answer s.ends
 
 -- what stood before a solve stands after it
 pub solved_keeps : (old new : SolverState) (a : Clause) (limit : ℕ) (answer : Answer) → HasSolved old new a limit answer →
-    (c : Clause) → Contains (standing old.book) c → Contains (standing new.book) c
+    (c : Clause) → Contains (standing old.proof) c → Contains (standing new.proof) c
 solved_keeps old new a limit answer s c there =
     let lemmas = solved_by_lemmas old new a limit answer s in
-    books_keep (begun_book (is_begun old.stage) old.book a) new.book lemmas.lines lemmas.problem lemmas.history lemmas.lemmas c
+    proofs_keep (begun_proof (is_begun old.stage) old.proof a) new.proof lemmas.lines lemmas.problem lemmas.history lemmas.lemmas c
     (subst (λ (cs : List Clause). Contains cs c) (sym s.stands) there)

@@ -25,18 +25,18 @@ use Rattle.bs_solve_recording.specs.Bound.{number}
 use Rattle.bs_solve_recording.specs.Places.{LoggedTrail, logged_literals, AreWarranted, IsLoggedUnassigned}
 use Rattle.bs_solve_recording.specs.Grown.{LoggedGrows}
 use Rattle.bs_solve_recording.specs.Learning.{digits}
-use Rattle.bs_solve_recording.specs.Book.{Book, standing}
+use Rattle.bs_solve_recording.specs.ProofLog.{ProofLog, standing}
 use Rattle.bs_solve_recording.specs.Search.{assumed, assumption_places, HasLemma, HasLearnt, HasRefuted}
 use Rattle.bs_solve_recording.specs.Values.{positive, AreAssigned, HasValues, value_of, IsSolution}
 use Rattle.bs_solve_recording.specs.Ending.{is_open_lemma, HasLemmas, SomeLemmas, IsSpent, IsFound}
-use Rattle.bs_solve_recording.specs.Turn.{InSearch}
+use Rattle.bs_solve_recording.specs.Round.{InSearch}
 use Rattle.bs_watch.proofs.Gets.{none_is_not_some, Contains_from_get, get_map_cases, get_within}
 use Rattle.bs_clause.proofs.Literals.{has-from_Contains, Contains-from_has}
 use Rattle.bs_solve_recording.proofs.Quiet.{unit_runs_are_on_quiet_trails}
 use Rattle.bs_solve_recording.proofs.Numbers.{number_bounded}
 use Rattle.bs_solve_recording.proofs.Places.{sound_push, sound_grows}
 use Rattle.bs_solve_analysis.proofs.Clauses.{nothing_in, cons_contains, contains_first, contains_cases, all_from, distinct_parts}
-use Rattle.bs_solve_recording.proofs.Lessons.{consistent, growing_lowers_nothing}
+use Rattle.bs_solve_recording.proofs.Backjumps.{consistent, growing_lowers_nothing}
 use Rattle.bs_solve_analysis.proofs.Fronts.{true_at_end}
 
 -- ---- the assumptions on the trail
@@ -48,7 +48,7 @@ literals_assumed (l ∷ a) = ap (λ r. l ∷ r) (literals_assumed a)
 pub take_assumed : (k : ℕ) (a : Clause) → take k (assumption_places a) ≡ assumption_places (take k a)
 take_assumed zero a = refl
 take_assumed (suc k) [] = refl
-take_assumed (suc k) (l ∷ a) = ap (λ r. record { literal = l; forced = false } ∷ r) (take_assumed k a)
+take_assumed (suc k) (l ∷ a) = ap (λ r. record { literal = l; implied = false } ∷ r) (take_assumed k a)
 
 -- a later literal of distinct variables is open before
 pub open_ahead : (a : Clause) (i : ℕ) (l : Literal) → has_distinct_variables a ≡ true → slice_get a i ≡ Some l → IsOpenOn (take i a) l
@@ -67,16 +67,16 @@ pub assumed_are_sound : (clauses : List Clause) (base : ℕ) (a : Clause) → ha
     AreWarranted clauses base a (assumption_places a)
 assumed_are_sound clauses base a d low = record {
   placed = λ k p e.
-      let (l, at, is) = get_map_cases (λ (x : Literal). record { literal = x; forced = false }) a k p e in
+      let (l, at, is) = get_map_cases (λ (x : Literal). record { literal = x; implied = false }) a k p e in
       let same_literal : p.literal ≡ l = ap (λ (q : LoggedPlace). q.literal) (sym is) in
-      let none : p.forced ≡ false = ap (λ (q : LoggedPlace). q.forced) (sym is) in
+      let none : p.implied ≡ false = ap (λ (q : LoggedPlace). q.implied) (sym is) in
       let front : logged_literals (take k (assumption_places a)) ≡ take k a = ap logged_literals (take_assumed k a) ∙ literals_assumed (take k a) in
       let within = get_within a k l at in
       let length_k : length (take k (assumption_places a)) ≡ k = ap length (take_assumed k a) ∙
-      length-map (take k a) (λ (x : Literal). record { literal = x; forced = false }) ∙ length-take-le k a (omega (arith, within)) in
+      length-map (take k a) (λ (x : Literal). record { literal = x; implied = false }) ∙ length-take-le k a (omega (arith, within)) in
       record {
         unassigned = subst (λ xs. IsOpenOn xs p.literal) (sym front) (subst (IsOpenOn (take k a)) (sym same_literal) (open_ahead a k l d at));
-        forced = λ is. absurd (false≢true (sym none ∙ is));
+        implied = λ is. absurd (false≢true (sym none ∙ is));
         assumed = λ _ _. subst (Contains a) (sym same_literal) (Contains_from_get a k l at);
         quiet = λ _ above. absurd (omega (arith, above, length_k, within, low));
       };
@@ -186,16 +186,16 @@ solution trail vars clauses a values quiet all consistent range range_a given ha
 
 -- ---- what was logged
 
-pub no_lemmas : (b : Book) → HasLemmas b b 0
+pub no_lemmas : (b : ProofLog) → HasLemmas b b 0
 no_lemmas b = record { lines = []; history = refl; problem = refl; same_step = refl; length_is = refl; open_yet = tt }
 
-pub one_more : (old middle new : Book) (count id : ℕ) (lemma : Clause) → HasLemmas old middle count → HasLemma middle new id lemma →
+pub one_more : (old middle new : ProofLog) (count id : ℕ) (lemma : Clause) → HasLemmas old middle count → HasLemma middle new id lemma →
     denies (assumed middle) lemma ≡ false → HasLemmas old new (count + 1)
 one_more old middle new count id lemma l h is_open = record {
   lines = Lemma id lemma h.hints ∷ l.lines;
-  history = ap (λ (b : Book). b.history) h.book ∙ ap (λ hs. Lemma id lemma h.hints ∷ hs) l.history;
-  problem = ap (λ (b : Book). b.problem) h.book ∙ l.problem;
-  same_step = ap assumed h.book ∙ l.same_step;
+  history = ap (λ (b : ProofLog). b.history) h.proof ∙ ap (λ hs. Lemma id lemma h.hints ∷ hs) l.history;
+  problem = ap (λ (b : ProofLog). b.problem) h.proof ∙ l.problem;
+  same_step = ap assumed h.proof ∙ l.same_step;
   length_is = omega (arith, l.length_is);
   open_yet = (ap not (ap (λ a. denies a lemma) (sym l.same_step) ∙ is_open), l.open_yet);
 }
@@ -210,14 +210,14 @@ open_are_lemmas a (Finish id ∷ lines) h = absurd (false≢true h.0)
 open_are_lemmas a (Retire id ∷ lines) h = absurd (false≢true h.0)
 open_are_lemmas a (Delete ids ∷ lines) h = absurd (false≢true h.0)
 
-pub some_lemmas : (old new : Book) (count : ℕ) → HasLemmas old new count → SomeLemmas old new
+pub some_lemmas : (old new : ProofLog) (count : ℕ) → HasLemmas old new count → SomeLemmas old new
 some_lemmas old new count l = record { lines = l.lines; history = l.history; problem = l.problem; lemmas = open_are_lemmas (assumed old) l.lines l.open_yet }
 
-pub some_and_last : (old middle new : Book) (count id : ℕ) → HasLemmas old middle count → HasRefuted middle new id → SomeLemmas old new
+pub some_and_last : (old middle new : ProofLog) (count id : ℕ) → HasLemmas old middle count → HasRefuted middle new id → SomeLemmas old new
 some_and_last old middle new count id l h = record {
   lines = Lemma id h.lemma h.logged.hints ∷ l.lines;
-  history = ap (λ (b : Book). b.history) h.logged.book ∙ ap (λ hs. Lemma id h.lemma h.logged.hints ∷ hs) l.history;
-  problem = ap (λ (b : Book). b.problem) h.logged.book ∙ l.problem;
+  history = ap (λ (b : ProofLog). b.history) h.logged.proof ∙ ap (λ hs. Lemma id h.lemma h.logged.hints ∷ hs) l.history;
+  problem = ap (λ (b : ProofLog). b.problem) h.logged.proof ∙ l.problem;
   lemmas = (refl, open_are_lemmas (assumed old) l.lines l.open_yet);
 }
 
@@ -280,21 +280,21 @@ bound_of_run clauses a vars base count places digits quiet given counted run r =
     wider : (x y : ℕ) → x ≤ y → 2 ^ x ≤ 2 ^ y
     wider x y h = subst (λ n. 2 ^ x ≤ 2 ^ n) (let e : x + (y - x) ≡ y = omega (arith, h) in e) (power_grows x (y - x))
 
--- ---- the search between two turns
+-- ---- the search between two rounds
 
 -- the trail of the first level is sound
-pub first_is_sound : (b : Book) (a : Clause) (places : List LoggedPlace) → has_distinct_variables a ≡ true → assumed b ≡ a →
+pub first_is_sound : (b : ProofLog) (a : Clause) (places : List LoggedPlace) → has_distinct_variables a ≡ true → assumed b ≡ a →
     LoggedGrows (standing b) (assumption_places a) places →
     AreWarranted (standing b) (length places) (assumed b) places
 first_is_sound b a places distinct is g =
-    let count : length (assumption_places a) ≡ length a = length-map a (λ (x : Literal). record { literal = x; forced = false }) in
+    let count : length (assumption_places a) ≡ length a = length-map a (λ (x : Literal). record { literal = x; implied = false }) in
     let longer = g.longer in
     sound_grows (standing b) (length places) (assumed b) (assumption_places a) places
     (subst (λ x. AreWarranted (standing b) (length places) x (assumption_places a)) (sym is)
     (assumed_are_sound (standing b) (length places) a distinct (omega (arith, count, longer)))) g
 
 -- the first propagation was quiet
-pub search_begins : (b : Book) (vars limit : ℕ) (a : Clause) (places : List LoggedPlace) → has_distinct_variables a ≡ true → HasVariables vars a →
+pub search_begins : (b : ProofLog) (vars limit : ℕ) (a : Clause) (places : List LoggedPlace) → has_distinct_variables a ≡ true → HasVariables vars a →
     assumed b ≡ a → 1 ≤ limit → All (HasVariables vars) (standing b) →
     All (λ c. has_distinct_variables c ≡ true) (standing b) → in_solve (phase_of b.history) ≡ true → LoggedGrows (standing b) (assumption_places a) places →
     IsQuiet (logged_literals places) (standing b) → InSearch b vars (length places) 0 limit b places true
@@ -320,33 +320,33 @@ search_begins b vars limit a places distinct range_a is one range distinct_b pha
     }
 
 -- a decision, and the propagation after it
-pub search_decides : (old : Book) (vars base conflicts limit : ℕ) (book : Book) (places new : List LoggedPlace) (l : Literal) (is_quiet : Bool) →
-    InSearch old vars base conflicts limit book places true → IsOpenOn (logged_literals places) l →
-    LoggedGrows (standing book) (places ++ record { literal = l; forced = false } ∷ []) new →
-    (is_quiet ≡ true → IsQuiet (logged_literals new) (standing book)) → InSearch old vars base conflicts limit book new is_quiet
-search_decides old vars base conflicts limit book places new l is_quiet s is_open g ended =
-    let decided : List LoggedPlace = places ++ record { literal = l; forced = false } ∷ [] in
-    let longer : length decided ≡ length places + 1 = length_push places (record { literal = l; forced = false }) in
+pub search_decides : (old : ProofLog) (vars base conflicts limit : ℕ) (proof : ProofLog) (places new : List LoggedPlace) (l : Literal) (is_quiet : Bool) →
+    InSearch old vars base conflicts limit proof places true → IsOpenOn (logged_literals places) l →
+    LoggedGrows (standing proof) (places ++ record { literal = l; implied = false } ∷ []) new →
+    (is_quiet ≡ true → IsQuiet (logged_literals new) (standing proof)) → InSearch old vars base conflicts limit proof new is_quiet
+search_decides old vars base conflicts limit proof places new l is_quiet s is_open g ended =
+    let decided : List LoggedPlace = places ++ record { literal = l; implied = false } ∷ [] in
+    let longer : length decided ≡ length places + 1 = length_push places (record { literal = l; implied = false }) in
     let low : base ≤ length decided = omega (arith, s.low, longer) in
-    let front : take base new ≡ take base places = front_after (standing book) base decided new low g ∙
-    take-append-le base places (record { literal = l; forced = false } ∷ []) s.low in
+    let front : take base new ≡ take base places = front_after (standing proof) base decided new low g ∙
+    take-append-le base places (record { literal = l; implied = false } ∷ []) s.low in
     record {
       logged = s.logged;
       under = s.under;
-      sound = sound_grows (standing book) base (assumed book) decided new
-          (sound_push (standing book) base (assumed book) places (record { literal = l; forced = false }) s.sound (record {
+      sound = sound_grows (standing proof) base (assumed proof) decided new
+          (sound_push (standing proof) base (assumed proof) places (record { literal = l; implied = false }) s.sound (record {
             unassigned = is_open;
-            forced = λ is. absurd (false≢true is);
+            implied = λ is. absurd (false≢true is);
             assumed = λ _ below. absurd (let h = s.low in omega (arith, below, h));
             quiet = λ _ _. s.ended refl;
           })) g;
-      given = given_after base places new (assumed book) front s.given;
+      given = given_after base places new (assumed proof) front s.given;
       start = subst (λ ps. IsQuiet (logged_literals ps) (standing old)) (sym front) s.start;
       counted = omega (
         arith,
         s.counted,
-        growing_lowers_nothing (vars - base) base places (record { literal = l; forced = false } ∷ []) s.low,
-        number_after (standing book) (vars - base) base decided new low g,
+        growing_lowers_nothing (vars - base) base places (record { literal = l; implied = false } ∷ []) s.low,
+        number_after (standing proof) (vars - base) base decided new low g,
       );
       low = omega (arith, low, g.longer);
       range = s.range;
@@ -357,29 +357,29 @@ search_decides old vars base conflicts limit book places new l is_quiet s is_ope
     }
 
 -- a learnt clause, and the propagation after it
-pub search_learns : (old : Book) (vars base conflicts limit : ℕ) (book new_book : Book) (places : List LoggedPlace) (after : LoggedTrail) (new : List LoggedPlace)
+pub search_learns : (old : ProofLog) (vars base conflicts limit : ℕ) (proof new_proof : ProofLog) (places : List LoggedPlace) (after : LoggedTrail) (new : List LoggedPlace)
     (o is_quiet : Bool) →
-    InSearch old vars base conflicts limit book places o → HasLearnt base book new_book (record { vars = vars; places = places }) after →
+    InSearch old vars base conflicts limit proof places o → HasLearnt base proof new_proof (record { vars = vars; places = places }) after →
     conflicts + 1 ≢ limit →
-    LoggedGrows (standing new_book) after.places new → (is_quiet ≡ true → IsQuiet (logged_literals new) (standing new_book)) →
-    InSearch old vars base (conflicts + 1) limit new_book new is_quiet
-search_learns old vars base conflicts limit book new_book places after new o is_quiet s h not_all g ended =
-    let same_assumed : assumed new_book ≡ assumed book = ap assumed h.logged.book in
-    let front : take base new ≡ take base places = front_after (standing new_book) base after.places new h.low g ∙ h.front in
+    LoggedGrows (standing new_proof) after.places new → (is_quiet ≡ true → IsQuiet (logged_literals new) (standing new_proof)) →
+    InSearch old vars base (conflicts + 1) limit new_proof new is_quiet
+search_learns old vars base conflicts limit proof new_proof places after new o is_quiet s h not_all g ended =
+    let same_assumed : assumed new_proof ≡ assumed proof = ap assumed h.logged.proof in
+    let front : take base new ≡ take base places = front_after (standing new_proof) base after.places new h.low g ∙ h.front in
     record {
-      logged = one_more old book new_book conflicts h.id h.lemma s.logged h.logged h.open_yet;
+      logged = one_more old proof new_proof conflicts h.id h.lemma s.logged h.logged h.open_yet;
       under = let below = s.under in omega (arith, below, λ (e : conflicts + 1 ≡ limit). not_all e);
-      sound = sound_grows (standing new_book) base (assumed new_book) after.places new h.sound g;
-      given = given_after base places new (assumed new_book) front (subst (All (IsTrueOn (logged_literals (take base places)))) (sym same_assumed) s.given);
+      sound = sound_grows (standing new_proof) base (assumed new_proof) after.places new h.sound g;
+      given = given_after base places new (assumed new_proof) front (subst (All (IsTrueOn (logged_literals (take base places)))) (sym same_assumed) s.given);
       start = subst (λ ps. IsQuiet (logged_literals ps) (standing old)) (sym front) s.start;
-      counted = learnt_counts conflicts vars base places after new (standing new_book) s.counted h.vars h.rises h.low g;
+      counted = learnt_counts conflicts vars base places after new (standing new_proof) s.counted h.vars h.rises h.low g;
       low = omega (arith, h.low, g.longer);
       assumed_range = subst (HasVariables vars) (sym same_assumed) s.assumed_range;
       range = subst (All (HasVariables vars)) (sym h.logged.stands)
-          (All-push (HasVariables vars) (standing book) h.lemma s.range (subst (λ n. HasVariables n h.lemma) h.vars h.range));
+          (All-push (HasVariables vars) (standing proof) h.lemma s.range (subst (λ n. HasVariables n h.lemma) h.vars h.range));
       distinct = subst (All (λ c. has_distinct_variables c ≡ true)) (sym h.logged.stands)
-          (All-push (λ c. has_distinct_variables c ≡ true) (standing book) h.lemma s.distinct h.distinct);
-      phase = ap (λ (b : Book). in_solve (phase_of b.history)) h.logged.book;
+          (All-push (λ c. has_distinct_variables c ≡ true) (standing proof) h.lemma s.distinct h.distinct);
+      phase = ap (λ (b : ProofLog). in_solve (phase_of b.history)) h.logged.proof;
       ended = ended;
     }
   where
@@ -394,11 +394,11 @@ search_learns old vars base conflicts limit book new_book places after new o is_
         omega (arith, counted, rises_here, number_after clauses (vars - base) base after.places new low g)
 
 -- the limit is reached
-pub search_is_spent : (old : Book) (vars base conflicts limit : ℕ) (book new_book : Book) (places : List LoggedPlace) (after : LoggedTrail) (o : Bool) →
-    InSearch old vars base conflicts limit book places o → HasLearnt base book new_book (record { vars = vars; places = places }) after →
-    conflicts + 1 ≡ limit → IsSpent old new_book vars limit
-search_is_spent old vars base conflicts limit book new_book places after o s h all = record {
-  lemmas = subst (HasLemmas old new_book) all (one_more old book new_book conflicts h.id h.lemma s.logged h.logged h.open_yet);
+pub search_is_spent : (old : ProofLog) (vars base conflicts limit : ℕ) (proof new_proof : ProofLog) (places : List LoggedPlace) (after : LoggedTrail) (o : Bool) →
+    InSearch old vars base conflicts limit proof places o → HasLearnt base proof new_proof (record { vars = vars; places = places }) after →
+    conflicts + 1 ≡ limit → IsSpent old new_proof vars limit
+search_is_spent old vars base conflicts limit proof new_proof places after o s h all = record {
+  lemmas = subst (HasLemmas old new_proof) all (one_more old proof new_proof conflicts h.id h.lemma s.logged h.logged h.open_yet);
   bound = λ run r. subst (λ n. n < 2 ^ (vars - length run)) all
       (bound_of_run (standing old) (assumed old) vars base (conflicts + 1) places (drop base (digits after.places)) s.start
       (subst (All (IsTrueOn (logged_literals (take base places)))) s.logged.same_step s.given)
@@ -410,34 +410,34 @@ search_is_spent old vars base conflicts limit book new_book places after o s h a
 }
 
 -- what the propagation after a learnt clause needs
-pub learnt_ranges : (old : Book) (vars base conflicts limit : ℕ) (book new_book : Book) (places : List LoggedPlace) (before after : LoggedTrail) (o : Bool) →
-    InSearch old vars base conflicts limit book places o → HasLearnt base book new_book before after → before.vars ≡ vars →
-    All (HasVariables after.vars) (standing new_book)
-learnt_ranges old vars base conflicts limit book new_book places before after o s h is =
+pub learnt_ranges : (old : ProofLog) (vars base conflicts limit : ℕ) (proof new_proof : ProofLog) (places : List LoggedPlace) (before after : LoggedTrail) (o : Bool) →
+    InSearch old vars base conflicts limit proof places o → HasLearnt base proof new_proof before after → before.vars ≡ vars →
+    All (HasVariables after.vars) (standing new_proof)
+learnt_ranges old vars base conflicts limit proof new_proof places before after o s h is =
     subst (All (HasVariables after.vars)) (sym h.logged.stands)
-    (All-push (HasVariables after.vars) (standing book) h.lemma (subst (λ n. All (HasVariables n) (standing book)) (sym (h.vars ∙ is)) s.range) h.range)
+    (All-push (HasVariables after.vars) (standing proof) h.lemma (subst (λ n. All (HasVariables n) (standing proof)) (sym (h.vars ∙ is)) s.range) h.range)
 
-pub learnt_distinct : (old : Book) (vars base conflicts limit : ℕ) (book new_book : Book) (places : List LoggedPlace) (before after : LoggedTrail) (o : Bool) →
-    InSearch old vars base conflicts limit book places o → HasLearnt base book new_book before after →
-    All (λ c. has_distinct_variables c ≡ true) (standing new_book)
-learnt_distinct old vars base conflicts limit book new_book places before after o s h =
+pub learnt_distinct : (old : ProofLog) (vars base conflicts limit : ℕ) (proof new_proof : ProofLog) (places : List LoggedPlace) (before after : LoggedTrail) (o : Bool) →
+    InSearch old vars base conflicts limit proof places o → HasLearnt base proof new_proof before after →
+    All (λ c. has_distinct_variables c ≡ true) (standing new_proof)
+learnt_distinct old vars base conflicts limit proof new_proof places before after o s h =
     subst (All (λ c. has_distinct_variables c ≡ true)) (sym h.logged.stands)
-    (All-push (λ c. has_distinct_variables c ≡ true) (standing book) h.lemma s.distinct h.distinct)
+    (All-push (λ c. has_distinct_variables c ≡ true) (standing proof) h.lemma s.distinct h.distinct)
 
 -- each variable is assigned and nothing is false or unit
-pub search_finds : (old : Book) (vars base conflicts limit : ℕ) (book : Book) (places : List LoggedPlace) (values : List (Option Bool)) →
-    InSearch old vars base conflicts limit book places true →
-    AreAssigned (logged_literals places) vars → HasValues (logged_literals places) vars values → IsFound old book vars limit values
-search_finds old vars base conflicts limit book places values s all has = record {
+pub search_finds : (old : ProofLog) (vars base conflicts limit : ℕ) (proof : ProofLog) (places : List LoggedPlace) (values : List (Option Bool)) →
+    InSearch old vars base conflicts limit proof places true →
+    AreAssigned (logged_literals places) vars → HasValues (logged_literals places) vars values → IsFound old proof vars limit values
+search_finds old vars base conflicts limit proof places values s all has = record {
   count = conflicts;
   lemmas = s.logged;
   under = s.under;
-  solution = solution (logged_literals places) vars (standing book) (assumed book) values (s.ended refl) all
-      (consistent (standing book) base (assumed book) places s.sound)
-      (λ c there l in_c. All-contains (IsWithin vars) c l (All-contains (HasVariables vars) (standing book) c s.range there) in_c)
-      (λ l there. All-contains (IsWithin vars) (assumed book) l s.assumed_range there)
-      (all_from (IsTrueOn (logged_literals places)) (assumed book)
-      (λ l there. true_at_end (λ (x : LoggedPlace). x.literal) places base l (All-contains (IsTrueOn (logged_literals (take base places))) (assumed book) l s.given there)))
+  solution = solution (logged_literals places) vars (standing proof) (assumed proof) values (s.ended refl) all
+      (consistent (standing proof) base (assumed proof) places s.sound)
+      (λ c there l in_c. All-contains (IsWithin vars) c l (All-contains (HasVariables vars) (standing proof) c s.range there) in_c)
+      (λ l there. All-contains (IsWithin vars) (assumed proof) l s.assumed_range there)
+      (all_from (IsTrueOn (logged_literals places)) (assumed proof)
+      (λ l there. true_at_end (λ (x : LoggedPlace). x.literal) places base l (All-contains (IsTrueOn (logged_literals (take base places))) (assumed proof) l s.given there)))
       has;
 }
 
@@ -450,12 +450,12 @@ assumed_next vars a i l d range at = record {
 }
 
 -- the clauses after the last lemma
-pub refuted_ranges : (vars : ℕ) (old new : Book) (id : ℕ) → HasRefuted old new id → All (HasVariables vars) (standing old) →
+pub refuted_ranges : (vars : ℕ) (old new : ProofLog) (id : ℕ) → HasRefuted old new id → All (HasVariables vars) (standing old) →
     All (HasVariables vars) (standing new)
 refuted_ranges vars old new id h range =
     subst (All (HasVariables vars)) (sym h.logged.stands) (All-push (HasVariables vars) (standing old) h.lemma range (h.range vars range))
 
-pub refuted_distinct : (old new : Book) (id : ℕ) → HasRefuted old new id → All (λ c. has_distinct_variables c ≡ true) (standing old) →
+pub refuted_distinct : (old new : ProofLog) (id : ℕ) → HasRefuted old new id → All (λ c. has_distinct_variables c ≡ true) (standing old) →
     All (λ c. has_distinct_variables c ≡ true) (standing new)
 refuted_distinct old new id h distinct =
     subst (All (λ c. has_distinct_variables c ≡ true)) (sym h.logged.stands)

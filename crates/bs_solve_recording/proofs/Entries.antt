@@ -9,7 +9,7 @@ use Rattle.bs_clause.specs.Literal.{Clause, negation}
 use Rattle.bs_log.specs.declared.line.Line.{Line}
 use Rattle.bs_log.specs.declared.line.Line.TheVariants.{Solve, Lemma, Block, Finish, Retire, Delete}
 use Rattle.bs_log.specs.declared.origin.Origin.TheVariants.{Learnt, Blocked, Retired}
-use Rattle.bs_log.specs.History.{Problem, History, Entry, axioms_from, added, is_deleted, live, last_id, state_of, phase_of, step_of, guard_of}
+use Rattle.bs_log.specs.History.{Problem, History, Entry, axioms_from, added, is_deleted, live, last_id, state_of, phase_of, step_of, activation_of}
 use Rattle.bs_log.specs.Refusal.{NoneRefused, entry_of, passes, is_lemma, is_lemma_or_block, in_solve, is_between_steps, is_ascending}
 use Rattle.bs_log.specs.LineForms.{IsId}
 use Rattle.bs_log.proofs.Tests.{right_from_none}
@@ -124,7 +124,7 @@ added_given p (Block id lits ∷ h) right =
     given_push (last_id p h) id (added p h) (record { id = id; origin = Blocked; literals = lits }) (added_given p h right.1)
     (next_given p h (in_solve (phase_of h)) id (right_from_none p (state_of p h) (Block id lits) right.0).order) refl
 added_given p (Retire id ∷ h) right =
-    given_push (last_id p h) id (added p h) (record { id = id; origin = Retired; literals = negation (guard_of p (step_of h)) ∷ [] })
+    given_push (last_id p h) id (added p h) (record { id = id; origin = Retired; literals = negation (activation_of p (step_of h)) ∷ [] })
     (added_given p h right.1)
     (next_given p h (not (is_between_steps (phase_of h))) id (right_from_none p (state_of p h) (Retire id) right.0).order) refl
 

@@ -11,9 +11,9 @@ use Rattle.bs_log.specs.Kept.{kept_lemmas}
 use Rattle.bs_log.specs.Lean.{LeavesKept, StepsLeaveKept, is_block}
 use Rattle.bs_log.specs.Steps.{is_lemma_line}
 use Rattle.bs_log.proofs.Histories.{same_live, with_step}
-use Rattle.bs_solve_recording.specs.Book.{Book}
+use Rattle.bs_solve_recording.specs.ProofLog.{ProofLog}
 use Rattle.bs_solve_recording.specs.Ending.{SomeLemmas}
-use Rattle.bs_solve_recording.specs.Stages.{begun_book}
+use Rattle.bs_solve_recording.specs.Stages.{begun_proof}
 
 left_with_step : (p : Problem) (member : Clause) (step : ℕ) (retired after : History) → LeavesKept p step retired after →
     LeavesKept (with_step p member) step retired after
@@ -40,8 +40,8 @@ leaves_with_step p member (Delete ids ∷ Retire id ∷ h) l =
     (left_with_step p member (step_of h) (Retire id ∷ h) (Delete ids ∷ Retire id ∷ h) l.0, leaves_with_step p member h l.1)
 leaves_with_step p member (Delete ids ∷ Delete more ∷ h) l = leaves_with_step p member (Delete more ∷ h) l
 
-pub leaves_begun : (first : Bool) (b : Book) (a : Clause) → StepsLeaveKept b.problem b.history →
-    StepsLeaveKept (begun_book first b a).problem (begun_book first b a).history
+pub leaves_begun : (first : Bool) (b : ProofLog) (a : Clause) → StepsLeaveKept b.problem b.history →
+    StepsLeaveKept (begun_proof first b a).problem (begun_proof first b a).history
 leaves_begun true b a l = leaves_with_step b.problem a b.history l
 leaves_begun false b a l = l
 
@@ -55,7 +55,7 @@ leaves_lemmas p (Finish id ∷ lines) h all l = absurd (false≢true all.0)
 leaves_lemmas p (Retire id ∷ lines) h all l = absurd (false≢true all.0)
 leaves_lemmas p (Delete ids ∷ lines) h all l = absurd (false≢true all.0)
 
-pub leaves_after : (begun new : Book) → SomeLemmas begun new → StepsLeaveKept begun.problem begun.history → StepsLeaveKept new.problem new.history
+pub leaves_after : (begun new : ProofLog) → SomeLemmas begun new → StepsLeaveKept begun.problem begun.history → StepsLeaveKept new.problem new.history
 leaves_after begun new l leaves =
     subst (λ p. StepsLeaveKept p new.history) (sym l.problem)
     (subst (StepsLeaveKept begun.problem) (sym l.history) (leaves_lemmas begun.problem l.lines begun.history l.lemmas leaves))

@@ -1,4 +1,4 @@
--- A recording with a line more, and a book with one more step.
+-- A recording with a line more, and a proof log with one more step.
 use Rattle.std.proofs.Common.{◌≡◌, ℕ, ◌+◌, ◌≤◌, true, List, [], ◌∷◌, ◌++◌, map, reverse, length, refl, sym, ap, subst, ◌∙◌, inl, inr, eqb}
 use Rattle.std.specs.Prelude.{All}
 use Rattle.std.specs.List.{filter}
@@ -14,38 +14,38 @@ use Rattle.bs_log.specs.Lean.{IsNew, IsResolventOf, IsContained, LemmasAreLean, 
 use Rattle.bs_log.proofs.Tests.{right_from_none}
 use Rattle.bs_log.proofs.Histories.{in_range, solve_is_inside, same_live, same_last, same_assumptions, NoneRefused-with_step, with_step}
 use Rattle.bs_log.proofs.Laws.{step_of-positive}
-use Rattle.bs_solve_recording.specs.Book.{Book, standing, IsRecorded, with_line, with_member}
+use Rattle.bs_solve_recording.specs.ProofLog.{ProofLog, standing, IsRecorded, with_line, with_member}
 
 -- ---- the fields of a recording
 
 -- what is seen of them
-abbrev pub seen_book : ℕ → List Clause → List Clause → List Line → Book
-seen_book vars axioms steps log = record { problem = record { vars = vars; clauses = axioms; steps = steps }; history = reverse log }
+abbrev pub seen_proof : ℕ → List Clause → List Clause → List Line → ProofLog
+seen_proof vars axioms steps log = record { problem = record { vars = vars; clauses = axioms; steps = steps }; history = reverse log }
 
-pub seen_line : (vars : ℕ) (axioms steps : List Clause) (log longer : List Line) (line : Line) (now : Book) → seen_book vars axioms steps log ≡ now →
-    longer ≡ log ++ line ∷ [] → seen_book vars axioms steps longer ≡ with_line now line
+pub seen_line : (vars : ℕ) (axioms steps : List Clause) (log longer : List Line) (line : Line) (now : ProofLog) → seen_proof vars axioms steps log ≡ now →
+    longer ≡ log ++ line ∷ [] → seen_proof vars axioms steps longer ≡ with_line now line
 seen_line vars axioms steps log longer line now is is_longer =
     let newest : reverse longer ≡ line ∷ reverse log = ap reverse is_longer ∙ reverse-append log (line ∷ []) in
     (λ i. record { problem = record { vars = vars; clauses = axioms; steps = steps }; history = newest i }) ∙ ap (λ b. with_line b line) is
 
--- it is right where the book with one more line is
-pub recorded_line : (last : ℕ) (ids : List ℕ) (vars : ℕ) (axioms steps : List Clause) (log longer : List Line) (line : Line) (now : Book) →
-    seen_book vars axioms steps log ≡ now → longer ≡ log ++ line ∷ [] → IsRecorded last ids (with_line now line) →
-    IsRecorded last ids (seen_book vars axioms steps longer)
+-- it is right where the proof log with one more line is
+pub recorded_line : (last : ℕ) (ids : List ℕ) (vars : ℕ) (axioms steps : List Clause) (log longer : List Line) (line : Line) (now : ProofLog) →
+    seen_proof vars axioms steps log ≡ now → longer ≡ log ++ line ∷ [] → IsRecorded last ids (with_line now line) →
+    IsRecorded last ids (seen_proof vars axioms steps longer)
 recorded_line last ids vars axioms steps log longer line now is is_longer =
     subst (IsRecorded last ids) (sym (seen_line vars axioms steps log longer line now is is_longer))
 
 -- two lines more
-pub seen_two : (vars : ℕ) (axioms steps : List Clause) (log longer : List Line) (first second : Line) (now : Book) →
-    seen_book vars axioms steps log ≡ now → longer ≡ log ++ first ∷ second ∷ [] →
-    seen_book vars axioms steps longer ≡ with_line (with_line now first) second
+pub seen_two : (vars : ℕ) (axioms steps : List Clause) (log longer : List Line) (first second : Line) (now : ProofLog) →
+    seen_proof vars axioms steps log ≡ now → longer ≡ log ++ first ∷ second ∷ [] →
+    seen_proof vars axioms steps longer ≡ with_line (with_line now first) second
 seen_two vars axioms steps log longer first second now is is_longer =
     let newest : reverse longer ≡ second ∷ first ∷ reverse log = ap reverse is_longer ∙ reverse-append log (first ∷ second ∷ []) in
     (λ i. record { problem = record { vars = vars; clauses = axioms; steps = steps }; history = newest i }) ∙
     ap (λ b. with_line (with_line b first) second) is
 
-pub seen_step : (vars : ℕ) (axioms steps more : List Clause) (log : List Line) (member : Clause) (now : Book) → seen_book vars axioms steps log ≡ now →
-    more ≡ steps ++ member ∷ [] → seen_book vars axioms more log ≡ with_member now member
+pub seen_step : (vars : ℕ) (axioms steps more : List Clause) (log : List Line) (member : Clause) (now : ProofLog) → seen_proof vars axioms steps log ≡ now →
+    more ≡ steps ++ member ∷ [] → seen_proof vars axioms more log ≡ with_member now member
 seen_step vars axioms steps more log member now is is_more =
     (λ i. record { problem = record { vars = vars; clauses = axioms; steps = is_more i }; history = reverse log }) ∙ ap (λ b. with_member b member) is
 
@@ -64,9 +64,9 @@ no_lemma n (c ∷ cs) = no_lemma (n + 1) cs
 
 -- the first lines are none
 pub recorded_first : (vars last : ℕ) (axioms steps : List Clause) (ids : List ℕ) (log : List Line) → last ≡ length axioms → log ≡ [] → ids ≡ [] →
-    IsRecorded last ids (seen_book vars axioms steps log)
+    IsRecorded last ids (seen_proof vars axioms steps log)
 recorded_first vars last axioms steps ids log is none no_ids =
-    subst (λ ls. IsRecorded last ids (seen_book vars axioms steps ls)) (sym none)
+    subst (λ ls. IsRecorded last ids (seen_proof vars axioms steps ls)) (sym none)
     (record { kept = record { right = tt; lean = tt; texts = tt }; last_is = is; lemmas = no_ids ∙ sym (no_lemma 1 axioms) })
 
 -- ---- one more step
@@ -92,13 +92,13 @@ lean_with_step p member (Lemma id lits hints ∷ h) right lean =
       lean_with_step p member h right.1 lean.2,
     )
 
-pub live_with_member : (b : Book) (member : Clause) → live (with_member b member).problem (with_member b member).history ≡ live b.problem b.history
+pub live_with_member : (b : ProofLog) (member : Clause) → live (with_member b member).problem (with_member b member).history ≡ live b.problem b.history
 live_with_member b member = same_live b.problem member b.history
 
-pub standing_with_member : (b : Book) (member : Clause) → standing (with_member b member) ≡ standing b
+pub standing_with_member : (b : ProofLog) (member : Clause) → standing (with_member b member) ≡ standing b
 standing_with_member b member = ap (map (λ (e : Entry). e.literals)) (live_with_member b member)
 
-pub recorded_member : (last : ℕ) (ids : List ℕ) (b : Book) (member : Clause) → IsRecorded last ids b → IsRecorded last ids (with_member b member)
+pub recorded_member : (last : ℕ) (ids : List ℕ) (b : ProofLog) (member : Clause) → IsRecorded last ids b → IsRecorded last ids (with_member b member)
 recorded_member last ids b member r = record {
   kept = record {
     right = NoneRefused-with_step b.problem member b.history r.kept.right;

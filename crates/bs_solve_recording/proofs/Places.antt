@@ -8,7 +8,7 @@ use Rattle.bs_clause.specs.Literal.{Literal, Clause}
 use Rattle.bs_solve_recording.specs.Place.{LoggedPlace}
 use Rattle.bs_watch.specs.Trail.{IsQuiet}
 use Rattle.bs_solve_recording.specs.Places.{logged_literals, IsWarranted, AreWarranted}
-use Rattle.bs_solve_recording.specs.Grown.{IsLoggedForced, LoggedGrows}
+use Rattle.bs_solve_recording.specs.Grown.{IsLoggedImplied, LoggedGrows}
 use Rattle.bs_watch.proofs.Gets.{none_is_not_some, get_push_cases, get_take, take_get, get_within}
 
 -- the empty trail
@@ -39,7 +39,7 @@ sound_take clauses base a places n s = record {
 
 -- one more clause, where the trail is quiet for all of them at each decision
 pub sound_clause : (clauses : List Clause) (c : Clause) (base : ℕ) (a : List Literal) (places : List LoggedPlace) → AreWarranted clauses base a places →
-    ((k : ℕ) (p : LoggedPlace) → slice_get places k ≡ Some p → p.forced ≡ false → base ≤ k → IsQuiet (logged_literals (take k places)) (clauses ++ c ∷ [])) →
+    ((k : ℕ) (p : LoggedPlace) → slice_get places k ≡ Some p → p.implied ≡ false → base ≤ k → IsQuiet (logged_literals (take k places)) (clauses ++ c ∷ [])) →
     AreWarranted (clauses ++ c ∷ []) base a places
 sound_clause clauses c base a places s quiet = record {
   placed = λ k p e.
@@ -48,7 +48,7 @@ sound_clause clauses c base a places s quiet = record {
       let length_k : length (take k places) ≡ k = length-take-le k places (omega arith) in
       record {
         unassigned = old.unassigned;
-        forced = λ is. let f = old.forced is in (f.0, Contains-append_left clauses (c ∷ []) f.0 f.1, f.2);
+        implied = λ is. let f = old.implied is in (f.0, Contains-append_left clauses (c ∷ []) f.0 f.1, f.2);
         assumed = old.assumed;
         quiet = λ none above. quiet k p e none (omega (arith, above, length_k));
       };
@@ -60,28 +60,28 @@ pub grows_none : (clauses : List Clause) (places : List LoggedPlace) → LoggedG
 grows_none clauses places = record {
   longer = omega arith;
   front = take_all (length places) places (omega arith);
-  forced = λ k p past e. absurd (let within = get_within places k p e in omega (arith, past, within));
+  implied = λ k p past e. absurd (let within = get_within places k p e in omega (arith, past, within));
 }
 
-pub grows_push : (clauses : List Clause) (old new : List LoggedPlace) (p : LoggedPlace) → LoggedGrows clauses old new → IsLoggedForced clauses new p → LoggedGrows clauses old (new ++ p ∷ [])
+pub grows_push : (clauses : List Clause) (old new : List LoggedPlace) (p : LoggedPlace) → LoggedGrows clauses old new → IsLoggedImplied clauses new p → LoggedGrows clauses old (new ++ p ∷ [])
 grows_push clauses old new p g f = record {
   longer = omega (arith, g.longer, length_push new p);
   front = take-append-le (length old) new (p ∷ []) g.longer ∙ g.front;
-  forced = λ k q past e. elim (get_push_cases new p q k e) [
+  implied = λ k q past e. elim (get_push_cases new p q k e) [
     | inl there ↦
         let within = get_within new k q there in
-        subst (λ earlier. IsLoggedForced clauses earlier q) (sym (take-append-le k new (p ∷ []) (omega arith))) (g.forced k q past there)
+        subst (λ earlier. IsLoggedImplied clauses earlier q) (sym (take-append-le k new (p ∷ []) (omega arith))) (g.implied k q past there)
     | inr last ↦
-        subst (λ earlier. IsLoggedForced clauses earlier q) (sym (take_at new (p ∷ []) k (sym last.0))) (subst (IsLoggedForced clauses new) last.1 f)
+        subst (λ earlier. IsLoggedImplied clauses earlier q) (sym (take_at new (p ∷ []) k (sym last.0))) (subst (IsLoggedImplied clauses new) last.1 f)
   ];
 }
 
--- a forced literal is placed on any level
-pub placed_from_forced : (clauses : List Clause) (base : ℕ) (a : List Literal) (earlier : List LoggedPlace) (p : LoggedPlace) → IsLoggedForced clauses earlier p →
+-- an implied literal is placed on any level
+pub placed_from_implied : (clauses : List Clause) (base : ℕ) (a : List Literal) (earlier : List LoggedPlace) (p : LoggedPlace) → IsLoggedImplied clauses earlier p →
     IsWarranted clauses base a earlier p
-placed_from_forced clauses base a earlier p f = record {
-  unassigned = f.forces.unassigned;
-  forced = λ _. (f.clause, f.there, f.forces);
+placed_from_implied clauses base a earlier p f = record {
+  unassigned = f.implies.unassigned;
+  implied = λ _. (f.clause, f.there, f.implies);
   assumed = λ free. absurd (false≢true (sym free ∙ f.is));
   quiet = λ free. absurd (false≢true (sym free ∙ f.is));
 }
@@ -94,7 +94,7 @@ sound_grows clauses base a old new s g = record {
         let in_old : slice_get old k ≡ Some p = subst (λ xs. slice_get xs k ≡ Some p) g.front (take_get (length old) new k p before e) in
         let front : take k old ≡ take k new = ap (take k) (sym g.front) ∙ take-take k (length old) new (omega arith) in
         subst (λ earlier. IsWarranted clauses base a earlier p) front (s.placed k p in_old)
-    | inr past ↦ placed_from_forced clauses base a (take k new) p (g.forced k p past e)
+    | inr past ↦ placed_from_implied clauses base a (take k new) p (g.implied k p past e)
   ];
 }
 
@@ -102,11 +102,11 @@ pub grows_trans : (clauses : List Clause) (a b c : List LoggedPlace) → LoggedG
 grows_trans clauses a b c g h = record {
   longer = omega (arith, g.longer, h.longer);
   front = sym (take-take (length a) (length b) c g.longer) ∙ ap (take (length a)) h.front ∙ g.front;
-  forced = λ k p past e. elim (cases_lt k (length b)) [
+  implied = λ k p past e. elim (cases_lt k (length b)) [
     | inl before ↦
         let in_b : slice_get b k ≡ Some p = subst (λ xs. slice_get xs k ≡ Some p) h.front (take_get (length b) c k p before e) in
         let front : take k b ≡ take k c = ap (take k) (sym h.front) ∙ take-take k (length b) c (omega arith) in
-        subst (λ earlier. IsLoggedForced clauses earlier p) front (g.forced k p past in_b)
-    | inr beyond ↦ h.forced k p beyond e
+        subst (λ earlier. IsLoggedImplied clauses earlier p) front (g.implied k p past in_b)
+    | inr beyond ↦ h.implied k p beyond e
   ];
 }

@@ -13,7 +13,7 @@ use Rattle.bs_clause.specs.Range.{IsWithin, HasVariables}
 use Rattle.bs_log.proofs.Laws.{step_of-positive}
 use Rattle.bs_log.specs.declared.line.Line.{Line}
 use Rattle.bs_log.specs.declared.line.Line.TheVariants.{Solve, Lemma, Block, Finish, Retire, Delete}
-use Rattle.bs_log.specs.History.{Problem, History, Entry, step_of, phase_of, live, state_of, guard_of}
+use Rattle.bs_log.specs.History.{Problem, History, Entry, step_of, phase_of, live, state_of, activation_of}
 use Rattle.bs_log.specs.Refusal.{in_order, in_solve, is_after_block, is_between_steps, passes, is_lemma, entry_of, denies, assumptions_of}
 use Rattle.bs_log.specs.Refusal.{has_distinct_variables, is_block_of}
 use Rattle.bs_log.specs.Steps.{is_lemma_line}
@@ -22,11 +22,11 @@ use Rattle.bs_solve_recording.specs.declared.stage.Stage.TheVariants.{Idle, Begu
 use Rattle.bs_solve_recording.specs.declared.answer.Answer.{Answer}
 use Rattle.bs_solve_recording.specs.declared.answer.Answer.TheVariants.{Found, Refuted, Spent}
 use Rattle.bs_log.specs.Lean.{StepsLeaveKept}
-use Rattle.bs_solve_recording.specs.Book.{Book, standing, next_id, with_line, with_member}
+use Rattle.bs_solve_recording.specs.ProofLog.{ProofLog, standing, next_id, with_line, with_member}
 use Rattle.bs_solve_recording.specs.Search.{assumed, HasRefuted}
 use Rattle.bs_solve_recording.specs.Ending.{SomeLemmas, Ends}
 use Rattle.bs_solve_recording.specs.Stages.{is_begun, is_solved, stage_of, IsIdle, IsBegun, IsInside, IsSearched, IsBlocked, IsEnded, Fits, EndsStep}
-use Rattle.bs_solve_recording.specs.Stages.{begun_book, MayBegin}
+use Rattle.bs_solve_recording.specs.Stages.{begun_proof, MayBegin}
 use Rattle.bs_solve_recording.specs.Solver.{SolverState, IsReady, MaySolve, HasSolved, HasBlocked, Follows, finished}
 use Rattle.bs_watch.proofs.Gets.{get_last}
 use Rattle.bs_solve_analysis.proofs.Clauses.{distinct_cons}
@@ -36,18 +36,18 @@ use Rattle.bs_solve_recording.proofs.Leavings.{leaves_begun, leaves_after}
 
 -- ---- a solve begins
 
-pub may_begin : (s : SolverState) (a : Clause) → IsReady s → MaySolve s a → s.failed ≡ false → MayBegin s.book (is_begun s.stage)
+pub may_begin : (s : SolverState) (a : Clause) → IsReady s → MaySolve s a → s.failed ≡ false → MayBegin s.proof (is_begun s.stage)
 may_begin s a ready may well = by s.stage (may.stage well) (ready.fits well)
   where
-    by : (stage : Stage) → (stage ≡ Begun) ⊎ (stage ≡ Blocked) → Fits stage s.book s.vars → MayBegin s.book (is_begun stage)
+    by : (stage : Stage) → (stage ≡ Begun) ⊎ (stage ≡ Blocked) → Fits stage s.proof s.vars → MayBegin s.proof (is_begun stage)
     by stage (inl is) fits =
-        let b : IsBegun s.book s.vars = subst (λ x. Fits x s.book s.vars) is fits in
-        subst (λ x. MayBegin s.book (is_begun x)) (sym is) (record { at_first = λ _. (b.phase, b.steps); again = λ e. absurd (true≢false e) })
+        let b : IsBegun s.proof s.vars = subst (λ x. Fits x s.proof s.vars) is fits in
+        subst (λ x. MayBegin s.proof (is_begun x)) (sym is) (record { at_first = λ _. (b.phase, b.steps); again = λ e. absurd (true≢false e) })
     by stage (inr is) fits =
-        let b : IsBlocked s.book s.vars = subst (λ x. Fits x s.book s.vars) is fits in
-        subst (λ x. MayBegin s.book (is_begun x)) (sym is) (record { at_first = λ e. absurd (false≢true e); again = λ _. b.phase })
+        let b : IsBlocked s.proof s.vars = subst (λ x. Fits x s.proof s.vars) is fits in
+        subst (λ x. MayBegin s.proof (is_begun x)) (sym is) (record { at_first = λ e. absurd (false≢true e); again = λ _. b.phase })
 
-pub order_at_first : (b : Book) (a : Clause) → MayBegin b true →
+pub order_at_first : (b : ProofLog) (a : Clause) → MayBegin b true →
     in_order (with_member b a).problem (state_of (with_member b a).problem (with_member b a).history) Solve ≡ true
 order_at_first b a may =
     let facts = may.at_first refl in
@@ -55,46 +55,46 @@ order_at_first b a may =
     (and_from (is_between_steps (phase_of b.history)) (leb (step_of b.history) (length (b.problem.steps ++ a ∷ []))) facts.0
     (le-leb (step_of b.history) (length (b.problem.steps ++ a ∷ [])) (let steps = facts.1 in omega (arith, steps, length_push b.problem.steps a))))
 
-pub order_again : (b : Book) → MayBegin b false → in_order b.problem (state_of b.problem b.history) Solve ≡ true
+pub order_again : (b : ProofLog) → MayBegin b false → in_order b.problem (state_of b.problem b.history) Solve ≡ true
 order_again b may =
     or_left (is_after_block (phase_of b.history)) (is_between_steps (phase_of b.history) && leb (step_of b.history) (length b.problem.steps)) (may.again refl)
 
-pub begun_stands : (b : Book) (first : Bool) (a : Clause) → standing (begun_book first b a) ≡ standing b
+pub begun_stands : (b : ProofLog) (first : Bool) (a : Clause) → standing (begun_proof first b a) ≡ standing b
 begun_stands b true a = standing_with_member b a
 begun_stands b false a = refl
 
-pub begun_phase : (b : Book) (first : Bool) (a : Clause) → in_solve (phase_of (begun_book first b a).history) ≡ true
+pub begun_phase : (b : ProofLog) (first : Bool) (a : Clause) → in_solve (phase_of (begun_proof first b a).history) ≡ true
 begun_phase b true a = refl
 begun_phase b false a = refl
 
 -- the assumptions that were added are those of the step
-added_assumptions : (b : Book) (a : Clause) → length b.problem.steps + 1 ≡ step_of b.history → assumed (with_member b a) ≡ a
+added_assumptions : (b : ProofLog) (a : Clause) → length b.problem.steps + 1 ≡ step_of b.history → assumed (with_member b a) ≡ a
 added_assumptions b a steps =
     ap (λ n. unwrap_or (slice_get (b.problem.steps ++ a ∷ []) n) []) (let e : step_of b.history - 1 ≡ length b.problem.steps = omega (arith, steps) in e) ∙
     ap (λ o. unwrap_or o []) (get_last b.problem.steps a)
 
-pub begun_assumptions : (s : SolverState) (a : Clause) → IsReady s → MaySolve s a → s.failed ≡ false → assumed (begun_book (is_begun s.stage) s.book a) ≡ a
+pub begun_assumptions : (s : SolverState) (a : Clause) → IsReady s → MaySolve s a → s.failed ≡ false → assumed (begun_proof (is_begun s.stage) s.proof a) ≡ a
 begun_assumptions s a ready may well = by s.stage (may.stage well) may.again (ready.fits well)
   where
-    by : (stage : Stage) → (stage ≡ Begun) ⊎ (stage ≡ Blocked) → (stage ≡ Blocked → assumed s.book ≡ a) → Fits stage s.book s.vars →
-        assumed (begun_book (is_begun stage) s.book a) ≡ a
+    by : (stage : Stage) → (stage ≡ Begun) ⊎ (stage ≡ Blocked) → (stage ≡ Blocked → assumed s.proof ≡ a) → Fits stage s.proof s.vars →
+        assumed (begun_proof (is_begun stage) s.proof a) ≡ a
     by stage (inl is) again fits =
-        let b : IsBegun s.book s.vars = subst (λ x. Fits x s.book s.vars) is fits in
-        subst (λ x. assumed (begun_book (is_begun x) s.book a) ≡ a) (sym is) (added_assumptions s.book a b.steps)
-    by stage (inr is) again fits = subst (λ x. assumed (begun_book (is_begun x) s.book a) ≡ a) (sym is) (again is)
+        let b : IsBegun s.proof s.vars = subst (λ x. Fits x s.proof s.vars) is fits in
+        subst (λ x. assumed (begun_proof (is_begun x) s.proof a) ≡ a) (sym is) (added_assumptions s.proof a b.steps)
+    by stage (inr is) again fits = subst (λ x. assumed (begun_proof (is_begun x) s.proof a) ≡ a) (sym is) (again is)
 
-pub begun_inside : (s : SolverState) (a : Clause) → IsReady s → MaySolve s a → s.failed ≡ false → IsInside (begun_book (is_begun s.stage) s.book a) s.vars
+pub begun_inside : (s : SolverState) (a : Clause) → IsReady s → MaySolve s a → s.failed ≡ false → IsInside (begun_proof (is_begun s.stage) s.proof a) s.vars
 begun_inside s a ready may well = by s.stage (may.stage well) (ready.fits well)
   where
-    by : (stage : Stage) → (stage ≡ Begun) ⊎ (stage ≡ Blocked) → Fits stage s.book s.vars → IsInside (begun_book (is_begun stage) s.book a) s.vars
+    by : (stage : Stage) → (stage ≡ Begun) ⊎ (stage ≡ Blocked) → Fits stage s.proof s.vars → IsInside (begun_proof (is_begun stage) s.proof a) s.vars
     by stage (inl is) fits =
-        let b : IsBegun s.book s.vars = subst (λ x. Fits x s.book s.vars) is fits in
+        let b : IsBegun s.proof s.vars = subst (λ x. Fits x s.proof s.vars) is fits in
         let steps = b.steps in
-        subst (λ x. IsInside (begun_book (is_begun x) s.book a) s.vars) (sym is)
-        (record { vars_is = b.vars_is; steps = omega (arith, steps, length_push s.book.problem.steps a) })
+        subst (λ x. IsInside (begun_proof (is_begun x) s.proof a) s.vars) (sym is)
+        (record { vars_is = b.vars_is; steps = omega (arith, steps, length_push s.proof.problem.steps a) })
     by stage (inr is) fits =
-        let b : IsBlocked s.book s.vars = subst (λ x. Fits x s.book s.vars) is fits in
-        subst (λ x. IsInside (begun_book (is_begun x) s.book a) s.vars) (sym is) (record { vars_is = b.inside.vars_is; steps = b.inside.steps })
+        let b : IsBlocked s.proof s.vars = subst (λ x. Fits x s.proof s.vars) is fits in
+        subst (λ x. IsInside (begun_proof (is_begun x) s.proof a) s.vars) (sym is) (record { vars_is = b.inside.vars_is; steps = b.inside.steps })
 
 -- ---- a solve ends
 
@@ -117,7 +117,7 @@ phase_of_lemmas (Finish id ∷ lines) h all inside = absurd (false≢true all.0)
 phase_of_lemmas (Retire id ∷ lines) h all inside = absurd (false≢true all.0)
 phase_of_lemmas (Delete ids ∷ lines) h all inside = absurd (false≢true all.0)
 
-pub searched_after : (begun new : Book) (vars : ℕ) → SomeLemmas begun new → IsInside begun vars → in_solve (phase_of begun.history) ≡ true → IsSearched new vars
+pub searched_after : (begun new : ProofLog) (vars : ℕ) → SomeLemmas begun new → IsInside begun vars → in_solve (phase_of begun.history) ≡ true → IsSearched new vars
 searched_after begun new vars l inside phase =
     let same_step : step_of new.history ≡ step_of begun.history = ap step_of l.history ∙ step_of_lemmas l.lines begun.history l.lemmas in
     let same_vars : new.problem.vars ≡ begun.problem.vars = ap (λ (p : Problem). p.vars) l.problem in
@@ -128,20 +128,20 @@ searched_after begun new vars l inside phase =
     }
 
 -- lemmas leave the step's assumptions
-pub assumed_after : (begun new : Book) → SomeLemmas begun new → assumed new ≡ assumed begun
+pub assumed_after : (begun new : ProofLog) → SomeLemmas begun new → assumed new ≡ assumed begun
 assumed_after begun new l =
     ap (λ p. assumptions_of p (step_of new.history)) l.problem ∙
     ap (assumptions_of begun.problem) (ap step_of l.history ∙ step_of_lemmas l.lines begun.history l.lemmas)
 
-refuted_ends : (old new : Book) (id : ℕ) → HasRefuted old new id →
+refuted_ends : (old new : ProofLog) (id : ℕ) → HasRefuted old new id →
     (passes is_lemma (entry_of (live new.problem new.history) id) ≡ true) ×
     (passes (λ e. denies (assumed new) e.literals) (entry_of (live new.problem new.history) id) ≡ true)
 refuted_ends old new id h = (
   ap (passes is_lemma) h.logged.entry,
-  ap (passes (λ (e : Entry). denies (assumed new) e.literals)) h.logged.entry ∙ ap (λ a. denies a h.lemma) (ap assumed h.logged.book) ∙ h.ends,
+  ap (passes (λ (e : Entry). denies (assumed new) e.literals)) h.logged.entry ∙ ap (λ a. denies a h.lemma) (ap assumed h.logged.proof) ∙ h.ends,
 )
 
-pub fits_after : (begun new : Book) (vars limit : ℕ) (answer : Answer) → SomeLemmas begun new → IsInside begun vars → in_solve (phase_of begun.history) ≡ true →
+pub fits_after : (begun new : ProofLog) (vars limit : ℕ) (answer : Answer) → SomeLemmas begun new → IsInside begun vars → in_solve (phase_of begun.history) ≡ true →
     Ends begun new vars limit answer → Fits (stage_of answer) new vars
 fits_after begun new vars limit (Found values) l inside phase e = searched_after begun new vars l inside phase
 fits_after begun new vars limit (Refuted id) l inside phase e =
@@ -151,17 +151,17 @@ fits_after begun new vars limit Spent l inside phase e = searched_after begun ne
 
 -- ---- a block
 
--- the step's guard is above the variables of the clauses
-pub guard_is_new : (b : Book) (vars : ℕ) → IsInside b vars → b.problem.vars < vars
-guard_is_new b vars inside = let positive = step_of-positive b.history in let is = inside.vars_is in omega (arith, positive, is)
+-- the step's activation literal is above the variables of the clauses
+pub activation_is_new : (b : ProofLog) (vars : ℕ) → IsInside b vars → b.problem.vars < vars
+activation_is_new b vars inside = let positive = step_of-positive b.history in let is = inside.vars_is in omega (arith, positive, is)
 
 pub solved_inside : (inside now : SolverState) → inside ≡ now → IsReady inside → inside.failed ≡ false → (now.failed ≡ false → now.stage ≡ Solved) →
-    IsSearched inside.book inside.vars
+    IsSearched inside.proof inside.vars
 solved_inside inside now is ready well stage =
     let solved : inside.stage ≡ Solved = subst (λ (s : SolverState). s.failed ≡ false → s.stage ≡ Solved) (sym is) stage well in
-    subst (λ x. Fits x inside.book inside.vars) solved (ready.fits well)
+    subst (λ x. Fits x inside.proof inside.vars) solved (ready.fits well)
 
--- the clause of the negated guard and literals of the clauses' own variables
+-- the clause of the negated activation literal and literals of the clauses' own variables
 pub block_distinct : (p vars : ℕ) (lits : Clause) → p < vars → HasVariables p lits → has_distinct_variables lits ≡ true →
     has_distinct_variables (record { variable = vars; positive = false } ∷ lits) ≡ true
 block_distinct p vars lits above range distinct =
@@ -174,13 +174,13 @@ own_variables p (l ∷ lits) range =
     and_from (leb l.variable p) (list_all (λ (m : Literal). leb m.variable p) lits) (le-leb l.variable p (range 0 l (omega arith)).1)
     (own_variables p lits (λ k d h. range (suc k) d (omega (arith, h))))
 
-pub block_fits : (b : Book) (vars : ℕ) (lits : Clause) → IsInside b vars → HasVariables b.problem.vars lits →
+pub block_fits : (b : ProofLog) (vars : ℕ) (lits : Clause) → IsInside b vars → HasVariables b.problem.vars lits →
     is_block_of b.problem (step_of b.history) (record { variable = vars; positive = false } ∷ lits) ≡ true
 block_fits b vars lits inside range =
     let first : Literal = record { variable = vars; positive = false } in
-    let guard : Literal = negation (guard_of b.problem (step_of b.history)) in
-    let same : first ≡ guard = λ i. record { variable = inside.vars_is i; positive = false } in
-    and_from (same_literal first guard) (list_all (λ (l : Literal). leb l.variable b.problem.vars) lits)
+    let activation : Literal = negation (activation_of b.problem (step_of b.history)) in
+    let same : first ≡ activation = λ i. record { variable = inside.vars_is i; positive = false } in
+    and_from (same_literal first activation) (list_all (λ (l : Literal). leb l.variable b.problem.vars) lits)
     (ap (same_literal first) (sym same) ∙ same_literal-refl first) (own_variables b.problem.vars lits range)
 
 pub block_range : (p vars : ℕ) (lits : Clause) → p < vars → HasVariables p lits → HasVariables vars (record { variable = vars; positive = false } ∷ lits)
@@ -189,10 +189,10 @@ block_range p vars lits above range =
     (All-weaker (IsWithin p) (IsWithin vars) (λ l within. let low = within.0 in let high = within.1 in (low, omega (arith, high, above))) lits range)
 
 -- the solver after a block
-pub ready_blocked : (old new : Book) (vars id : ℕ) (clause : Clause) → vars < 2 ^ 30 → IsSearched old vars → All (HasVariables vars) (standing old) →
+pub ready_blocked : (old new : ProofLog) (vars id : ℕ) (clause : Clause) → vars < 2 ^ 30 → IsSearched old vars → All (HasVariables vars) (standing old) →
     All (λ c. has_distinct_variables c ≡ true) (standing old) → StepsLeaveKept old.problem old.history → new ≡ with_line old (Block id clause) →
     standing new ≡ standing old ++ clause ∷ [] → HasVariables vars clause → has_distinct_variables clause ≡ true →
-    IsReady (record { book = new; vars = vars; stage = Blocked; failed = false })
+    IsReady (record { proof = new; vars = vars; stage = Blocked; failed = false })
 ready_blocked old new vars id clause bound searched range distinct leaves is stands range_c distinct_c = record {
   bound = bound;
   range = λ _. subst (All (HasVariables vars)) (sym stands) (All-push (HasVariables vars) (standing old) clause range range_c);
@@ -206,7 +206,7 @@ ready_blocked old new vars id clause bound searched range distinct leaves is sta
 -- ---- the end of a step
 
 -- a step that has had a solve
-pub solved_stage : (stage : Stage) (b : Book) (vars : ℕ) → is_solved stage ≡ true → Fits stage b vars →
+pub solved_stage : (stage : Stage) (b : ProofLog) (vars : ℕ) → is_solved stage ≡ true → Fits stage b vars →
     IsInside b vars × (is_between_steps (phase_of b.history) ≡ false)
 solved_stage Idle b vars e fits = absurd (false≢true e)
 solved_stage Begun b vars e fits = absurd (false≢true e)
@@ -216,116 +216,116 @@ solved_stage (Ended id) b vars e fits = (fits.searched.inside, solve_is_inside (
 solved_stage Stopped b vars e fits = (fits.inside, solve_is_inside (phase_of b.history) fits.phase)
 
 pub step_facts : (inside now : SolverState) → inside ≡ now → IsReady inside → inside.failed ≡ false → (now.failed ≡ false → is_solved now.stage ≡ true) →
-    IsInside inside.book inside.vars × (is_between_steps (phase_of inside.book.history) ≡ false)
+    IsInside inside.proof inside.vars × (is_between_steps (phase_of inside.proof.history) ≡ false)
 step_facts inside now is ready well stage =
     let solved : is_solved inside.stage ≡ true = subst (λ (s : SolverState). s.failed ≡ false → is_solved s.stage ≡ true) (sym is) stage well in
-    solved_stage inside.stage inside.book inside.vars solved (ready.fits well)
+    solved_stage inside.stage inside.proof inside.vars solved (ready.fits well)
 
 pub ends_step : (inside now : SolverState) → inside ≡ now → IsReady inside → inside.failed ≡ false → (end : Option ℕ) →
     IfSome end (λ id. now.failed ≡ false → now.stage ≡ Ended id) →
-    IfSome end (EndsStep inside.book)
+    IfSome end (EndsStep inside.proof)
 ends_step inside now is ready well None stage = tt
 ends_step inside now is ready well (Some id) stage =
     let ended : inside.stage ≡ Ended id = subst (λ (s : SolverState). s.failed ≡ false → s.stage ≡ Ended id) (sym is) stage well in
-    let facts : IsEnded inside.book inside.vars id = subst (λ x. Fits x inside.book inside.vars) ended (ready.fits well) in
+    let facts : IsEnded inside.proof inside.vars id = subst (λ x. Fits x inside.proof inside.vars) ended (ready.fits well) in
     record { phase = facts.searched.phase; lemma = facts.lemma; ends = facts.ends }
 
-pub finished_inside : (b : Book) (vars : ℕ) (end : Option ℕ) → IsInside b vars → is_between_steps (phase_of b.history) ≡ false →
+pub finished_inside : (b : ProofLog) (vars : ℕ) (end : Option ℕ) → IsInside b vars → is_between_steps (phase_of b.history) ≡ false →
     IsInside (finished b end) vars × (is_between_steps (phase_of (finished b end).history) ≡ false)
 finished_inside b vars None inside phase = (inside, phase)
 finished_inside b vars (Some id) inside phase = (record { vars_is = inside.vars_is; steps = inside.steps }, refl)
 
-pub finished_stands : (b : Book) (end : Option ℕ) → standing (finished b end) ≡ standing b
+pub finished_stands : (b : ProofLog) (end : Option ℕ) → standing (finished b end) ≡ standing b
 finished_stands b None = refl
 finished_stands b (Some id) = refl
 
-finished_guard : (b : Book) (end : Option ℕ) → guard_of (finished b end).problem (step_of (finished b end).history) ≡ guard_of b.problem (step_of b.history)
-finished_guard b None = refl
-finished_guard b (Some id) = refl
+finished_activation : (b : ProofLog) (end : Option ℕ) → activation_of (finished b end).problem (step_of (finished b end).history) ≡ activation_of b.problem (step_of b.history)
+finished_activation b None = refl
+finished_activation b (Some id) = refl
 
-pub finished_phase : (b fin : Book) (vars : ℕ) (end : Option ℕ) → fin ≡ finished b end → IsInside b vars →
+pub finished_phase : (b fin : ProofLog) (vars : ℕ) (end : Option ℕ) → fin ≡ finished b end → IsInside b vars →
     is_between_steps (phase_of b.history) ≡ false → is_between_steps (phase_of fin.history) ≡ false
-finished_phase b fin vars end is inside phase = ap (λ (x : Book). is_between_steps (phase_of x.history)) is ∙ (finished_inside b vars end inside phase).1
+finished_phase b fin vars end is inside phase = ap (λ (x : ProofLog). is_between_steps (phase_of x.history)) is ∙ (finished_inside b vars end inside phase).1
 
-pub guard_is : (b fin : Book) (vars : ℕ) (end : Option ℕ) → fin ≡ finished b end → IsInside b vars → is_between_steps (phase_of b.history) ≡ false →
-    record { variable = vars; positive = true } ≡ guard_of fin.problem (step_of fin.history)
-guard_is b fin vars end is inside phase =
-    let here : record { variable = vars; positive = true } ≡ guard_of b.problem (step_of b.history) =
+pub activation_is : (b fin : ProofLog) (vars : ℕ) (end : Option ℕ) → fin ≡ finished b end → IsInside b vars → is_between_steps (phase_of b.history) ≡ false →
+    record { variable = vars; positive = true } ≡ activation_of fin.problem (step_of fin.history)
+activation_is b fin vars end is inside phase =
+    let here : record { variable = vars; positive = true } ≡ activation_of b.problem (step_of b.history) =
     λ i. record { variable = inside.vars_is i; positive = true } in
-    here ∙ sym (finished_guard b end) ∙ ap (λ (x : Book). guard_of x.problem (step_of x.history)) (sym is)
+    here ∙ sym (finished_activation b end) ∙ ap (λ (x : ProofLog). activation_of x.problem (step_of x.history)) (sym is)
 
 -- ---- the solver after a solve
 
-pub ready_after_solve : (inside : SolverState) (a : Clause) (first : Bool) (begun new : Book) (limit : ℕ) (answer : Answer) (stage : Stage) →
+pub ready_after_solve : (inside : SolverState) (a : Clause) (first : Bool) (begun new : ProofLog) (limit : ℕ) (answer : Answer) (stage : Stage) →
     IsReady inside → MaySolve inside a → inside.failed ≡ false →
-    first ≡ is_begun inside.stage → begun ≡ begun_book first inside.book a → SomeLemmas begun new → Ends begun new inside.vars limit answer →
+    first ≡ is_begun inside.stage → begun ≡ begun_proof first inside.proof a → SomeLemmas begun new → Ends begun new inside.vars limit answer →
     All (HasVariables inside.vars) (standing new) →
     All (λ c. has_distinct_variables c ≡ true) (standing new) → stage ≡ stage_of answer →
-    IsReady (record { book = new; vars = inside.vars; stage = stage; failed = false })
+    IsReady (record { proof = new; vars = inside.vars; stage = stage; failed = false })
 ready_after_solve inside a first begun new limit answer stage ready may well is_first is lemmas ends range distinct is_stage =
-    let is_begun_book : begun ≡ begun_book (is_begun inside.stage) inside.book a = is ∙ ap (λ f. begun_book f inside.book a) is_first in
+    let is_begun_proof : begun ≡ begun_proof (is_begun inside.stage) inside.proof a = is ∙ ap (λ f. begun_proof f inside.proof a) is_first in
     record {
       bound = ready.bound;
       range = λ _. range;
       distinct = λ _. distinct;
       fits = λ _. subst (λ x. Fits x new inside.vars) (sym is_stage)
-          (fits_after begun new inside.vars limit answer lemmas (subst (λ b. IsInside b inside.vars) (sym is_begun_book) (begun_inside inside a ready may well))
-          (ap (λ (b : Book). in_solve (phase_of b.history)) is_begun_book ∙ begun_phase inside.book (is_begun inside.stage) a) ends);
-      leaves = λ _. leaves_after begun new lemmas (subst (λ b. StepsLeaveKept b.problem b.history) (sym is_begun_book)
-          (leaves_begun (is_begun inside.stage) inside.book a (ready.leaves well)));
+          (fits_after begun new inside.vars limit answer lemmas (subst (λ b. IsInside b inside.vars) (sym is_begun_proof) (begun_inside inside a ready may well))
+          (ap (λ (b : ProofLog). in_solve (phase_of b.history)) is_begun_proof ∙ begun_phase inside.proof (is_begun inside.stage) a) ends);
+      leaves = λ _. leaves_after begun new lemmas (subst (λ b. StepsLeaveKept b.problem b.history) (sym is_begun_proof)
+          (leaves_begun (is_begun inside.stage) inside.proof a (ready.leaves well)));
     }
 
-pub has_solved : (inside now : SolverState) (a : Clause) (first : Bool) (begun new : Book) (limit : ℕ) (answer : Answer) (stage : Stage) →
+pub has_solved : (inside now : SolverState) (a : Clause) (first : Bool) (begun new : ProofLog) (limit : ℕ) (answer : Answer) (stage : Stage) →
     inside ≡ now → IsReady inside → MaySolve inside a → inside.failed ≡ false →
-    first ≡ is_begun inside.stage → begun ≡ begun_book first inside.book a → Ends begun new inside.vars limit answer → SomeLemmas begun new →
+    first ≡ is_begun inside.stage → begun ≡ begun_proof first inside.proof a → Ends begun new inside.vars limit answer → SomeLemmas begun new →
     stage ≡ stage_of answer →
-    HasSolved now (record { book = new; vars = inside.vars; stage = stage; failed = false }) a limit answer
+    HasSolved now (record { proof = new; vars = inside.vars; stage = stage; failed = false }) a limit answer
 has_solved inside now a first begun new limit answer stage is ready may well is_first is_begun_first ends lemmas is_stage =
-    let is_begun_book : begun ≡ begun_book (is_begun inside.stage) inside.book a = is_begun_first ∙ ap (λ f. begun_book f inside.book a) is_first in
-    let solved : HasSolved inside (record { book = new; vars = inside.vars; stage = stage; failed = false }) a limit answer = record {
+    let is_begun_proof : begun ≡ begun_proof (is_begun inside.stage) inside.proof a = is_begun_first ∙ ap (λ f. begun_proof f inside.proof a) is_first in
+    let solved : HasSolved inside (record { proof = new; vars = inside.vars; stage = stage; failed = false }) a limit answer = record {
       was_well = well;
-      stands = begun_stands inside.book (is_begun inside.stage) a;
+      stands = begun_stands inside.proof (is_begun inside.stage) a;
       assumed_is = begun_assumptions inside a ready may well;
-      ends = subst (λ b. Ends b new inside.vars limit answer) is_begun_book ends;
-      step = assumed_after begun new lemmas ∙ ap assumed is_begun_book ∙ begun_assumptions inside a ready may well;
+      ends = subst (λ b. Ends b new inside.vars limit answer) is_begun_proof ends;
+      step = assumed_after begun new lemmas ∙ ap assumed is_begun_proof ∙ begun_assumptions inside a ready may well;
       vars = refl;
       stage = is_stage;
       well = refl;
     } in
-    subst (λ s. HasSolved s (record { book = new; vars = inside.vars; stage = stage; failed = false }) a limit answer) is solved
+    subst (λ s. HasSolved s (record { proof = new; vars = inside.vars; stage = stage; failed = false }) a limit answer) is solved
 
-pub has_blocked : (inside now : SolverState) (new : Book) (lits clause : Clause) (id : ℕ) → inside ≡ now → inside.failed ≡ false →
-    IsInside inside.book inside.vars →
-    clause ≡ record { variable = inside.vars; positive = false } ∷ lits → id ≡ next_id inside.book →
-    new ≡ with_line inside.book (Block id clause) →
-    standing new ≡ standing inside.book ++ clause ∷ [] → HasBlocked now (record { book = new; vars = inside.vars; stage = Blocked; failed = false }) lits id
+pub has_blocked : (inside now : SolverState) (new : ProofLog) (lits clause : Clause) (id : ℕ) → inside ≡ now → inside.failed ≡ false →
+    IsInside inside.proof inside.vars →
+    clause ≡ record { variable = inside.vars; positive = false } ∷ lits → id ≡ next_id inside.proof →
+    new ≡ with_line inside.proof (Block id clause) →
+    standing new ≡ standing inside.proof ++ clause ∷ [] → HasBlocked now (record { proof = new; vars = inside.vars; stage = Blocked; failed = false }) lits id
 has_blocked inside now new lits clause id is well here is_clause next line stands =
-    let b : Book = inside.book in
-    let is_guard : record { variable = inside.vars; positive = false } ≡ negation (guard_of b.problem (step_of b.history)) =
+    let b : ProofLog = inside.proof in
+    let is_activation : record { variable = inside.vars; positive = false } ≡ negation (activation_of b.problem (step_of b.history)) =
     λ i. record { variable = here.vars_is i; positive = false } in
-    let clause_is : clause ≡ negation (guard_of b.problem (step_of b.history)) ∷ lits = is_clause ∙ ap (λ l. l ∷ lits) is_guard in
-    let blocked : HasBlocked inside (record { book = new; vars = inside.vars; stage = Blocked; failed = false }) lits id = record {
+    let clause_is : clause ≡ negation (activation_of b.problem (step_of b.history)) ∷ lits = is_clause ∙ ap (λ l. l ∷ lits) is_activation in
+    let blocked : HasBlocked inside (record { proof = new; vars = inside.vars; stage = Blocked; failed = false }) lits id = record {
       was_well = well;
       next = next;
-      book = line ∙ ap (λ c. with_line b (Block id c)) clause_is;
+      proof = line ∙ ap (λ c. with_line b (Block id c)) clause_is;
       stands = stands ∙ ap (λ c. standing b ++ c ∷ []) clause_is;
       step = ap assumed line;
       vars = refl;
       stage = refl;
       well = refl;
     } in
-    subst (λ s. HasBlocked s (record { book = new; vars = inside.vars; stage = Blocked; failed = false }) lits id) is blocked
+    subst (λ s. HasBlocked s (record { proof = new; vars = inside.vars; stage = Blocked; failed = false }) lits id) is blocked
 
 -- ---- what is logged, whatever the answer
 
-pub follows_same : (first : Bool) (b : Book) (a : Clause) → Follows first b b a
+pub follows_same : (first : Bool) (b : ProofLog) (a : Clause) → Follows first b b a
 follows_same first b a = record { lines = []; history = refl; vars = refl; clauses = refl; steps = inl refl }
 
-pub follows_member : (b new : Book) (a : Clause) → new ≡ with_member b a → Follows true b new a
+pub follows_member : (b new : ProofLog) (a : Clause) → new ≡ with_member b a → Follows true b new a
 follows_member b new a is = subst (λ x. Follows true b x a) (sym is)
     (record { lines = []; history = refl; vars = refl; clauses = refl; steps = inr (refl, refl) })
 
-pub follows_lemmas : (first : Bool) (b begun new : Book) (a : Clause) → Follows first b begun a → SomeLemmas begun new → Follows first b new a
+pub follows_lemmas : (first : Bool) (b begun new : ProofLog) (a : Clause) → Follows first b begun a → SomeLemmas begun new → Follows first b new a
 follows_lemmas first b begun new a f l = record {
   lines = l.lines ++ f.lines;
   history = l.history ∙ ap (λ h. l.lines ++ h) f.history ∙ sym (append_assoc l.lines f.lines b.history);
@@ -337,7 +337,7 @@ follows_lemmas first b begun new a f l = record {
   ];
 }
 
-follows_line : (first : Bool) (b new : Book) (a : Clause) (line : Line) → Follows first b new a → Follows first b (with_line new line) a
+follows_line : (first : Bool) (b new : ProofLog) (a : Clause) (line : Line) → Follows first b new a → Follows first b (with_line new line) a
 follows_line first b new a line f = record {
   lines = line ∷ f.lines;
   history = ap (λ h. line ∷ h) f.history;
@@ -348,7 +348,7 @@ follows_line first b new a line f = record {
 }
 
 -- a line that was logged, if there was memory
-pub follows_log : {T E : Type 0} (r : Result T E) (first : Bool) (b middle new : Book) (a : Clause) (line : Line) →
+pub follows_log : {T E : Type 0} (r : Result T E) (first : Bool) (b middle new : ProofLog) (a : Clause) (line : Line) →
     OnOk r (new ≡ with_line middle line) → OnErr r (new ≡ middle) →
     Follows first b middle a → Follows first b new a
 follows_log (Ok x) first b middle new a line ok err f = subst (λ n. Follows first b n a) (sym ok) (follows_line first b middle a line f)

@@ -1,4 +1,4 @@
--- What no delete line takes away: the clauses that the log is about, and the units of retired guards.
+-- What no delete line takes away: the clauses that the log is about, and the units of retired activation literals.
 use Rattle.std.proofs.Common.{◌≡◌, ℕ, zero, suc, ◌+◌, ◌<◌, ◌≤◌, arith, Bool, true, false, not, ◌||◌, List, [], ◌∷◌, ◌++◌, map, refl, sym, ap, subst, ◌∙◌}
 use Rattle.std.proofs.Common.{inl, inr, ◌⊎◌, Option, Some, None, eqb}
 use Rattle.std.specs.Prelude.{All, Contains, is_some, option_map, IsTrue}
@@ -8,7 +8,7 @@ use Rattle.std.proofs.lemmas.List.Elements.{Contains-append_cases, Contains-appe
 use Rattle.bs_clause.specs.Literal.{Clause, negation}
 use Rattle.bs_log.specs.declared.line.Line.TheVariants.{Solve, Lemma, Block, Finish, Retire, Delete}
 use Rattle.bs_log.specs.declared.origin.Origin.TheVariants.{Axiom, Learnt, Blocked, Retired}
-use Rattle.bs_log.specs.History.{Problem, History, Entry, axioms_from, added, is_deleted, live, last_id, state_of, phase_of, step_of, guard_of}
+use Rattle.bs_log.specs.History.{Problem, History, Entry, axioms_from, added, is_deleted, live, last_id, state_of, phase_of, step_of, activation_of}
 use Rattle.bs_log.specs.Refusal.{NoneRefused, entry_of, clauses_of, passes, is_lemma_or_block, is_between_steps}
 use Rattle.bs_log.specs.Propagation.{hints_are_unit, last_is_false}
 use Rattle.bs_log.specs.Lean.{IsResolventOf}
@@ -143,10 +143,10 @@ axioms_stand_still p h c right there =
     let (e, in_axioms, other, is) = axiom_of 1 p.clauses c there in
     subst (Contains (map (λ (x : Entry). x.literals) (live p h))) is (stands_still p h e right (axiom_added p h e in_axioms) other)
 
--- ---- the guards
+-- ---- the activation literals
 
 unit_added : (p : Problem) (h : History) (n : ℕ) → 1 ≤ n → n < step_of h →
-    (e : Entry) × Contains (added p h) e × (is_lemma_or_block e ≡ false) × (e.literals ≡ negation (guard_of p n) ∷ [])
+    (e : Entry) × Contains (added p h) e × (is_lemma_or_block e ≡ false) × (e.literals ≡ negation (activation_of p n) ∷ [])
 unit_added p [] n low high = absurd (omega (arith, low, high))
 unit_added p (Solve ∷ h) n low high = unit_added p h n low high
 unit_added p (Finish id ∷ h) n low high = unit_added p h n low high
@@ -158,13 +158,13 @@ unit_added p (Block id lits ∷ h) n low high =
 unit_added p (Retire id ∷ h) n low high = elim (cases_lt n (step_of h)) [
   | inl before ↦ let r = unit_added p h n low before in (r.0, Contains-append_left (added p h) _ r.0 r.1, r.2, r.3)
   | inr here ↦
-      let e : Entry = record { id = id; origin = Retired; literals = negation (guard_of p (step_of h)) ∷ [] } in
+      let e : Entry = record { id = id; origin = Retired; literals = negation (activation_of p (step_of h)) ∷ [] } in
       let same : step_of h ≡ n = omega (arith, here, high) in
-      (e, Contains-append_right (added p h) (e ∷ []) e (contains_first e []), refl, ap (λ k. negation (guard_of p k) ∷ []) same)
+      (e, Contains-append_right (added p h) (e ∷ []) e (contains_first e []), refl, ap (λ k. negation (activation_of p k) ∷ []) same)
 ]
 
-pub guards_stay_retired : (p : Problem) (h : History) (n : ℕ) → NoneRefused p h → 1 ≤ n → n < step_of h →
-    Contains (map (λ (e : Entry). e.literals) (live p h)) (negation (guard_of p n) ∷ [])
-guards_stay_retired p h n right low high =
+pub activations_stay_retired : (p : Problem) (h : History) (n : ℕ) → NoneRefused p h → 1 ≤ n → n < step_of h →
+    Contains (map (λ (e : Entry). e.literals) (live p h)) (negation (activation_of p n) ∷ [])
+activations_stay_retired p h n right low high =
     let (e, there, other, is) = unit_added p h n low high in
     subst (Contains (map (λ (x : Entry). x.literals) (live p h))) is (stands_still p h e right there other)

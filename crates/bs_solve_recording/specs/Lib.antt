@@ -5,11 +5,11 @@ pub mod Walk
 pub mod Point
 pub mod Learning
 pub mod Ids
-pub mod Book
+pub mod ProofLog
 pub mod Search
 pub mod Values
 pub mod Ending
-pub mod Turn
+pub mod Round
 pub mod Stages
 pub mod Solver
 pub mod Bound

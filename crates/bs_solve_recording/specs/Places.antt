@@ -2,7 +2,7 @@
 use Rattle.std.specs.Prelude.{◌≡◌, ℕ, ◌<◌, ◌≤◌, true, false, List, map, take, length, Some, Contains, slice_get}
 use Rattle.bs_clause.specs.Literal.{Literal, Clause}
 use Rattle.bs_solve_recording.specs.Place.{LoggedPlace}
-use Rattle.bs_watch.specs.Trail.{IsOpenOn, Forces, IsQuiet}
+use Rattle.bs_watch.specs.Trail.{IsOpenOn, Implies, IsQuiet}
 
 -- the places that are taken, over variables 1 to vars
 pub record LoggedTrail : Type 0 where
@@ -20,13 +20,13 @@ pub record IsLoggedUnassigned (s : LoggedTrail) (l : Literal) : Type 0 where
 
 -- ---- what a trail is worth: clauses, the length of its first level, and the assumptions that stand there
 
--- A clause of the list forces a forced literal. On the first level the others are assumptions; above it they are decisions,
+-- A clause of the list implies an implied literal. On the first level the others are assumptions; above it they are decisions,
 -- and when one was made no clause was false or unit.
 pub record IsWarranted (clauses : List Clause) (base : ℕ) (assumptions : List Literal) (earlier : List LoggedPlace) (p : LoggedPlace) : Type 0 where
   pub unassigned : IsOpenOn (logged_literals earlier) p.literal
-  pub forced : p.forced ≡ true → (c : Clause) × Contains clauses c × Forces (logged_literals earlier) c p.literal
-  pub assumed : p.forced ≡ false → length earlier < base → Contains assumptions p.literal
-  pub quiet : p.forced ≡ false → base ≤ length earlier → IsQuiet (logged_literals earlier) clauses
+  pub implied : p.implied ≡ true → (c : Clause) × Contains clauses c × Implies (logged_literals earlier) c p.literal
+  pub assumed : p.implied ≡ false → length earlier < base → Contains assumptions p.literal
+  pub quiet : p.implied ≡ false → base ≤ length earlier → IsQuiet (logged_literals earlier) clauses
 
 -- so is each place, over those before it
 pub record AreWarranted (clauses : List Clause) (base : ℕ) (assumptions : List Literal) (places : List LoggedPlace) : Type 0 where

@@ -1,4 +1,4 @@
--- What a search does to its book and its trail.
+-- What a search does to its proof log and its trail.
 use Rattle.std.specs.Prelude.{◌≡◌, ℕ, ◌+◌, ◌-◌, ◌≤◌, true, false, List, [], ◌∷◌, ◌++◌, take, drop, length, map, Some, All}
 use Rattle.bs_clause.specs.Literal.{Clause}
 use Rattle.bs_clause.specs.Range.{HasVariables}
@@ -9,27 +9,27 @@ use Rattle.bs_solve_recording.specs.Place.{LoggedPlace}
 use Rattle.bs_solve_recording.specs.Bound.{number}
 use Rattle.bs_solve_recording.specs.Places.{LoggedTrail, AreWarranted}
 use Rattle.bs_solve_recording.specs.Learning.{digits}
-use Rattle.bs_solve_recording.specs.Book.{Book, standing, next_id, with_lemma}
+use Rattle.bs_solve_recording.specs.ProofLog.{ProofLog, standing, next_id, with_lemma}
 
 -- the assumptions of the step under way
-abbrev pub assumed : Book → Clause
+abbrev pub assumed : ProofLog → Clause
 assumed b = assumptions_of b.problem (step_of b.history)
 
 -- the assumptions on the trail
 abbrev pub assumption_places : Clause → List LoggedPlace
-assumption_places assumptions = map (λ l. record { literal = l; forced = false }) assumptions
+assumption_places assumptions = map (λ l. record { literal = l; implied = false }) assumptions
 
--- the book has one more lemma under the next id
-pub record HasLemma (old new : Book) (id : ℕ) (lemma : Clause) : Type 0 where
+-- the proof log has one more lemma under the next id
+pub record HasLemma (old new : ProofLog) (id : ℕ) (lemma : Clause) : Type 0 where
   pub hints : List ℕ
-  pub book : new ≡ with_lemma old id lemma hints
+  pub proof : new ≡ with_lemma old id lemma hints
   pub next : id ≡ next_id old
   pub grown : live new.problem new.history ≡ live old.problem old.history ++ record { id = id; origin = Learnt; literals = lemma } ∷ []
   pub stands : standing new ≡ standing old ++ lemma ∷ []
   pub entry : entry_of (live new.problem new.history) id ≡ Some (record { id = id; origin = Learnt; literals = lemma })
 
--- the book has one more lemma that does not end the step, the trail is sound for it, and its number has risen
-pub record HasLearnt (base : ℕ) (old new : Book) (before after : LoggedTrail) : Type 0 where
+-- the proof log has one more lemma that does not end the step, the trail is sound for it, and its number has risen
+pub record HasLearnt (base : ℕ) (old new : ProofLog) (before after : LoggedTrail) : Type 0 where
   pub id : ℕ
   pub lemma : Clause
   pub logged : HasLemma old new id lemma
@@ -42,8 +42,8 @@ pub record HasLearnt (base : ℕ) (old new : Book) (before after : LoggedTrail) 
   pub front : take base after.places ≡ take base before.places
   pub rises : number (after.vars - base) (drop base (digits before.places)) + 1 ≤ number (after.vars - base) (drop base (digits after.places))
 
--- the book has one more lemma, which denies only assumptions
-pub record HasRefuted (old new : Book) (id : ℕ) : Type 0 where
+-- the proof log has one more lemma, which denies only assumptions
+pub record HasRefuted (old new : ProofLog) (id : ℕ) : Type 0 where
   pub lemma : Clause
   pub logged : HasLemma old new id lemma
   pub ends : denies (assumed old) lemma ≡ true

@@ -5,7 +5,7 @@
 //! which a solve begins and a step ends), `stage`, `answer`, `solution` (the values that a solve
 //! found), `law` (the bound). Used above: no line is refused and lemmas are lean; `specs/Solver`
 //! says what a solve and a step's end log. To change what a line asks open `recording` and
-//! `proofs/Books`; what holds between two turns of a search, `specs/Turn`.
+//! `proofs/ProofLogs`; what holds between two rounds of a search, `specs/Round`.
 #![tactic(auto)]
 
 mod answer;

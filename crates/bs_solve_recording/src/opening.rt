@@ -1,7 +1,7 @@
 //! The lines with which a solve begins and a step ends.
 ghost use Rattle.std.specs.Prelude.{◌≡◌, ◌∷◌, true, IfOk, IfSome, OnOk, OnErr};
-ghost use Rattle.bs_solve_recording.specs.Book.{standing};
-ghost use Rattle.bs_solve_recording.specs.Stages.{MayBegin, EndsStep, begun_book};
+ghost use Rattle.bs_solve_recording.specs.ProofLog.{standing};
+ghost use Rattle.bs_solve_recording.specs.Stages.{MayBegin, EndsStep, begun_proof};
 ghost use Rattle.bs_solve_recording.specs.Solver.{Follows, finished};
 
 use crate::recording::Recording;
@@ -9,13 +9,13 @@ use bs_clause::{Lit, Lits, NoMemory};
 use std::alloc::Global;
 
 /// The line of the lemma that ends a step, if there is one.
-pub fn finish(book: &mut Recording, end: Option<u64>) -> Result<(), NoMemory>
-    requires { IfSome end (EndsStep book.old) }
-    ensures ok { OnOk result (book.new ≡ finished book.old end) }
-    ensures err { OnErr result (book.new ≡ book.old) }
+pub fn finish(proof: &mut Recording, end: Option<u64>) -> Result<(), NoMemory>
+    requires { IfSome end (EndsStep proof.old) }
+    ensures ok { OnOk result (proof.new ≡ finished proof.old end) }
+    ensures err { OnErr result (proof.new ≡ proof.old) }
 {
     match end {
-        Some(id) => book.log_finish(id),
+        Some(id) => proof.log_finish(id),
         None => Ok(()),
     }
 }
@@ -35,29 +35,29 @@ pub fn guarded(alloc: Global, first: Lit, rest: &[Lit]) -> Result<Lits, NoMemory
 /// The line of a solve, after the assumptions of a step that begins.
 pub fn begin_solve(
     alloc: Global,
-    book: &mut Recording,
+    proof: &mut Recording,
     first: bool,
     assumptions: &Lits,
 ) -> Result<(), NoMemory>
-    requires stage { MayBegin book.old first }
-    ensures ok { OnOk result (book.new ≡ begun_book first book.old assumptions.now) }
-    ensures stands { OnOk result (standing book.new ≡ standing book.old) }
-    ensures lines { Follows first book.old book.new assumptions.now }
+    requires stage { MayBegin proof.old first }
+    ensures ok { OnOk result (proof.new ≡ begun_proof first proof.old assumptions.now) }
+    ensures stands { OnOk result (standing proof.new ≡ standing proof.old) }
+    ensures lines { Follows first proof.old proof.new assumptions.now }
 {
     if first {
-        return begin_first(alloc, book, assumptions);
+        return begin_first(alloc, proof, assumptions);
     }
-    book.log_solve()
+    proof.log_solve()
 }
 
 // The assumptions of a step, and the line of its first solve.
-fn begin_first(alloc: Global, book: &mut Recording, assumptions: &Lits) -> Result<(), NoMemory>
-    requires stage { MayBegin book.old true }
-    ensures ok { OnOk result (book.new ≡ begun_book true book.old assumptions.now) }
-    ensures stands { OnOk result (standing book.new ≡ standing book.old) }
-    ensures lines { Follows true book.old book.new assumptions.now }
+fn begin_first(alloc: Global, proof: &mut Recording, assumptions: &Lits) -> Result<(), NoMemory>
+    requires stage { MayBegin proof.old true }
+    ensures ok { OnOk result (proof.new ≡ begun_proof true proof.old assumptions.now) }
+    ensures stands { OnOk result (standing proof.new ≡ standing proof.old) }
+    ensures lines { Follows true proof.old proof.new assumptions.now }
 {
     let member = Lits::copy(alloc, assumptions.slice())?;
-    book.add_step(member)?;
-    book.log_solve()
+    proof.add_step(member)?;
+    proof.log_solve()
 }

@@ -4,14 +4,14 @@ ghost use Rattle.std.specs.List.{list_any};
 ghost use Rattle.bs_clause.specs.Literal.{negation};
 ghost use Rattle.bs_log.specs.declared.line.Line.TheVariants.{Solve, Block, Finish, Retire, Delete};
 ghost use Rattle.bs_log.specs.declared.origin.Origin.TheVariants.{Learnt, Blocked, Retired};
-ghost use Rattle.bs_log.specs.History.{phase_of, state_of, step_of, guard_of, live};
+ghost use Rattle.bs_log.specs.History.{phase_of, state_of, step_of, activation_of, live};
 ghost use Rattle.bs_log.specs.Refusal.{in_order, in_solve, is_between_steps, has_distinct_variables, is_block_of, passes, is_lemma, entry_of, denies};
 ghost use Rattle.bs_log.specs.Refusal.{history_of, refusal, NoneRefused};
 ghost use Rattle.bs_log.specs.Lean.{IsNew, LemmasAreLean};
 ghost use Rattle.bs_log.specs.LineForms.{HasVariable, HasText};
 ghost use Rattle.bs_solve_reduction.specs.Rows.{AreInOrder};
 ghost use Rattle.bs_solve_recording.specs.Walk.{IsLoggedLearnt};
-ghost use Rattle.bs_solve_recording.specs.Book.{standing, lemma_ids, next_id, with_line, with_lemma, with_member, without};
+ghost use Rattle.bs_solve_recording.specs.ProofLog.{standing, lemma_ids, next_id, with_line, with_lemma, with_member, without};
 ghost use Rattle.bs_solve_recording.specs.Search.{assumed};
 ghost use Rattle.bs_solve_recording.specs.Solver.{retired, leaving, ended};
 
@@ -37,9 +37,9 @@ pub struct Recording {
 
 impl Model for Recording {
     ghost use Rattle.std.specs.Prelude.{reverse};
-    ghost use Rattle.bs_solve_recording.specs.Book.{Book, IsRecorded};
+    ghost use Rattle.bs_solve_recording.specs.ProofLog.{ProofLog, IsRecorded};
 
-    ghost Value = { Book };
+    ghost Value = { ProofLog };
 
     ghost view = { λ r. record { problem = record { vars = r.vars; clauses = r.axioms.value; steps = r.steps }; history = reverse r.log } };
 
@@ -62,7 +62,7 @@ impl Recording {
     }
 
     /// The log. No line of it is refused, its lemmas are lean, and each line has a text.
-    #[tactic(auto, using(crate::proofs::Books::texts_in_order))]
+    #[tactic(auto, using(crate::proofs::ProofLogs::texts_in_order))]
     pub fn log(&self) -> &Log
         ensures lines { history_of result.now ≡ self.now.history }
         ensures right { NoneRefused self.now.problem (history_of result.now) }
@@ -73,7 +73,7 @@ impl Recording {
     }
 
     /// The log, without what was recorded beside it.
-    #[tactic(auto, using(crate::proofs::Books::texts_in_order))]
+    #[tactic(auto, using(crate::proofs::ProofLogs::texts_in_order))]
     pub fn into_log(self) -> Log
         ensures lines { history_of result ≡ self.history }
         ensures right { NoneRefused self.problem (history_of result) }
@@ -177,11 +177,11 @@ impl Recording {
         Ok(id)
     }
 
-    /// The unit of the negated guard stands last, once the step under way has ended.
-    pub fn holds_end(&self, guard: Lit)
-        requires { guard ≡ guard_of self.now.problem (step_of self.now.history) }
+    /// The unit of the negated activation literal stands last, once the step under way has ended.
+    pub fn holds_end(&self, activation: Lit)
+        requires { activation ≡ activation_of self.now.problem (step_of self.now.history) }
         ensures { live (retired self.now).problem (retired self.now).history
-            ≡ live self.now.problem self.now.history ++ record { id = next_id self.now; origin = Retired; literals = negation guard ∷ [] } ∷ [] }
+            ≡ live self.now.problem self.now.history ++ record { id = next_id self.now; origin = Retired; literals = negation activation ∷ [] } ∷ [] }
     {
         let _ = self.log.len();
     }

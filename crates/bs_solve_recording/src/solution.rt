@@ -7,7 +7,7 @@ use bs_clause::Var;
 use std::marker::Model;
 
 /// Values of all variables. Contracts see them as those of an assignment that leaves none open. So many in the middle are
-/// false, as those of retired guards are, and take no memory.
+/// false, as those of retired activation literals are, and take no memory.
 #[derive(Drop)]
 pub struct Solution {
     front: Vec<bool>,

@@ -13,11 +13,11 @@ use Rattle.bs_log.specs.declared.origin.Origin.TheVariants.{Axiom, Learnt, Block
 use Rattle.bs_log.specs.History.{Problem, History, Entry, State, state_of, added, is_deleted, live}
 use Rattle.bs_log.specs.declared.why.Why.TheVariants.{Order, NoClause}
 use Rattle.bs_log.specs.Refusal.{is_lemma, is_lemma_or_block, is_ascending, in_order, names_stand, passes, entry_of, refusal}
-use Rattle.bs_log.specs.Kept.{has_retired_guard, is_free_lemma, is_long, newer_long, is_kept}
+use Rattle.bs_log.specs.Kept.{has_retired_activation, is_free_lemma, is_long, newer_long, is_kept}
 use Rattle.bs_log.specs.Lean.{is_block, LeavesKept}
 use Rattle.bs_watch.proofs.Gets.{same_some, get_from_Contains}
 use Rattle.bs_watch.proofs.Members.{nothing_in, contains_first, cons_contains, contains_cases, map_cases, map_contains, filter_cases, filter_from}
-use Rattle.bs_solve_reduction.specs.declared.row.Row.{Row}
+use Rattle.bs_solve_reduction.specs.declared.row.LoggedClause.{LoggedClause}
 use Rattle.bs_solve_reduction.specs.Keeping.{over, entry_in, goes}
 use Rattle.bs_solve_reduction.specs.Rows.{IsRowOf, AreRowsOf, AreRowsAmong, AreInOrder, going}
 use Rattle.bs_solve_reduction.proofs.Rules.{digit, count_cons, lemma_back}
@@ -74,22 +74,22 @@ count_filter f g (x ∷ xs) off = by (g x) refl (count_filter f g xs off)
     by true is rest = count_cons f x (filter g xs) ∙ ap (λ n. digit (f x) + n) rest ∙ sym (count_cons f x xs)
     by false is rest = let here : digit (f x) ≡ 0 = ap digit (off x is) in omega (arith, here, rest, count_cons f x xs)
 
-same_guard : (p : Problem) (own steps : ℕ) (c d : Clause) → p.vars ≡ own → IsPermutation c d →
-    has_retired_guard p steps c ≡ has_retired_guard (over own) steps d
-same_guard p own steps c d is same =
-    ap (λ v. has_retired_guard (record { vars = v; clauses = p.clauses; steps = p.steps }) steps c) is ∙
+same_activation : (p : Problem) (own steps : ℕ) (c d : Clause) → p.vars ≡ own → IsPermutation c d →
+    has_retired_activation p steps c ≡ has_retired_activation (over own) steps d
+same_activation p own steps c d is same =
+    ap (λ v. has_retired_activation (record { vars = v; clauses = p.clauses; steps = p.steps }) steps c) is ∙
     list_any-IsPermutation (λ (l : Literal). ltb own l.variable && leb l.variable (own + steps)) c d same
 
-same_free : (p : Problem) (own steps : ℕ) (clauses : List Held) (row : Row) (e : Entry) → p.vars ≡ own → IsRowOf clauses row e →
+same_free : (p : Problem) (own steps : ℕ) (clauses : List Held) (row : LoggedClause) (e : Entry) → p.vars ≡ own → IsRowOf clauses row e →
     is_free_lemma p steps e ≡ is_free_lemma (over own) steps (entry_in clauses row)
 same_free p own steps clauses row e is r =
-    ap (λ b. b && not (has_retired_guard p steps e.literals)) (sym r.lemma_is ∙ sym (lemma_back clauses row)) ∙
-    ap (λ b. is_lemma (entry_in clauses row) && not b) (same_guard p own steps e.literals (literals_at clauses row.clause) is r.same)
+    ap (λ b. b && not (has_retired_activation p steps e.literals)) (sym r.lemma_is ∙ sym (lemma_back clauses row)) ∙
+    ap (λ b. is_lemma (entry_in clauses row) && not b) (same_activation p own steps e.literals (literals_at clauses row.clause) is r.same)
 
-same_long : (clauses : List Held) (row : Row) (e : Entry) → IsRowOf clauses row e → is_long e ≡ is_long (entry_in clauses row)
+same_long : (clauses : List Held) (row : LoggedClause) (e : Entry) → IsRowOf clauses row e → is_long e ≡ is_long (entry_in clauses row)
 same_long clauses row e r = ap (λ n. ltb 8 n) (sym (length_permutation e.literals (literals_at clauses row.clause) r.same))
 
-same_newer : (p : Problem) (own steps : ℕ) (clauses : List Held) (rows : List Row) (es : List Entry) (n m : ℕ) → p.vars ≡ own → n ≡ m →
+same_newer : (p : Problem) (own steps : ℕ) (clauses : List Held) (rows : List LoggedClause) (es : List Entry) (n m : ℕ) → p.vars ≡ own → n ≡ m →
     AreRowsOf clauses rows es →
     count_by (λ o. is_free_lemma p steps o && is_long o && ltb n o.id) es ≡
     count_by (λ o. is_free_lemma (over own) steps o && is_long o && ltb m o.id) (map (entry_in clauses) rows)
@@ -123,7 +123,7 @@ not_lemma_not_free p steps n e off = by e.origin off
     by Retired t = refl
 
 -- the row goes where the log does not keep its entry
-pub row_goes : (p : Problem) (own steps : ℕ) (clauses : List Held) (rows : List Row) (entries : List Entry) (row : Row) (e : Entry) → p.vars ≡ own →
+pub row_goes : (p : Problem) (own steps : ℕ) (clauses : List Held) (rows : List LoggedClause) (entries : List Entry) (row : LoggedClause) (e : Entry) → p.vars ≡ own →
     AreRowsAmong clauses rows entries → IsRowOf clauses row e → goes own steps clauses rows row ≡ not (is_kept p steps entries e)
 row_goes p own steps clauses rows entries row e is r here = ap not (sym (
     ap (λ b. b && (not (is_long e) || ltb (newer_long p steps entries e) 20000)) (same_free p own steps clauses row e is here) ∙
@@ -136,25 +136,25 @@ row_goes p own steps clauses rows entries row e is r here = ap not (sym (
         (λ o off. not_lemma_not_free p steps e.id o off)) ∙
         same_newer p own steps clauses rows (filter is_lemma_or_block entries) e.id row.id is (sym here.id_is) r
 
-ids_alike : (clauses : List Held) (f : Row → Bool) (g : Entry → Bool) (xs : List Row) (es : List Entry) → AreRowsOf clauses xs es →
-    ((row : Row) (e : Entry) → IsRowOf clauses row e → f row ≡ g e) →
-    map (λ (row : Row). row.id) (filter f xs) ≡ map (λ (e : Entry). e.id) (filter g es)
+ids_alike : (clauses : List Held) (f : LoggedClause → Bool) (g : Entry → Bool) (xs : List LoggedClause) (es : List Entry) → AreRowsOf clauses xs es →
+    ((row : LoggedClause) (e : Entry) → IsRowOf clauses row e → f row ≡ g e) →
+    map (λ (row : LoggedClause). row.id) (filter f xs) ≡ map (λ (e : Entry). e.id) (filter g es)
 ids_alike clauses f g [] [] q same = refl
 ids_alike clauses f g [] (e ∷ es) q same = absurd q
 ids_alike clauses f g (x ∷ xs) [] q same = absurd q
 ids_alike clauses f g (x ∷ xs) (e ∷ es) q same = by (f x) (g e) (same x e q.0) (ids_alike clauses f g xs es q.1 same)
   where
-    by : (a b : Bool) → a ≡ b → map (λ (row : Row). row.id) (filter f xs) ≡ map (λ (e : Entry). e.id) (filter g es) →
-        map (λ (row : Row). row.id) (cond a (x ∷ filter f xs) (filter f xs)) ≡ map (λ (e : Entry). e.id) (cond b (e ∷ filter g es) (filter g es))
+    by : (a b : Bool) → a ≡ b → map (λ (row : LoggedClause). row.id) (filter f xs) ≡ map (λ (e : Entry). e.id) (filter g es) →
+        map (λ (row : LoggedClause). row.id) (cond a (x ∷ filter f xs) (filter f xs)) ≡ map (λ (e : Entry). e.id) (cond b (e ∷ filter g es) (filter g es))
     by true true t rest = λ i. q.0.id_is i ∷ rest i
     by false false t rest = rest
     by true false t rest = absurd (false≢true (sym t))
     by false true t rest = absurd (false≢true t)
 
 -- the ids of the rows that go are those of the lemmas and blocks that are not kept
-pub leaving_ids : (p : Problem) (own steps : ℕ) (clauses : List Held) (rows : List Row) (entries : List Entry) → p.vars ≡ own →
+pub leaving_ids : (p : Problem) (own steps : ℕ) (clauses : List Held) (rows : List LoggedClause) (entries : List Entry) → p.vars ≡ own →
     AreRowsAmong clauses rows entries →
-    map (λ (row : Row). row.id) (filter (goes own steps clauses rows) rows) ≡
+    map (λ (row : LoggedClause). row.id) (filter (goes own steps clauses rows) rows) ≡
     map (λ (e : Entry). e.id) (filter (λ e. not (is_kept p steps entries e)) (filter is_lemma_or_block entries))
 leaving_ids p own steps clauses rows entries is r =
     ids_alike clauses (goes own steps clauses rows) (λ e. not (is_kept p steps entries e)) rows (filter is_lemma_or_block entries) r

@@ -15,7 +15,7 @@ use Rattle.bs_watch.specs.Sweep.{ArePlaced, HasServed}
 use Rattle.bs_watch.proofs.CallerLemmas.{attached_is_live, has_served}
 use Rattle.bs_watch.proofs.Gets.{none_is_not_some, same_some, get_from_Contains, Contains_from_get, get_within, get_take, take_get}
 use Rattle.bs_watch.proofs.Members.{nothing_in, contains_first, cons_contains, contains_cases, map_cases, filter_cases, filter_from}
-use Rattle.bs_solve_reduction.specs.declared.row.Row.{Row}
+use Rattle.bs_solve_reduction.specs.declared.row.LoggedClause.{LoggedClause}
 use Rattle.bs_solve_reduction.specs.Keeping.{Ascends, AreHeld, watched_in}
 use Rattle.bs_solve_reduction.specs.Notes.{GoBy, HasKilled, AreOut, IsThinned}
 use Rattle.bs_solve_reduction.proofs.Rules.{filter_push}
@@ -159,13 +159,13 @@ thinned_end test old now place kept past t = t.front ∙ ap (filter test) (take_
 -- ---- the rows
 
 -- two rows of one clause are the same
-same_row : (clauses : List Held) (rows : List Row) (i j : ℕ) (a b : Row) → AreHeld clauses rows → Ascends rows → slice_get rows i ≡ Some a →
+same_row : (clauses : List Held) (rows : List LoggedClause) (i j : ℕ) (a b : LoggedClause) → AreHeld clauses rows → Ascends rows → slice_get rows i ≡ Some a →
     slice_get rows j ≡ Some b →
     a.clause ≡ b.clause → a ≡ b
 same_row clauses rows i j a b held ascends at_i at_j same =
-    let id_a = All-contains (λ (row : Row). option_map (λ (h : Held). h.id) (held_at clauses row.clause) ≡ Some row.id) rows a held
+    let id_a = All-contains (λ (row : LoggedClause). option_map (λ (h : Held). h.id) (held_at clauses row.clause) ≡ Some row.id) rows a held
     (Contains_from_get rows i a at_i) in
-    let id_b = All-contains (λ (row : Row). option_map (λ (h : Held). h.id) (held_at clauses row.clause) ≡ Some row.id) rows b held
+    let id_b = All-contains (λ (row : LoggedClause). option_map (λ (h : Held). h.id) (held_at clauses row.clause) ≡ Some row.id) rows b held
     (Contains_from_get rows j b at_j) in
     let ids : a.id ≡ b.id = same_some a.id b.id (sym id_a ∙ ap (λ r. option_map (λ (h : Held). h.id) (held_at clauses r)) same ∙ id_b) in
     let one : i ≡ j = elim (cases_lt i j) as (λ _. i ≡ j) [
@@ -178,11 +178,11 @@ same_row clauses rows i j a b held ascends at_i at_j same =
     same_some a b (sym at_i ∙ ap (slice_get rows) one ∙ at_j)
 
 -- a row whose clause goes passes the test
-pub gone_passes : (clauses : List Held) (rows : List Row) (start : ℕ) (ids refs : List ℕ) (watched : List Literal) (row : Row) → AreHeld clauses rows →
+pub gone_passes : (clauses : List Held) (rows : List LoggedClause) (start : ℕ) (ids refs : List ℕ) (watched : List Literal) (row : LoggedClause) → AreHeld clauses rows →
     Ascends rows →
     (g : GoBy clauses rows start ids refs watched) → Contains rows row → Contains refs row.clause → g.test row ≡ true
 gone_passes clauses rows start ids refs watched row held ascends g there goes =
-    let (other, in_gone, same) = map_cases (λ (x : Row). x.clause) (filter g.test rows) row.clause
+    let (other, in_gone, same) = map_cases (λ (x : LoggedClause). x.clause) (filter g.test rows) row.clause
     (subst (λ rs. Contains rs row.clause) g.noted.clauses_are goes) in
     let (in_rows, on) = filter_cases g.test rows other in_gone in
     let (i, at_i) = get_from_Contains rows other in_rows in
@@ -194,18 +194,18 @@ live_by_id None n e = absurd (none_is_not_some n e)
 live_by_id (Some h) n e = refl
 
 -- a row's clause is live
-pub row_live : (clauses : List Held) (rows : List Row) (row : Row) → AreHeld clauses rows → Contains rows row → is_some (held_at clauses row.clause) ≡ true
+pub row_live : (clauses : List Held) (rows : List LoggedClause) (row : LoggedClause) → AreHeld clauses rows → Contains rows row → is_some (held_at clauses row.clause) ≡ true
 row_live clauses rows row held there =
     live_by_id (held_at clauses row.clause) row.id
-    (All-contains (λ (x : Row). option_map (λ (h : Held). h.id) (held_at clauses x.clause) ≡ Some x.id) rows row held there)
+    (All-contains (λ (x : LoggedClause). option_map (λ (h : Held). h.id) (held_at clauses x.clause) ≡ Some x.id) rows row held there)
 
 -- none of the first rows goes
-pub first_stay : (clauses new : List Held) (rows : List Row) (start : ℕ) (ids refs : List ℕ) (watched : List Literal) → AreHeld clauses rows → Ascends rows →
-    (g : GoBy clauses rows start ids refs watched) → HasKilled clauses new refs → All (λ (row : Row). is_some (held_at new row.clause) ≡ true) (take start rows)
+pub first_stay : (clauses new : List Held) (rows : List LoggedClause) (start : ℕ) (ids refs : List ℕ) (watched : List Literal) → AreHeld clauses rows → Ascends rows →
+    (g : GoBy clauses rows start ids refs watched) → HasKilled clauses new refs → All (λ (row : LoggedClause). is_some (held_at new row.clause) ≡ true) (take start rows)
 first_stay clauses new rows start ids refs watched held ascends g killed =
     λ k d h. stays (get_or (take start rows) k d) (Contains-get_or (take start rows) k d h)
   where
-    stays : (row : Row) → Contains (take start rows) row → is_some (held_at new row.clause) ≡ true
+    stays : (row : LoggedClause) → Contains (take start rows) row → is_some (held_at new row.clause) ≡ true
     stays row there =
         let (k, at) = get_from_Contains (take start rows) row there in
         let in_rows : Contains rows row = Contains_from_get rows k row (get_take start rows k row at).1 in
@@ -224,40 +224,40 @@ first_two_in c l (inr e) = Contains_from_get (take 2 c) 1 l (take_get 2 c 1 l (o
 taken_in : (c : Clause) (n : ℕ) (l : Literal) → Contains (take n c) l → Contains c l
 taken_in c n l there = let (k, at) = get_from_Contains (take n c) l there in Contains_from_get c k l (get_take n c k l at).1
 
-watched_has : (clauses : List Held) (gone : List Row) (row : Row) (l : Literal) → Contains gone row → IsFirstTwo (literals_at clauses row.clause) l →
+watched_has : (clauses : List Held) (gone : List LoggedClause) (row : LoggedClause) (l : Literal) → Contains gone row → IsFirstTwo (literals_at clauses row.clause) l →
     Contains (watched_in clauses gone) l
 watched_has clauses [] row l there first = absurd (nothing_in row there)
 watched_has clauses (x ∷ xs) row l there first = elim (contains_cases x xs row there) [
   | inl same ↦ Contains-append_left (take 2 (literals_at clauses x.clause)) (watched_in clauses xs) l
-      (first_two_in (literals_at clauses x.clause) l (subst (λ (r : Row). IsFirstTwo (literals_at clauses r.clause) l) (sym same) first))
+      (first_two_in (literals_at clauses x.clause) l (subst (λ (r : LoggedClause). IsFirstTwo (literals_at clauses r.clause) l) (sym same) first))
   | inr later ↦ Contains-append_right (take 2 (literals_at clauses x.clause)) (watched_in clauses xs) l (watched_has clauses xs row l later first)
 ]
 
-watched_cases : (clauses : List Held) (gone : List Row) (l : Literal) → Contains (watched_in clauses gone) l →
-    (row : Row) × Contains gone row × Contains (literals_at clauses row.clause) l
+watched_cases : (clauses : List Held) (gone : List LoggedClause) (l : Literal) → Contains (watched_in clauses gone) l →
+    (row : LoggedClause) × Contains gone row × Contains (literals_at clauses row.clause) l
 watched_cases clauses [] l there = absurd (nothing_in l there)
 watched_cases clauses (x ∷ xs) l there = elim (Contains-append_cases (take 2 (literals_at clauses x.clause)) (watched_in clauses xs) l there) [
   | inl here ↦ (x, contains_first x xs, taken_in (literals_at clauses x.clause) 2 l here)
   | inr later ↦ let r = watched_cases clauses xs l later in (r.0, cons_contains x xs r.0 r.1, r.2)
 ]
 
-pub watched_range : (clauses : List Held) (rows : List Row) (start vars : ℕ) (ids refs : List ℕ) (watched : List Literal) →
-    All (λ (row : Row). HasVariables vars (literals_at clauses row.clause)) rows → GoBy clauses rows start ids refs watched → HasVariables vars watched
+pub watched_range : (clauses : List Held) (rows : List LoggedClause) (start vars : ℕ) (ids refs : List ℕ) (watched : List Literal) →
+    All (λ (row : LoggedClause). HasVariables vars (literals_at clauses row.clause)) rows → GoBy clauses rows start ids refs watched → HasVariables vars watched
 watched_range clauses rows start vars ids refs watched range g = λ k d h. in_range (get_or watched k d) (Contains-get_or watched k d h)
   where
     in_range : (l : Literal) → Contains watched l → IsWithin vars l
     in_range l there =
         let (row, in_gone, in_clause) = watched_cases clauses (filter g.test rows) l (subst (λ ls. Contains ls l) g.noted.watched_are there) in
         All-contains (IsWithin vars) (literals_at clauses row.clause) l
-        (All-contains (λ (x : Row). HasVariables vars (literals_at clauses x.clause)) rows row range (filter_cases g.test rows row in_gone).0) in_clause
+        (All-contains (λ (x : LoggedClause). HasVariables vars (literals_at clauses x.clause)) rows row range (filter_cases g.test rows row in_gone).0) in_clause
 
-pub served : (w : WatchState) (before : List Held) (arena : Content) (rows : List Row) (start : ℕ) (ids refs : List ℕ) (watched : List Literal) →
+pub served : (w : WatchState) (before : List Held) (arena : Content) (rows : List LoggedClause) (start : ℕ) (ids refs : List ℕ) (watched : List Literal) →
     Serves w before →
     ArePlaced w.lists arena.places → GoBy before rows start ids refs watched → HasKilled before arena.clauses refs → HasServed w arena watched
 served w before arena rows start ids refs watched serves placed g killed =
     has_served w before arena watched serves placed (λ r live. killed_still before arena.clauses refs r killed live) (λ r l attached dead first.
     let in_refs = killed_was before arena.clauses refs r killed (attached_is_live w before serves r attached) dead in
-    let (row, in_gone, same) = map_cases (λ (x : Row). x.clause) (filter g.test rows) r (subst (λ rs. Contains rs r) g.noted.clauses_are in_refs) in
+    let (row, in_gone, same) = map_cases (λ (x : LoggedClause). x.clause) (filter g.test rows) r (subst (λ rs. Contains rs r) g.noted.clauses_are in_refs) in
     subst (λ ls. Contains ls l) (sym g.noted.watched_are)
     (watched_has before (filter g.test rows) row l in_gone (subst (λ n. IsFirstTwo (literals_at before n) l) (sym same) first)))
 
@@ -274,8 +274,8 @@ live_placed (h ∷ hs) places r all live =
     by true e t rest = subst (Contains places) (eqb-true h.ref r e) (all 0 h (omega arith))
     by false e t rest = rest t
 
-pub rows_placed : (clauses : List Held) (places : List ℕ) (rows : List Row) → All (λ h. Contains places h.ref) clauses → AreHeld clauses rows →
-    All (λ (row : Row). Contains places row.clause) rows
+pub rows_placed : (clauses : List Held) (places : List ℕ) (rows : List LoggedClause) → All (λ h. Contains places h.ref) clauses → AreHeld clauses rows →
+    All (λ (row : LoggedClause). Contains places row.clause) rows
 rows_placed clauses places rows all held =
     λ k d h. live_placed clauses places (get_or rows k d).clause all (row_live clauses rows (get_or rows k d) held (Contains-get_or rows k d h))
 
@@ -283,13 +283,13 @@ pub refs_placed : (clauses : List Held) (places : List ℕ) (refs : List ℕ) �
     All (λ r. is_some (held_at clauses r) ≡ true) refs → All (Contains places) refs
 refs_placed clauses places refs all live = λ k d h. live_placed clauses places (get_or refs k d) all (live k d h)
 
-pub gone_placed : (clauses : List Held) (places : List ℕ) (rows : List Row) (start : ℕ) (ids refs : List ℕ) (watched : List Literal) →
+pub gone_placed : (clauses : List Held) (places : List ℕ) (rows : List LoggedClause) (start : ℕ) (ids refs : List ℕ) (watched : List Literal) →
     All (λ h. Contains places h.ref) clauses → AreHeld clauses rows → GoBy clauses rows start ids refs watched → All (Contains places) refs
 gone_placed clauses places rows start ids refs watched all held g = λ k d h. placed (get_or refs k d) (Contains-get_or refs k d h)
   where
     placed : (r : ℕ) → Contains refs r → Contains places r
     placed r there =
-        let (row, in_gone, same) = map_cases (λ (x : Row). x.clause) (filter g.test rows) r (subst (λ rs. Contains rs r) g.noted.clauses_are there) in
+        let (row, in_gone, same) = map_cases (λ (x : LoggedClause). x.clause) (filter g.test rows) r (subst (λ rs. Contains rs r) g.noted.clauses_are there) in
         subst (Contains places) same (live_placed clauses places row.clause all (row_live clauses rows row held (filter_cases g.test rows row in_gone).0))
 
 pub first_out : (old new : List Held) (refs gone : List ℕ) (from' : ℕ) → All (λ r. is_some (held_at old r) ≡ true) refs → AreOut refs from' gone →

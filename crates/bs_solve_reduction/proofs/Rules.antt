@@ -15,7 +15,7 @@ use Rattle.bs_log.specs.Refusal.{is_lemma}
 use Rattle.bs_log.specs.History.{Entry}
 use Rattle.bs_log.specs.Kept.{is_free_lemma, is_long, newer_long}
 use Rattle.bs_watch.proofs.Gets.{none_is_not_some, same_some, get_take, get_within, get_map}
-use Rattle.bs_solve_reduction.specs.declared.row.Row.{Row}
+use Rattle.bs_solve_reduction.specs.declared.row.LoggedClause.{LoggedClause}
 use Rattle.bs_solve_reduction.specs.Keeping.{over, entry_in, is_free_row, is_long_row, stays, goes, Ascends, AreKnown, watched_in}
 use Rattle.bs_solve_reduction.specs.Notes.{IsNoted}
 
@@ -93,7 +93,7 @@ and_on false true c e = refl
 and_on false false c e = refl
 
 -- how many long lemmas are newer than the one in a place
-newer_by_place : (own steps : ℕ) (clauses : List Held) (rows : List Row) (k : ℕ) (row : Row) → Ascends rows → slice_get rows k ≡ Some row →
+newer_by_place : (own steps : ℕ) (clauses : List Held) (rows : List LoggedClause) (k : ℕ) (row : LoggedClause) → Ascends rows → slice_get rows k ≡ Some row →
     newer_long (over own) steps (map (entry_in clauses) rows) (entry_in clauses row) +
     count_by (is_long_row own steps clauses) (take (suc k) rows) ≡ count_by (is_long_row own steps clauses) rows
 newer_by_place own steps clauses rows k row ascends at =
@@ -106,13 +106,13 @@ newer_by_place own steps clauses rows k row ascends at =
     newer : Entry → Bool
     newer o = is_free_lemma (over own) steps o && is_long o && ltb row.id o.id
 
-    older : (j : ℕ) (r : Row) → j ≤ k → slice_get rows j ≡ Some r → ltb row.id r.id ≡ false
+    older : (j : ℕ) (r : LoggedClause) → j ≤ k → slice_get rows j ≡ Some r → ltb row.id r.id ≡ false
     older j r below there = lt-leb (suc row.id) r.id (elim (cases_lt j k) as (λ _. r.id < suc row.id) [
       | inl before ↦ let less = ascends.below j k r row before there at in omega (arith, less)
       | inr late ↦
           let same : j ≡ k = omega (arith, late, below) in
           let one : r ≡ row = same_some r row (sym there ∙ ap (slice_get rows) same ∙ at) in
-          let ids : r.id ≡ row.id = ap (λ (x : Row). x.id) one in
+          let ids : r.id ≡ row.id = ap (λ (x : LoggedClause). x.id) one in
           omega (arith, ids)
     ])
 
@@ -122,7 +122,7 @@ by_rule true false x y same = refl
 by_rule false b x y same = refl
 
 -- whether a row stays, by the long lemmas before it and those that have to go
-pub stays_by_place : (own steps : ℕ) (clauses : List Held) (rows : List Row) (k : ℕ) (row : Row) (many seen : ℕ) → Ascends rows →
+pub stays_by_place : (own steps : ℕ) (clauses : List Held) (rows : List LoggedClause) (k : ℕ) (row : LoggedClause) (many seen : ℕ) → Ascends rows →
     slice_get rows k ≡ Some row → many ≡ count_by (is_long_row own steps clauses) rows - 20000 →
     seen ≡ count_by (is_long_row own steps clauses) (take k rows) →
     stays own steps clauses rows row ≡ (is_free_row own steps clauses row && (not (is_long (entry_in clauses row)) || leb many seen))
@@ -145,7 +145,7 @@ stays_by_place own steps clauses rows k row many seen ascends at is_many is_seen
 
 -- ---- what is noted
 
-watched_append : (clauses : List Held) (xs ys : List Row) → watched_in clauses (xs ++ ys) ≡ watched_in clauses xs ++ watched_in clauses ys
+watched_append : (clauses : List Held) (xs ys : List LoggedClause) → watched_in clauses (xs ++ ys) ≡ watched_in clauses xs ++ watched_in clauses ys
 watched_append clauses [] ys = refl
 watched_append clauses (x ∷ xs) ys =
     ap (λ r. take 2 (literals_at clauses x.clause) ++ r) (watched_append clauses xs ys) ∙
@@ -154,18 +154,18 @@ watched_append clauses (x ∷ xs) ys =
 pub noted_none : (clauses : List Held) → IsNoted clauses [] [] [] []
 noted_none clauses = record { ids_are = refl; clauses_are = refl; watched_are = refl }
 
-pub noted_push : (clauses : List Held) (rows : List Row) (row : Row) (ids refs : List ℕ) (watched : List Literal) → IsNoted clauses rows ids refs watched →
+pub noted_push : (clauses : List Held) (rows : List LoggedClause) (row : LoggedClause) (ids refs : List ℕ) (watched : List Literal) → IsNoted clauses rows ids refs watched →
     IsNoted clauses (rows ++ row ∷ []) (ids ++ row.id ∷ []) (refs ++ row.clause ∷ []) (watched ++ take 2 (literals_at clauses row.clause))
 noted_push clauses rows row ids refs watched n = record {
-  ids_are = ap (λ xs. xs ++ row.id ∷ []) n.ids_are ∙ sym (map-append (λ (r : Row). r.id) rows (row ∷ []));
-  clauses_are = ap (λ xs. xs ++ row.clause ∷ []) n.clauses_are ∙ sym (map-append (λ (r : Row). r.clause) rows (row ∷ []));
+  ids_are = ap (λ xs. xs ++ row.id ∷ []) n.ids_are ∙ sym (map-append (λ (r : LoggedClause). r.id) rows (row ∷ []));
+  clauses_are = ap (λ xs. xs ++ row.clause ∷ []) n.clauses_are ∙ sym (map-append (λ (r : LoggedClause). r.clause) rows (row ∷ []));
   watched_are = ap (λ xs. xs ++ take 2 (literals_at clauses row.clause)) n.watched_are ∙
       ap (λ xs. watched_in clauses rows ++ xs) (sym (append-nil (take 2 (literals_at clauses row.clause)))) ∙
       sym (watched_append clauses rows (row ∷ []));
 }
 
 -- none of the known rows goes where not too many are long
-pub known_stay : (own steps : ℕ) (clauses : List Held) (rows : List Row) (known long : ℕ) → Ascends rows → AreKnown own steps clauses rows known long →
+pub known_stay : (own steps : ℕ) (clauses : List Held) (rows : List LoggedClause) (known long : ℕ) → Ascends rows → AreKnown own steps clauses rows known long →
     count_by (is_long_row own steps clauses) rows - 20000 ≡ 0 → filter (goes own steps clauses rows) (take known rows) ≡ []
 known_stay own steps clauses rows known long ascends k none =
     filter_none (goes own steps clauses rows) (take known rows) (λ j row there.
@@ -175,12 +175,12 @@ known_stay own steps clauses rows known long ascends k none =
     (le-leb 0 (count_by (is_long_row own steps clauses) (take j rows)) (omega arith)) ∙
     ap (λ b. b && (not (is_long (entry_in clauses row)) || true)) (free_at j row there) ∙ or_true (is_long (entry_in clauses row))))
   where
-    by_get : (xs : List Row) (j : ℕ) (row : Row) → slice_get xs j ≡ Some row → All (λ r. is_free_row own steps clauses r ≡ true) xs →
+    by_get : (xs : List LoggedClause) (j : ℕ) (row : LoggedClause) → slice_get xs j ≡ Some row → All (λ r. is_free_row own steps clauses r ≡ true) xs →
         is_free_row own steps clauses row ≡ true
     by_get xs j row there all =
         ap (is_free_row own steps clauses) (sym (get_or_from_slice_get xs j row row there)) ∙ all j row (get_within xs j row there)
 
-    free_at : (j : ℕ) (row : Row) → slice_get (take known rows) j ≡ Some row → is_free_row own steps clauses row ≡ true
+    free_at : (j : ℕ) (row : LoggedClause) → slice_get (take known rows) j ≡ Some row → is_free_row own steps clauses row ≡ true
     free_at j row there = by_get (take known rows) j row there k.free
 
     or_true : (b : Bool) → (true && (not b || true)) ≡ true
@@ -216,17 +216,17 @@ code_there codes k within =
     (slice_get_read codes (length codes) k (get_or codes k 0) refl within (get_or_default codes k 0 (get_or codes k 0) within))
 
 -- a row's origin says whether it is a lemma
-pub lemma_back : (clauses : List Held) (row : Row) → is_lemma (entry_in clauses row) ≡ row.is_lemma
+pub lemma_back : (clauses : List Held) (row : LoggedClause) → is_lemma (entry_in clauses row) ≡ row.is_lemma
 lemma_back clauses row = by row.is_lemma
   where
     by : (b : Bool) → is_lemma (record { id = row.id; origin = cond b Learnt Blocked; literals = literals_at clauses row.clause }) ≡ b
     by true = refl
     by false = refl
 
-pub noted_same : (clauses : List Held) (rows rows' : List Row) (ids ids' refs refs' : List ℕ) (watched watched' : List Literal) → rows' ≡ rows → ids' ≡ ids →
+pub noted_same : (clauses : List Held) (rows rows' : List LoggedClause) (ids ids' refs refs' : List ℕ) (watched watched' : List Literal) → rows' ≡ rows → ids' ≡ ids →
     refs' ≡ refs → watched' ≡ watched → IsNoted clauses rows ids refs watched → IsNoted clauses rows' ids' refs' watched'
 noted_same clauses rows rows' ids ids' refs refs' watched watched' same_rows same_ids same_refs same_watched n = record {
-  ids_are = same_ids ∙ n.ids_are ∙ ap (map (λ (r : Row). r.id)) (sym same_rows);
-  clauses_are = same_refs ∙ n.clauses_are ∙ ap (map (λ (r : Row). r.clause)) (sym same_rows);
+  ids_are = same_ids ∙ n.ids_are ∙ ap (map (λ (r : LoggedClause). r.id)) (sym same_rows);
+  clauses_are = same_refs ∙ n.clauses_are ∙ ap (map (λ (r : LoggedClause). r.clause)) (sym same_rows);
   watched_are = same_watched ∙ n.watched_are ∙ ap (watched_in clauses) (sym same_rows);
 }

@@ -2,18 +2,18 @@
 use Rattle.std.specs.Prelude.{◌≡◌, ℕ, ◌≤◌, Bool, List, [], map, filter, take, length, Some, None, All, Contains, slice_get}
 use Rattle.bs_clause.specs.Literal.{Literal}
 use Rattle.bs_arena.specs.Arena.{Held, held_at}
-use Rattle.bs_solve_reduction.specs.declared.row.Row.{Row}
+use Rattle.bs_solve_reduction.specs.declared.row.LoggedClause.{LoggedClause}
 use Rattle.bs_solve_reduction.specs.Keeping.{watched_in}
 
 -- the ids, the clauses and the watched literals of these rows
-pub record IsNoted (clauses : List Held) (rows : List Row) (ids refs : List ℕ) (watched : List Literal) : Type 0 where
+pub record IsNoted (clauses : List Held) (rows : List LoggedClause) (ids refs : List ℕ) (watched : List Literal) : Type 0 where
   pub ids_are : ids ≡ map (λ row. row.id) rows
   pub clauses_are : refs ≡ map (λ row. row.clause) rows
   pub watched_are : watched ≡ watched_in clauses rows
 
 -- the rows that pass a test, none of which stands before this place
-pub record GoBy (clauses : List Held) (rows : List Row) (start : ℕ) (ids refs : List ℕ) (watched : List Literal) : Type 0 where
-  pub test : Row → Bool
+pub record GoBy (clauses : List Held) (rows : List LoggedClause) (start : ℕ) (ids refs : List ℕ) (watched : List Literal) : Type 0 where
+  pub test : LoggedClause → Bool
   pub noted : IsNoted clauses (filter test rows) ids refs watched
   pub low : start ≤ length rows
   pub none : filter test (take start rows) ≡ []

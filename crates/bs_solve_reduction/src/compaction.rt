@@ -5,7 +5,7 @@ ghost use Rattle.bs_arena.specs.Renaming.{IsRenaming, new_name};
 ghost use Rattle.bs_watch.specs.Watch.{Serves, renamed_watch};
 ghost use Rattle.bs_solve_reduction.specs.Keeping.{renamed_ref, renamed_row};
 
-use crate::row::Row;
+use crate::row::LoggedClause;
 use bs_arena::{Arena, Ref, Renaming};
 use bs_watch::Watch;
 
@@ -20,10 +20,10 @@ fn rename_ref(names: &Renaming, r: Ref) -> Ref
 }
 
 // The row with its clause's new reference.
-fn rename_row(names: &Renaming, row: Row) -> Row
+fn rename_row(names: &Renaming, row: LoggedClause) -> LoggedClause
     ensures { result ≡ renamed_row names.now.names row }
 {
-    Row {
+    LoggedClause {
         id: row.id,
         clause: rename_ref(names, row.clause),
         is_lemma: row.is_lemma,
@@ -31,7 +31,7 @@ fn rename_row(names: &Renaming, row: Row) -> Row
 }
 
 // Each row.
-fn rename_rows(rows: &mut Vec<Row>, names: &Renaming)
+fn rename_rows(rows: &mut Vec<LoggedClause>, names: &Renaming)
     ensures { rows.new.items ≡ map (renamed_row names.now.names) rows.old.items }
 {
     'rows: for at in 0..rows.len() {
@@ -54,7 +54,7 @@ pub fn compact_all(
     watch: &mut Watch,
     arena: &mut Arena,
     renaming: &mut Renaming,
-    rows: &mut Vec<Row>,
+    rows: &mut Vec<LoggedClause>,
     shorts: &mut Vec<Ref>,
 )
     requires serves { Serves watch.old arena.old.clauses }

@@ -7,7 +7,7 @@ ghost use Rattle.bs_watch.specs.Sweep.{ArePlaced, HasSwept};
 ghost use Rattle.bs_solve_reduction.specs.Keeping.{AreHeld, Ascends};
 ghost use Rattle.bs_solve_reduction.specs.Notes.{HasKilled, GoBy, AreOut};
 
-use crate::row::Row;
+use crate::row::LoggedClause;
 use crate::selection::Leaving;
 use bs_arena::{Arena, Ref};
 use bs_watch::Watch;
@@ -39,7 +39,7 @@ fn kill_all(arena: &mut Arena, clauses: &[Ref])
 }
 
 // Another row in a place.
-fn put_row(rows: &mut Vec<Row>, at: usize, row: Row)
+fn put_row(rows: &mut Vec<LoggedClause>, at: usize, row: LoggedClause)
     requires { at < length rows.old.items }
     ensures { rows.new.items ≡ slice_set rows.old.items at row }
 {
@@ -55,7 +55,7 @@ fn put_ref(refs: &mut Vec<Ref>, at: usize, r: Ref)
 }
 
 // The rows whose clauses are live, where those before a place are.
-fn keep_rows(rows: &mut Vec<Row>, arena: &Arena, from: usize)
+fn keep_rows(rows: &mut Vec<LoggedClause>, arena: &Arena, from: usize)
     requires known { All (λ row. Contains arena.now.places row.clause) rows.old.items }
     requires low { from ≤ length rows.old.items }
     requires live { All (λ row. is_some (held_at arena.now.clauses row.clause) ≡ true)
@@ -98,7 +98,7 @@ fn keep_refs(refs: &mut Vec<Ref>, arena: &Arena, from: usize)
 pub fn take_out(
     watch: &mut Watch,
     arena: &mut Arena,
-    rows: &mut Vec<Row>,
+    rows: &mut Vec<LoggedClause>,
     shorts: &mut Vec<Ref>,
     leaving: &Leaving,
     shorts_from: usize,

@@ -1,10 +1,10 @@
 //! The rule by which lemmas are kept.
 ghost use Rattle.std.specs.Prelude.{◌≡◌, ◌≤◌, ◌&&◌, ◌+◌, map, not, count_by, take, length, is_some, nat_lt, nat_le, true};
 ghost use Rattle.bs_arena.specs.Arena.{held_at, literal_of};
-ghost use Rattle.bs_log.specs.Kept.{has_retired_guard, is_long};
+ghost use Rattle.bs_log.specs.Kept.{has_retired_activation, is_long};
 ghost use Rattle.bs_solve_reduction.specs.Keeping.{over, entry_in, is_free_row, is_long_row, AreHeld};
 
-use crate::row::Row;
+use crate::row::LoggedClause;
 use bs_arena::Arena;
 
 /// A lemma with more literals than this is a long one.
@@ -12,83 +12,84 @@ pub const SHORT: usize = 8;
 /// How many long lemmas are kept.
 pub const MOST_LONG: usize = 20_000;
 
-/// The guards of the steps that have ended: so many variables above the first `own`.
+/// The activation literals of the steps that have ended: so many variables above the first `own`.
 #[derive(Clone, Copy, Debug, PartialEq, Eq)]
-pub struct Guards {
+pub struct Activations {
     pub own: u32,
     pub steps: u32,
 }
 
-// Whether the variable is a guard.
-fn is_guard(variable: u32, guards: Guards) -> bool
-    ensures { result ≡ (nat_lt guards.own variable && nat_le variable (guards.own + guards.steps)) }
+// Whether the variable is an activation literal.
+fn is_activation(variable: u32, activations: Activations) -> bool
+    ensures { result ≡ (nat_lt activations.own variable && nat_le variable (activations.own + activations.steps)) }
 {
-    guards.own < variable && variable as u64 <= guards.own as u64 + guards.steps as u64
+    activations.own < variable
+        && variable as u64 <= activations.own as u64 + activations.steps as u64
 }
 
-// Whether a guard stands among the literals of these codes.
-fn has_guard(codes: &[u32], guards: Guards) -> bool
-    ensures { result ≡ has_retired_guard (over guards.own) guards.steps (map literal_of codes.now) }
+// Whether an activation literal stands among the literals of these codes.
+fn has_activation(codes: &[u32], activations: Activations) -> bool
+    ensures { result ≡ has_retired_activation (over activations.own) activations.steps (map literal_of codes.now) }
 {
     for place in 0..codes.len() {
-        if is_guard(codes[place] / 2, guards) {
+        if is_activation(codes[place] / 2, activations) {
             return true;
         }
     }
     false
 }
 
-// Whether it is that of a lemma without a guard.
-fn is_free_clause(is_lemma: bool, codes: &[u32], guards: Guards) -> bool
+// Whether it is that of a lemma without an activation literal.
+fn is_free_clause(is_lemma: bool, codes: &[u32], activations: Activations) -> bool
     ensures { result ≡ (is_lemma
-        && not (has_retired_guard (over guards.own) guards.steps (map literal_of codes.now))) }
+        && not (has_retired_activation (over activations.own) activations.steps (map literal_of codes.now))) }
 {
     if !is_lemma {
         return false;
     }
-    !has_guard(codes, guards)
+    !has_activation(codes, activations)
 }
 
-/// Whether the row is a lemma without a guard.
-pub fn is_free(arena: &Arena, row: Row, guards: Guards) -> bool
+/// Whether the row is a lemma without an activation literal.
+pub fn is_free(arena: &Arena, row: LoggedClause, activations: Activations) -> bool
     requires { is_some (held_at arena.now.clauses row.clause) ≡ true }
-    ensures { result ≡ is_free_row guards.own guards.steps arena.now.clauses row }
+    ensures { result ≡ is_free_row activations.own activations.steps arena.now.clauses row }
 {
     let is_lemma = row.is_lemma;
     let codes = arena.lits(row.clause);
-    is_free_clause(is_lemma, codes, guards)
+    is_free_clause(is_lemma, codes, activations)
 }
 
 /// Whether the clause of the row is a long one.
-pub fn is_long(arena: &Arena, row: Row) -> bool
+pub fn is_long(arena: &Arena, row: LoggedClause) -> bool
     requires { is_some (held_at arena.now.clauses row.clause) ≡ true }
     ensures { result ≡ is_long (entry_in arena.now.clauses row) }
 {
     arena.lits(row.clause).len() > SHORT
 }
 
-// Whether it is a lemma without a guard, and long.
-fn is_free_long(arena: &Arena, row: &Row, guards: Guards) -> bool
+// Whether it is a lemma without an activation literal, and long.
+fn is_free_long(arena: &Arena, row: &LoggedClause, activations: Activations) -> bool
     requires { is_some (held_at arena.now.clauses row.now.clause) ≡ true }
-    ensures { result ≡ is_long_row guards.own guards.steps arena.now.clauses row.now }
+    ensures { result ≡ is_long_row activations.own activations.steps arena.now.clauses row.now }
 {
-    if !is_free(arena, *row, guards) {
+    if !is_free(arena, *row, activations) {
         return false;
     }
     is_long(arena, *row)
 }
 
-/// The number of long lemmas without a guard from a place on, beside those before it.
-pub fn count_long(arena: &Arena, rows: &[Row], guards: Guards, from: usize) -> usize
+/// The number of long lemmas without an activation literal from a place on, beside those before it.
+pub fn count_long(arena: &Arena, rows: &[LoggedClause], activations: Activations, from: usize) -> usize
     requires held { AreHeld arena.now.clauses rows.now }
     requires low { from ≤ length rows.now }
     ensures { result
-        + count_by (is_long_row guards.own guards.steps arena.now.clauses) (take from rows.now)
-        ≡ count_by (is_long_row guards.own guards.steps arena.now.clauses) rows.now }
+        + count_by (is_long_row activations.own activations.steps arena.now.clauses) (take from rows.now)
+        ≡ count_by (is_long_row activations.own activations.steps arena.now.clauses) rows.now }
 {
     let mut count = 0;
     for place in from..rows.len() {
-        if is_free_long(arena, &rows[place], guards) {
+        if is_free_long(arena, &rows[place], activations) {
             count += 1;
         }
     }

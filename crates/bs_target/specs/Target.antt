@@ -6,7 +6,7 @@ use Rattle.bs_net.specs.Parts.{Parts}
 use Rattle.bs_top_plan.specs.declared.file.File.TheVariants as files
 use Rattle.bs_top_plan.specs.Plan.{Reason, exactly, Plan, end, ◌>>=◌, read_as}
 use Rattle.bs_encode.specs.Transition.{variables}
-use Rattle.bs_reach_unrolled.specs.declared.limits.TheConstants.{MAX_COPY_VARIABLES}
+use Rattle.bs_reach_unrolled.specs.declared.limits.TheConstants.{MAX_FRAME_VARIABLES}
 use Rattle.bs_top_files.specs.Entry.{netlist_of}
 use Rattle.bs_top_files.specs.Looking.{netlist_looked}
 use Rattle.bs_top_files.specs.NoteCases.{NoteCase}
@@ -28,9 +28,9 @@ fitting raw (Some bits) = if length bits == length (circuit_of raw).flops then O
 abbrev pub state_in : Parts → List ℕ → Result (List Bool) (Reason Case)
 state_in raw word = fitting raw (bits_of word)
 
--- whether a copy of the transition clauses for each cycle has few enough variables
+-- whether a time frame for each cycle has few enough variables
 abbrev pub has_room : Parts → ℕ → Bool
-has_room raw cycles = nat_le (cycles * variables (circuit_of raw) []) MAX_COPY_VARIABLES
+has_room raw cycles = nat_le (cycles * variables (circuit_of raw) []) MAX_FRAME_VARIABLES
 
 abbrev pub room_in : Parts → ℕ → Result Bool (Reason Case)
 room_in raw cycles = if has_room raw cycles then Ok true else Err (exactly (codes "TooLarge"))

@@ -4,7 +4,7 @@ ghost use Rattle.std.specs.Bool.{OnTrue};
 ghost use Rattle.bs_net.specs.Netlist.{circuit};
 ghost use Rattle.bs_top_plan.specs.Walks.{Reads};
 ghost use Rattle.bs_encode.specs.Transition.{variables};
-ghost use Rattle.bs_reach_unrolled.specs.declared.limits.TheConstants.{MAX_COPY_VARIABLES};
+ghost use Rattle.bs_reach_unrolled.specs.declared.limits.TheConstants.{MAX_FRAME_VARIABLES};
 ghost use Rattle.bs_top_files.specs.Refusals.{CheckSays};
 ghost use Rattle.bs_note_calls.specs.Searches.{room_text};
 ghost use Rattle.bs_top_files.specs.NoteCases.{NoteSays};
@@ -15,7 +15,7 @@ use bs_bits::{Bits, NoMemory};
 use bs_net::Netlist;
 use bs_note_calls::{room_note, state_note};
 use bs_reach::size;
-use bs_reach_unrolled::MAX_COPY_VARIABLES;
+use bs_reach_unrolled::MAX_FRAME_VARIABLES;
 use bs_top_files::worded;
 use bs_top_plan::{Refusal, Unread, both};
 use std::alloc::Global;
@@ -43,13 +43,13 @@ fn read_state(alloc: Global, word: &str, net: &Netlist) -> Result<Bits, Refusal>
     }
 }
 
-/// Whether so many copies of clauses have few enough variables.
+/// Whether so many time frames have few enough variables.
 fn has_room(variables: u64, cycles: u64) -> bool
-    ensures is { result ≡ nat_le (cycles * variables) MAX_COPY_VARIABLES }
-    ensures room { OnTrue result (cycles * variables ≤ MAX_COPY_VARIABLES) }
+    ensures is { result ≡ nat_le (cycles * variables) MAX_FRAME_VARIABLES }
+    ensures room { OnTrue result (cycles * variables ≤ MAX_FRAME_VARIABLES) }
 {
     match cycles.checked_mul(variables) {
-        Some(all) => all <= u64::from(MAX_COPY_VARIABLES),
+        Some(all) => all <= u64::from(MAX_FRAME_VARIABLES),
         None => false,
     }
 }
@@ -57,7 +57,7 @@ fn has_room(variables: u64, cycles: u64) -> bool
 /// The size of a search of so many cycles.
 fn check_room(alloc: Global, net: &Netlist, cycles: u64) -> Result<(), Refusal>
     ensures reads { Reads CheckSays (λ _. true) (room_in net.now.raw cycles) result }
-    ensures room { IfOk result (λ _. cycles * variables (circuit net.now) [] ≤ MAX_COPY_VARIABLES) }
+    ensures room { IfOk result (λ _. cycles * variables (circuit net.now) [] ≤ MAX_FRAME_VARIABLES) }
 {
     if has_room(size(alloc, net)?, cycles) {
         Ok(())
@@ -91,7 +91,7 @@ fn large_search_note(alloc: Global, net: &Netlist) -> Result<Vec<u8>, NoMemory>
 pub fn room_or_told(alloc: Global, net: &Netlist, cycles: u64) -> Result<(), Unread>
     ensures words { Reads CheckSays (λ _. true) (room_in net.now.raw cycles) (worded result) }
     ensures note { Reads NoteSays (λ _. true) (room_noted net.now.raw cycles) (noted result) }
-    ensures room { IfOk result (λ _. cycles * variables (circuit net.now) [] ≤ MAX_COPY_VARIABLES) }
+    ensures room { IfOk result (λ _. cycles * variables (circuit net.now) [] ≤ MAX_FRAME_VARIABLES) }
 {
     match check_room(alloc, net, cycles) {
         Ok(()) => Ok(()),

@@ -2,7 +2,7 @@
 ghost use Rattle.std.specs.Prelude.{◌≡◌, ◌*◌, ◌≤◌, [], length};
 ghost use Rattle.bs_net.specs.Netlist.{circuit};
 ghost use Rattle.bs_encode.specs.Transition.{variables};
-ghost use Rattle.bs_reach_unrolled.specs.declared.limits.TheConstants.{MAX_COPY_VARIABLES};
+ghost use Rattle.bs_reach_unrolled.specs.declared.limits.TheConstants.{MAX_FRAME_VARIABLES};
 
 use bs_bits::Bits;
 use bs_net::Netlist;
@@ -14,5 +14,5 @@ pub struct Target {
     pub state: Bits,
     pub cycles: u64,
     ghost width: { length state ≡ length (circuit net).flops },
-    ghost room: { cycles * variables (circuit net) [] ≤ MAX_COPY_VARIABLES },
+    ghost room: { cycles * variables (circuit net) [] ≤ MAX_FRAME_VARIABLES },
 }

@@ -3,7 +3,7 @@ use Rattle.std.proofs.Common.{◌≡◌, ℕ, ◌≤◌, List, Some, sym}
 use Rattle.bs_top_words.specs.Job.{RunJob, ReachJob, Run, Reach, job_of}
 use Rattle.bs_top_words.proofs.BudgetLemmas.{FitsRun, FitsReach, job_fits}
 use Rattle.bs_loop.specs.Budget.{IsBudget}
-use Rattle.bs_reach_unrolled.specs.declared.limits.TheConstants.{MAX_COPIES}
+use Rattle.bs_reach_unrolled.specs.declared.limits.TheConstants.{MAX_FRAMES}
 use Rattle.bs_top.specs.Work.{budgets_of}
 
 -- the budgets of a run that words ask for are in their ranges
@@ -17,7 +17,7 @@ budget_is words job e =
     }
 
 -- so are the cycles and the budget of a search
-pub cycles_fit : (words : List (List ℕ)) (job : ReachJob) → Some (Reach job) ≡ job_of words → job.cycles ≤ MAX_COPIES
+pub cycles_fit : (words : List (List ℕ)) (job : ReachJob) → Some (Reach job) ≡ job_of words → job.cycles ≤ MAX_FRAMES
 cycles_fit words job e =
     let fits : FitsReach job = job_fits words (Reach job) (sym e) in
     fits.cycles

@@ -5,7 +5,7 @@ ghost use Rattle.bs_top_answer.specs.Note.{DueText};
 ghost use Rattle.bs_top_answer.specs.Prepared.{PreparedNoted};
 ghost use Rattle.bs_net.specs.Netlist.{circuit};
 ghost use Rattle.bs_top_files.specs.Refusals.{CheckSays};
-ghost use Rattle.bs_reach_unrolled.specs.declared.limits.TheConstants.{MAX_COPIES};
+ghost use Rattle.bs_reach_unrolled.specs.declared.limits.TheConstants.{MAX_FRAMES};
 ghost use Rattle.bs_reach.specs.Reach.{IsReach};
 ghost use Rattle.bs_reach.specs.Text.{HasStates, reach_text};
 ghost use Rattle.bs_target.specs.Shown.{target_in};
@@ -39,7 +39,7 @@ fn reach_status(outcome: Outcome) -> Status
 
 /// The search for a state.
 fn search(alloc: Global, target: &Target, conflicts: u64) -> Result<Reach, NoMemory>
-    requires cycles { target.now.cycles ≤ MAX_COPIES }
+    requires cycles { target.now.cycles ≤ MAX_FRAMES }
     requires limit { 1 ≤ conflicts }
     ensures { IfOk result (IsReach (circuit target.now.net) target.now.state target.now.cycles conflicts) }
 {
@@ -96,7 +96,7 @@ fn told(alloc: Global, reach: Reach) -> Result<Answer, NoMemory>
 
 /// The answer for a state that stays.
 fn reach_answer(alloc: Global, target: &Target, conflicts: u64) -> Result<Answer, NoMemory>
-    requires cycles { target.now.cycles ≤ MAX_COPIES }
+    requires cycles { target.now.cycles ≤ MAX_FRAMES }
     requires limit { 1 ≤ conflicts }
     ensures done { IfOk result (λ answer. finishes (to_reach conflicts (target_in target.now)) answer.reply.status answer.reply.text.items) }
     ensures said { IfOk result (λ answer. WorkSaid (to_reach conflicts (target_in target.now)) answer.reply.text.items answer.note) }
@@ -110,7 +110,7 @@ fn reach_answer(alloc: Global, target: &Target, conflicts: u64) -> Result<Answer
 
 /// The answer for a state.
 fn reached(alloc: Global, target: Target, conflicts: u64) -> Result<Answer, NoMemory>
-    requires cycles { target.cycles ≤ MAX_COPIES }
+    requires cycles { target.cycles ≤ MAX_FRAMES }
     requires limit { 1 ≤ conflicts }
     ensures done { IfOk result (λ answer. finishes (to_reach conflicts (target_in target)) answer.reply.status answer.reply.text.items) }
     ensures said { IfOk result (λ answer. WorkSaid (to_reach conflicts (target_in target)) answer.reply.text.items answer.note) }
@@ -121,7 +121,7 @@ fn reached(alloc: Global, target: Target, conflicts: u64) -> Result<Answer, NoMe
 
 /// The answer of the command.
 pub fn reach<S: Shelf>(alloc: Global, shelf: &mut S, job: &ReachJob<'_>) -> Result<Answer, NoMemory>
-    requires cycles { job.now.cycles ≤ MAX_COPIES }
+    requires cycles { job.now.cycles ≤ MAX_FRAMES }
     requires limit { 1 ≤ job.now.conflicts }
     ensures { PreparedNoted CheckSays finishes (JobSaid (ReachWords (reach_job job.now))) S.held S.faults S.leads shelf.old shelf.new
         (Some (plan_of (ReachWords (reach_job job.now)))) result }

@@ -7,12 +7,12 @@ use Rattle.std.proofs.lemmas.List.{take_all}
 use Rattle.std.proofs.lemmas.List.Sorted.{IsPermutation-refl, IsPermutation-trans, Contains-permutation, All-permutation}
 use Rattle.bs_clause.specs.Literal.{Literal, Clause, negation}
 use Rattle.bs_arena.specs.Arena.{Content, Held, held_at, literals_at}
-use Rattle.bs_watch.specs.Trail.{IsTrueOn, IsFalseOn, Forces}
+use Rattle.bs_watch.specs.Trail.{IsTrueOn, IsFalseOn, Implies}
 use Rattle.bs_watch.specs.Places.{Place, literals_of}
 use Rattle.bs_watch.specs.Look.{IsFirstTwo, HasTrue}
 use Rattle.bs_watch.specs.Lists.{row, IsAttached}
 use Rattle.bs_watch.specs.declared.lists.Watcher.{Watcher}
-use Rattle.bs_watch.specs.Scene.{Scene, trues, AreListed, AreShuffled, IsForced, Grows, Advances, AreMet, KeepsRoom}
+use Rattle.bs_watch.specs.Scene.{Scene, trues, AreListed, AreShuffled, IsImplied, Grows, Advances, AreMet, KeepsRoom}
 use Rattle.bs_watch.proofs.Gets.{get_take, take_get, get_within, get_map, get_map_cases, get_from_Contains, Contains_from_get, none_is_not_some}
 
 -- ---- what is true stays true
@@ -42,7 +42,7 @@ pub grows_refl : (clauses : List Held) (level : ℕ) (places : List Place) → G
 grows_refl clauses level places = record {
   longer = omega arith;
   front = take_all (length places) places (omega arith);
-  forced = λ k p low e. absurd (let within = get_within places k p e in omega (arith, within, low));
+  implied = λ k p low e. absurd (let within = get_within places k p e in omega (arith, within, low));
   levels = λ k p low e. absurd (let within = get_within places k p e in omega (arith, within, low));
 }
 
@@ -52,16 +52,16 @@ take_front zero (suc k) xs h = absurd (omega arith)
 take_front (suc n) (suc k) [] h = refl
 take_front (suc n) (suc k) (x ∷ xs) h = ap (λ ys. x ∷ ys) (take_front n k xs (omega arith))
 
-pub forced_still : (old new : List Held) (earlier : List Place) (p : Place) → AreShuffled old new → IsForced old earlier p → IsForced new earlier p
-forced_still old new earlier p s f = record {
+pub implied_still : (old new : List Held) (earlier : List Place) (p : Place) → AreShuffled old new → IsImplied old earlier p → IsImplied new earlier p
+implied_still old new earlier p s f = record {
   by = f.by;
   reason = f.reason;
   live = s.live f.by ∙ f.live;
-  forces = record {
-    stands = Contains-permutation (literals_at old f.by) (literals_at new f.by) p.literal (s.same f.by) f.forces.stands;
-    unassigned = f.forces.unassigned;
+  implies = record {
+    stands = Contains-permutation (literals_at old f.by) (literals_at new f.by) p.literal (s.same f.by) f.implies.stands;
+    unassigned = f.implies.unassigned;
     others =
-        All-permutation (λ m. (m ≡ p.literal) ⊎ IsFalseOn (literals_of earlier) m) (literals_at old f.by) (literals_at new f.by) (s.same f.by) f.forces.others;
+        All-permutation (λ m. (m ≡ p.literal) ⊎ IsFalseOn (literals_of earlier) m) (literals_at old f.by) (literals_at new f.by) (s.same f.by) f.implies.others;
   };
 }
 
@@ -69,12 +69,12 @@ pub grows_trans : (one two : List Held) (level : ℕ) (a b c : List Place) → A
 grows_trans one two level a b c s g h = record {
   longer = omega (arith, g.longer, h.longer);
   front = sym (take_front (length b) (length a) c g.longer) ∙ ap (take (length a)) h.front ∙ g.front;
-  forced = λ k p low e. elim (cases_lt k (length b)) [
+  implied = λ k p low e. elim (cases_lt k (length b)) [
     | inl early ↦
         let there : slice_get b k ≡ Some p = ap (λ ps. slice_get ps k) (sym h.front) ∙ take_get (length b) c k p early e in
         let same : take k b ≡ take k c = ap (take k) (sym h.front) ∙ take_front (length b) k c (omega (arith, early)) in
-        subst (λ ps. IsForced two ps p) same (forced_still one two (take k b) p s (g.forced k p low there))
-    | inr late ↦ h.forced k p late e
+        subst (λ ps. IsImplied two ps p) same (implied_still one two (take k b) p s (g.implied k p low there))
+    | inr late ↦ h.implied k p late e
   ];
   levels = λ k p low e. elim (cases_lt k (length b)) [
     | inl early ↦ g.levels k p low (ap (λ ps. slice_get ps k) (sym h.front) ∙ take_get (length b) c k p early e)

@@ -15,7 +15,7 @@ use Rattle.bs_watch.specs.declared.cause.Cause.{Cause}
 use Rattle.bs_solve_order.specs.Open.{HoldsOpen, AreAllAssigned, is_assigned}
 use Rattle.bs_solve_order.proofs.CallerLemmas.{holds_assigned, holds_undone, neither}
 use Rattle.bs_watch.specs.Trail.{IsOpenOn, IsAssignedOn, IsValueOn, AreAssignedBelow}
-use Rattle.bs_watch.specs.Places.{Place, AreApart, IsPlaceOf, IsOnLevel, IsForcedBy, HasNoReason, literals_of, variable_of, renamed_place}
+use Rattle.bs_watch.specs.Places.{Place, AreApart, IsPlaceOf, IsOnLevel, IsImpliedBy, HasNoReason, literals_of, variable_of, renamed_place}
 use Rattle.bs_watch.specs.Tables.{IsTrail, AreDistinct, HasValues, no_cause, cause_of, place_with, places_in, value_of, renamed_cause}
 use Rattle.bs_watch.proofs.Gets.{none_is_not_some, same_some, get_left, get_last, get_push_cases, get_from_Contains, Contains_from_get, get_map_cases}
 use Rattle.bs_watch.proofs.Gets.{get_within, get_map}
@@ -285,10 +285,10 @@ one_level places l i j a x y =
     let same : x.1.at ≡ y.1.at = a.apart x.1.at y.1.at x.0 y.0 x.1.there y.1.there (x.1.same ∙ sym y.1.same) in
     sym x.2 ∙ ap (λ (p : Place). p.level) (same_some x.0 y.0 (sym x.1.there ∙ ap (slice_get places) same ∙ y.1.there)) ∙ y.2
 
-pub forced_by : (causes : List Cause) (ls : List Literal) (l : Literal) (o : Option ℕ) → IsAssignedOn ls l → (cause_of causes l).reason ≡ o →
-    IfSome o (IsForcedBy (places_in causes ls) l)
-forced_by causes ls l None a is = tt
-forced_by causes ls l (Some r) a is = let (p, at, level, reason) = place_of causes ls l a in (p, at, reason ∙ is)
+pub implied_by : (causes : List Cause) (ls : List Literal) (l : Literal) (o : Option ℕ) → IsAssignedOn ls l → (cause_of causes l).reason ≡ o →
+    IfSome o (IsImpliedBy (places_in causes ls) l)
+implied_by causes ls l None a is = tt
+implied_by causes ls l (Some r) a is = let (p, at, level, reason) = place_of causes ls l a in (p, at, reason ∙ is)
 
 cause_at : (causes : List Cause) (ls : List Literal) (l : Literal) (p : Place) → IsPlaceOf (places_in causes ls) l p →
     (p.reason ≡ (cause_of causes l).reason) × IsAssignedOn ls l
@@ -303,13 +303,13 @@ cause_at causes ls l p at =
       ],
     )
 
-pub not_forced : (causes : List Cause) (ls : List Literal) (l : Literal) (o : Option ℕ) → (cause_of causes l).reason ≡ o →
+pub not_implied : (causes : List Cause) (ls : List Literal) (l : Literal) (o : Option ℕ) → (cause_of causes l).reason ≡ o →
     IfNone o (HasNoReason (places_in causes ls) l)
-not_forced causes ls l None is = record { none = λ p at. (cause_at causes ls l p at).0 ∙ is }
-not_forced causes ls l (Some r) is = tt
+not_implied causes ls l None is = record { none = λ p at. (cause_at causes ls l p at).0 ∙ is }
+not_implied causes ls l (Some r) is = tt
 
-pub open_not_forced : (causes : List Cause) (ls : List Literal) (l : Literal) → IsOpenOn ls l → HasNoReason (places_in causes ls) l
-open_not_forced causes ls l o = record {
+pub open_not_implied : (causes : List Cause) (ls : List Literal) (l : Literal) → IsOpenOn ls l → HasNoReason (places_in causes ls) l
+open_not_implied causes ls l o = record {
   none = λ p at. absurd (elim (cause_at causes ls l p at).1 [ inl holds ↦ o.0 holds | inr lost ↦ o.1 lost ]);
 }
 

@@ -8,14 +8,14 @@ use Rattle.bs_clause.specs.Literal.{Literal, Clause, negation, code_of}
 use Rattle.bs_clause.specs.Range.{HasVariables, IsWithin}
 use Rattle.bs_arena.specs.Arena.{Held, held_at, literals_at}
 use Rattle.bs_watch.specs.declared.lists.Watcher.{Watcher}
-use Rattle.bs_watch.specs.Trail.{IsTrueOn, IsFalseOn, IsConflict, Forces}
+use Rattle.bs_watch.specs.Trail.{IsTrueOn, IsFalseOn, IsConflict, Implies}
 use Rattle.bs_watch.specs.Places.{Place, literals_of, TrailState}
 use Rattle.bs_watch.specs.Look.{IsFirstTwo, HasTrue}
 use Rattle.bs_watch.specs.Lists.{row, IsIn, IsAttached}
 use Rattle.bs_watch.specs.Scene.{Scene, trues, IsWatcher, IsWatchable, AreListed, Advances, AreMet, IsConflictOf}
 use Rattle.bs_watch.proofs.Gets.{same_some, get_map, get_last, Contains_from_get}
 use Rattle.bs_watch.proofs.Rows.{row_now}
-use Rattle.bs_watch.proofs.Steps.{SameClauses, same_clauses_set, blocked, forced_one}
+use Rattle.bs_watch.proofs.Steps.{SameClauses, same_clauses_set, blocked, implied_one}
 use Rattle.bs_watch.proofs.Advancing.{met_still, met_more}
 
 pub in_range : (vars : ℕ) (c : Clause) (l : Literal) → HasVariables vars c → Contains c l → l.variable ≤ vars
@@ -43,17 +43,17 @@ met_blocked level trail lists new clauses f at w b a within there same stands ho
       ap length here ∙ length-set (row lists f) at b,
     )
 
-pub met_forced : (level : ℕ) (trail : TrailState) (lists : List (List Watcher)) (clauses : List Held) (f : Literal) (at : ℕ) (w : Watcher) (p : Place) →
+pub met_implied : (level : ℕ) (trail : TrailState) (lists : List (List Watcher)) (clauses : List Held) (f : Literal) (at : ℕ) (w : Watcher) (p : Place) →
     AreListed (record { trail = trail; lists = lists; clauses = clauses }) → p.reason ≡ Some w.clause → p.level ≡ level →
-    is_some (held_at clauses w.clause) ≡ true → Forces (literals_of trail.places) (literals_at clauses w.clause) p.literal →
+    is_some (held_at clauses w.clause) ≡ true → Implies (literals_of trail.places) (literals_at clauses w.clause) p.literal →
     slice_get (row lists f) at ≡ Some w → AreMet (record { trail = trail; lists = lists; clauses = clauses }) f at →
     AreMet (record { trail = record { vars = trail.vars; places = trail.places ++ p ∷ [] }; lists = lists; clauses = clauses }) f (at + 1)
-met_forced level trail lists clauses f at w p a reason at_level live forces there m =
+met_implied level trail lists clauses f at w p a reason at_level live implies there m =
     let new : Scene = record { trail = record { vars = trail.vars; places = trail.places ++ p ∷ [] }; lists = lists; clauses = clauses } in
     met_here new f at w p.literal
     (met_still level (record { trail = trail; lists = lists; clauses = clauses }) new f at
-    (forced_one level trail lists clauses w.clause p a reason at_level live forces) (λ k v before e. (v, e, refl)) m)
-    there forces.stands
+    (implied_one level trail lists clauses w.clause p a reason at_level live implies) (λ k v before e. (v, e, refl)) m)
+    there implies.stands
     (Contains_from_get (literals_of (trail.places ++ p ∷ [])) (length trail.places) p.literal
     (get_map (λ (x : Place). x.literal) (trail.places ++ p ∷ []) (length trail.places) p (get_last trail.places p)))
 

@@ -3,7 +3,7 @@ use Rattle.std.specs.Prelude.{◌≡◌, ◌⊎◌, ℕ, ◌<◌, ◌≤◌, Lis
 use Rattle.bs_clause.specs.Literal.{Literal, Clause}
 use Rattle.bs_watch.specs.declared.look.Look.{Look}
 use Rattle.bs_watch.specs.declared.look.Look.TheVariants.{True, Free, Unit as IsUnitOf, False}
-use Rattle.bs_watch.specs.Trail.{IsTrueOn, IsFalseOn, IsConflict, Forces}
+use Rattle.bs_watch.specs.Trail.{IsTrueOn, IsFalseOn, IsConflict, Implies}
 
 -- the literal is one of the two that the clause watches
 abbrev pub IsFirstTwo : Clause → Literal → Type 0
@@ -32,5 +32,5 @@ pub record IsFree (trail : List Literal) (c : Clause) (falsified : Literal) (sid
 abbrev pub Says : List Literal → Clause → Literal → Look → Type 0
 Says trail c falsified (True l) = Contains c l × IsTrueOn trail l
 Says trail c falsified (Free side place l) = IsFree trail c falsified side place l
-Says trail c falsified (IsUnitOf l) = Forces trail c l
+Says trail c falsified (IsUnitOf l) = Implies trail c l
 Says trail c falsified False = IsConflict trail c

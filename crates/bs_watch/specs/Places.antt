@@ -4,7 +4,7 @@ use Rattle.bs_clause.specs.Literal.{Literal}
 use Rattle.bs_arena.specs.Renaming.{new_name}
 use Rattle.bs_watch.specs.Trail.{IsOpenOn}
 
--- a literal that is true, with the clause that forced it and its level; a decision and an
+-- a literal that is true, with the clause that implied it and its level; a decision and an
 -- assumption have no clause
 pub record Place : Type 0 where
   pub literal : Literal
@@ -54,11 +54,11 @@ pub record IsLevelOf (places : List Place) (l : Literal) (level : ℕ) : Type 0 
   pub on : IsOnLevel places l level
   pub only : (n : ℕ) → IsOnLevel places l n → n ≡ level
 
--- the variable of the literal was forced by the clause
-abbrev pub IsForcedBy : List Place → Literal → ℕ → Type 0
-IsForcedBy places l r = (p : Place) × IsPlaceOf places l p × (p.reason ≡ Some r)
+-- the variable of the literal was implied by the clause
+abbrev pub IsImpliedBy : List Place → Literal → ℕ → Type 0
+IsImpliedBy places l r = (p : Place) × IsPlaceOf places l p × (p.reason ≡ Some r)
 
--- no clause forced the variable of the literal
+-- no clause implied the variable of the literal
 pub record HasNoReason (places : List Place) (l : Literal) : Type 0 where
   pub none : (p : Place) → IsPlaceOf places l p → p.reason ≡ None
 

@@ -9,7 +9,7 @@ use Rattle.bs_watch.specs.declared.visit.Visit.{Visit}
 use Rattle.bs_watch.specs.declared.visit.Visit.TheVariants.{Stays, Moves, Conflict as Clash}
 use Rattle.bs_watch.specs.declared.visit.Outcome.{Outcome}
 use Rattle.bs_watch.specs.declared.visit.Outcome.TheVariants.{Quiet, Conflict}
-use Rattle.bs_watch.specs.Trail.{IsFalseOn, IsConflict, IsUnit, Forces}
+use Rattle.bs_watch.specs.Trail.{IsFalseOn, IsConflict, IsUnit, Implies}
 use Rattle.bs_watch.specs.Places.{Place, literals_of, TrailState}
 use Rattle.bs_watch.specs.Lists.{row, IsIn, IsAttached, IsOnce}
 use Rattle.bs_watch.specs.Look.{IsFirstTwo, HasTrue}
@@ -73,19 +73,19 @@ abbrev pub Rewatches : List Literal → Clause → Clause → Type 0
 Rewatches trail old new =
     (m : Literal) → IsFirstTwo new m → IsFirstTwo old m ⊎ (¬ IsFalseOn trail m)
 
--- a live clause forces the literal
-pub record IsForced (clauses : List Held) (earlier : List Place) (p : Place) : Type 0 where
+-- a live clause implies the literal
+pub record IsImplied (clauses : List Held) (earlier : List Place) (p : Place) : Type 0 where
   pub by : ℕ
   pub reason : p.reason ≡ Some by
   pub live : is_some (held_at clauses by) ≡ true
-  pub forces : Forces (literals_of earlier) (literals_at clauses by) p.literal
+  pub implies : Implies (literals_of earlier) (literals_at clauses by) p.literal
 
--- the new trail begins with the old one, and each further literal is forced
+-- the new trail begins with the old one, and each further literal is implied
 pub record Grows (clauses : List Held) (level : ℕ) (old new : List Place) : Type 0 where
   pub longer : length old ≤ length new
   pub front : take (length old) new ≡ old
-  pub forced : (k : ℕ) (p : Place) → length old ≤ k → slice_get new k ≡ Some p →
-      IsForced clauses (take k new) p
+  pub implied : (k : ℕ) (p : Place) → length old ≤ k → slice_get new k ≡ Some p →
+      IsImplied clauses (take k new) p
   pub levels : (k : ℕ) (p : Place) → length old ≤ k → slice_get new k ≡ Some p → p.level ≡ level
 
 -- what visits keep

@@ -1,4 +1,4 @@
-//! A span of variables that are known to be false, as those of retired guards are.
+//! A span of variables that are known to be false, as those of retired activation literals are.
 ghost use Rattle.std.specs.Prelude.{◌≡◌, ◌⊎◌, ◌^◌, ◌<◌, ◌≤◌};
 ghost use Rattle.bs_watch.specs.Spans.{IsSpan, no_span};
 

@@ -4,7 +4,7 @@ ghost use Rattle.std.specs.Prelude.{vec_len, vec_capacity, Option, Some, None, I
 ghost use Rattle.bs_clause.specs.Literal.{IsVariable, code_of};
 ghost use Rattle.bs_clause.specs.Range.{HasVariables};
 ghost use Rattle.bs_watch.specs.Trail.{IsTrueOn, IsFalseOn, IsOpenOn, IsAssignedOn, IsValueOn, IsOpenVariable, AreAssignedBelow};
-ghost use Rattle.bs_watch.specs.Places.{IsUnassigned, IsLevelOf, IsForcedBy, HasNoReason, IsLiteralAt, AreApart, literals_of, renamed_place, with_place};
+ghost use Rattle.bs_watch.specs.Places.{IsUnassigned, IsLevelOf, IsImpliedBy, HasNoReason, IsLiteralAt, AreApart, literals_of, renamed_place, with_place};
 ghost use Rattle.bs_watch.specs.Tables.{no_cause, HasValues};
 
 use crate::cause::Cause;
@@ -157,10 +157,10 @@ impl Trail {
         self.causes[l.var().0 as usize].level
     }
 
-    /// The clause that forced the literal's variable, if it has a value and was forced.
+    /// The clause that implied the literal's variable, if it has a value and was implied.
     pub fn reason(&self, l: Lit) -> Option<Ref>
         requires { l.variable ≤ self.now.vars }
-        ensures some { IfSome result (IsForcedBy self.now.places l) }
+        ensures some { IfSome result (IsImpliedBy self.now.places l) }
         ensures none { IfNone result (HasNoReason self.now.places l) }
     {
         match self.value(l) {

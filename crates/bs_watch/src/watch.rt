@@ -1,7 +1,7 @@
 //! A trail with levels and reasons, and the watched literals of clauses.
 ghost use Rattle.std.specs.Prelude.{◌≡◌, ◌+◌, ◌*◌, ◌^◌, ◌<◌, ◌≤◌, [], length, take, slice_get, option_map, IfOk, IfSome, IfNone, IsSome, IsPermutation, OnOk, OnErr};
 ghost use Rattle.bs_watch.specs.Trail.{IsAssignedOn, IsValueOn, IsOpenVariable, AreAssignedBelow};
-ghost use Rattle.bs_watch.specs.Places.{IsUnassigned, IsLevelOf, IsForcedBy, HasNoReason, AreApart, literals_of};
+ghost use Rattle.bs_watch.specs.Places.{IsUnassigned, IsLevelOf, IsImpliedBy, HasNoReason, AreApart, literals_of};
 ghost use Rattle.bs_watch.specs.Scene.{IsWatchable, Advances, Propagated, KeepsRoom};
 ghost use Rattle.bs_clause.specs.Literal.{IsVariable};
 ghost use Rattle.bs_clause.specs.Range.{HasVariables};
@@ -203,10 +203,10 @@ impl Watch {
         self.trail.level_of(lit)
     }
 
-    /// The clause that forced the literal's variable, if it has a value and was forced.
+    /// The clause that implied the literal's variable, if it has a value and was implied.
     pub fn reason(&self, lit: Lit) -> Option<Ref>
         requires { lit.variable ≤ self.now.trail.vars }
-        ensures some { IfSome result (IsForcedBy self.now.trail.places lit) }
+        ensures some { IfSome result (IsImpliedBy self.now.trail.places lit) }
         ensures none { IfNone result (HasNoReason self.now.trail.places lit) }
     {
         self.trail.reason(lit)
@@ -288,7 +288,7 @@ impl Watch {
         self.trail.assign(lit, reason, level);
     }
 
-    /// Assigns what the attached clauses force, until none is unit, or one is false.
+    /// Assigns what the attached clauses imply, until none is unit, or one is false.
     pub fn propagate(&mut self, arena: &mut Arena) -> Result<Outcome, NoMemory>
         requires { Serves self.old arena.old.clauses }
         ensures serves { Serves self.new arena.new.clauses }

@@ -9,7 +9,7 @@ pub returns-then-not-branch-clause-known : goal.returns-then-not-branch-clause-k
 returns-then-not-branch-clause-known c =
     sym
     (unknown_one (has_clause
-    (blocks_due c.args.guard
+    (blocks_due c.args.activation
     (block_for c.args.encoding.now) c.args.cands.now)) c.args.lines.now c.lines.line-index c.line-item.result c.lines-test.true c.line-item.is
     (sym c.in_ok-note_line.ensures.known ∙ c.if-not-branch.true))
 
@@ -18,11 +18,11 @@ lines-preserved c =
     record {
       known =
           known_more (has_clause
-          (blocks_due c.args.guard
+          (blocks_due c.args.activation
           (block_for c.args.encoding.now) c.args.cands.now)) c.args.lines.now c.lines.line-index c.line-item.result c.lines-test.true c.line-item.is
           c.lines.invariant.known (sym c.in_ok-note_line.ensures.known ∙ c.if-not-branch.false);
       noted =
-          noted_more c.args.encoding.now c.args.guard
+          noted_more c.args.encoding.now c.args.activation
           (listed c.args.cands.now) c.args.lines.now c.lines.line-index c.line-item.result c.lines.noted.items c.note_line.new.noted.items
           c.lines-test.true c.line-item.is
           c.lines.invariant.noted (c.in_ok-note_line.ensures.noted c.if-not-branch.false);

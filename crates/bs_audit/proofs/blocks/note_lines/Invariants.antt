@@ -8,6 +8,6 @@ use Rattle.bs_audit.proofs.blocks.note_lines.Given as goal
 
 abbrev pub invariant-lines : goal.invariant-lines
 invariant-lines l = record {
-  known : list_all (has_clause (blocks_due l.guard (block_for l.encoding) l.cands)) (blocks_in (take l.line-index l.lines)) ≡ true;
-  noted : AreNoted l.encoding l.guard (listed l.cands) (blocks_in (take l.line-index l.lines)) l.noted.items;
+  known : list_all (has_clause (blocks_due l.activation (block_for l.encoding) l.cands)) (blocks_in (take l.line-index l.lines)) ≡ true;
+  noted : AreNoted l.encoding l.activation (listed l.cands) (blocks_in (take l.line-index l.lines)) l.noted.items;
 }

@@ -13,8 +13,8 @@ returns-in_err-note-clause-adds c =
     let there : at < length runs =
     omega (arith, c.lanes-test.true, c.count-lane-end.ensures.count, length-map c.args.runs.now.runs (λ (run : Recorded). run.inputs)) in
     added_wider runs old c.note.new.first c.args.planes.now c.args.width c.args.cycle (at + 1) (length runs) (omega (arith, there))
-    (added_more runs old c.lanes.first c.note.new.first c.args.planes.now c.args.width c.args.cycle at c.wide_for-wide.result c.lane_print-print.result
-    c.wide_for-wide.ensures.value c.lane_print-print.ensures (omega (arith, c.if-cycle-cycles_of.true, c.cycles_of.ensures.count)) c.lanes.invariant.keeps
+    (added_more runs old c.lanes.first c.note.new.first c.args.planes.now c.args.width c.args.cycle at c.wide_for-wide.result c.lane_hash-hash.result
+    c.wide_for-wide.ensures.value c.lane_hash-hash.ensures (omega (arith, c.if-cycle-cycles_of.true, c.cycles_of.ensures.count)) c.lanes.invariant.keeps
     c.lanes.invariant.adds c.in_err-note.ensures.adds)
 
 pub lanes-preserved : goal.lanes-preserved
@@ -31,12 +31,12 @@ lanes-preserved c =
         keeps = rw w.first-is (keeps_more old mid w.note.new.first c.lanes.invariant.keeps w.in_ok-note.ensures.keeps);
         notes =
             rw w.first-is
-            (lanes_more runs mid w.note.new.first planes c.args.width c.args.cycle at c.wide_for-wide.result w.lane_print-print.result
-            c.wide_for-wide.ensures.value w.lane_print-print.ensures w.in_ok-note.ensures.keeps w.in_ok-note.ensures.notes c.lanes.invariant.notes);
+            (lanes_more runs mid w.note.new.first planes c.args.width c.args.cycle at c.wide_for-wide.result w.lane_hash-hash.result
+            c.wide_for-wide.ensures.value w.lane_hash-hash.ensures w.in_ok-note.ensures.keeps w.in_ok-note.ensures.notes c.lanes.invariant.notes);
         adds =
             rw w.first-is
-            (added_more runs old mid w.note.new.first planes c.args.width c.args.cycle at c.wide_for-wide.result w.lane_print-print.result
-            c.wide_for-wide.ensures.value w.lane_print-print.ensures (omega (arith, w.if-cycle-cycles_of.true, c.cycles_of.ensures.count))
+            (added_more runs old mid w.note.new.first planes c.args.width c.args.cycle at c.wide_for-wide.result w.lane_hash-hash.result
+            c.wide_for-wide.ensures.value w.lane_hash-hash.ensures (omega (arith, w.if-cycle-cycles_of.true, c.cycles_of.ensures.count))
             c.lanes.invariant.keeps c.lanes.invariant.adds w.in_ok-note.ensures.adds);
         few = rw w.first-is (omega (arith, c.lanes.invariant.few, w.in_ok-note.ensures.few));
         within = omega (arith, there);

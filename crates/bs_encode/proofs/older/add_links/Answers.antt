@@ -1,5 +1,5 @@
 use Rattle.std.proofs.Common.{◌≡◌, ◌++◌, rules}
-use Rattle.bs_encode.specs.Copy.{link, under}
+use Rattle.bs_encode.specs.Frame.{link, under}
 use Rattle.bs_encode.proofs.OlderLemmas.{under_step}
 use Rattle.bs_encode.proofs.older.add_links.Goals as goal
 

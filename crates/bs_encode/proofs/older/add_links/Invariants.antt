@@ -1,5 +1,5 @@
 use Rattle.std.proofs.Common.{◌≡◌, ◌++◌, take}
-use Rattle.bs_encode.specs.Copy.{links, under}
+use Rattle.bs_encode.specs.Frame.{links, under}
 use Rattle.bs_encode.proofs.older.add_links.Given as goal
 
 abbrev pub invariant-places : goal.invariant-places

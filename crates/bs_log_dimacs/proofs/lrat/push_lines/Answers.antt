@@ -8,7 +8,7 @@ use Rattle.bs_log_dimacs.specs.Proof.{proof_text, shown}
 use Rattle.bs_log_dimacs.specs.Walk.{problem_in, clauses_in, IsAt}
 use Rattle.bs_log_dimacs.proofs.Walking.{history_more}
 use Rattle.bs_log_dimacs.proofs.Texts.{text_more, at_next}
-use Rattle.bs_log_dimacs.proofs.Rooms.{begins, start_fits, fits_for, room_for, guard_for, step_for, blocks_for}
+use Rattle.bs_log_dimacs.proofs.Rooms.{begins, start_fits, fits_for, room_for, activation_for, step_for, blocks_for}
 use Rattle.bs_log_dimacs.proofs.lrat.push_lines.Goals as goal
 
 pub begin-at-requires : goal.begin-at-requires
@@ -33,7 +33,7 @@ push_shown-requires c =
           fits_for c.args.asked.now c.requires.provable c.args.f.now c.requires.frame c.lines.i line c.lines-test.true
           (history_more lines c.lines.i line c.lines-test.true same);
       room = room_for c.args.asked.now c.requires.provable c.args.f.now c.requires.frame (clauses_in c.args.asked.now) c.lines.i c.lines.at c.lines.invariant.at;
-      guard = guard_for c.args.asked.now c.requires.provable c.args.f.now c.requires.frame (clauses_in c.args.asked.now) c.lines.i c.lines.at c.lines.invariant.at;
+      activation = activation_for c.args.asked.now c.requires.provable c.args.f.now c.requires.frame (clauses_in c.args.asked.now) c.lines.i c.lines.at c.lines.invariant.at;
     }
 
 pub at_behind-at-requires : goal.at_behind-at-requires

@@ -2,7 +2,7 @@ use Rattle.std.proofs.Common.{◌≡◌, ◌∷◌, All, List, length, subst, sy
 use Rattle.std.specs.Option.{option_to_list}
 use Rattle.bs_net.specs.Circuit.{Circuit}
 use Rattle.bs_report.specs.declared.report.Cand.{Cand}
-use Rattle.bs_loop.specs.Known.{sight_by, Sees}
+use Rattle.bs_loop.specs.KnownCand.{sight_by, Sees}
 use Rattle.bs_loop.proofs.KnownLemmas.{sees}
 use Rattle.bs_loop.proofs.MeetLemmas.{candidate_widths, hit_is, has_its_dump}
 use Rattle.bs_loop.proofs.steps.look_from.Goals as goal

@@ -8,8 +8,8 @@ use Rattle.bs_preimage.proofs.probe.probe_once.Goals as goal
 pub probe_turn-requires-clause-may : goal.probe_turn-requires-clause-may
 probe_turn-requires-clause-may c =
     may_probe c.args.encoding.now c.args.solver.now c.begin_step.new.self c.args.asked.now.present.now c.args.asked.now.stored.now (option_map
-    (λ bits. bits.now) c.args.asked.now.older) c.args.asked.now.state.now c.in_ok-guard.guard
-    c.requires.readable c.requires.vars c.requires.clauses c.requires.rest c.requires.distinct c.in_ok-guard.ensures.ok c.in_ok-guard.ensures.guard
+    (λ bits. bits.now) c.args.asked.now.older) c.args.asked.now.state.now c.in_ok-activation.activation
+    c.requires.readable c.requires.vars c.requires.clauses c.requires.rest c.requires.distinct c.in_ok-activation.ensures.ok c.in_ok-activation.ensures.activation
 
 pub end_step-requires-clause-stage : goal.end_step-requires-clause-stage
 end_step-requires-clause-stage c = λ _. turned_solved _ _ _ _ c.probe_turn.new.solver c.in_ok-end.end c.in_ok-end.ensures.ok
@@ -24,7 +24,7 @@ returns c =
     record {
       ok =
           once_probed c.args.encoding.now c.args.solver.now c.begin_step.new.self c.probe_turn.new.solver c.end_step.new.self c.args.asked.now.present.now
-          c.args.asked.now.stored.now (option_map (λ bits. bits.now) c.args.asked.now.older) c.args.asked.now.state.now c.in_ok-guard.guard
-          c.args.asked.now.b c.in_ok-end.end c.requires.rest c.in_ok-guard.ensures.ok c.in_ok-guard.ensures.guard c.in_ok-end.ensures.ok
+          c.args.asked.now.stored.now (option_map (λ bits. bits.now) c.args.asked.now.older) c.args.asked.now.state.now c.in_ok-activation.activation
+          c.args.asked.now.b c.in_ok-end.end c.requires.rest c.in_ok-activation.ensures.ok c.in_ok-activation.ensures.activation c.in_ok-end.ensures.ok
           (subst (HasEnded c.probe_turn.new.solver c.end_step.new.self) c.ending.ensures c.in_ok-end_step.ensures.ok);
     }

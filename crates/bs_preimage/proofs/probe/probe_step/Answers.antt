@@ -16,7 +16,7 @@ probe_once-requires-clause-readable c =
 pub probe_once-requires-clause-distinct : goal.probe_once-requires-clause-distinct
 probe_once-requires-clause-distinct c =
     let P : ℕ → Type 0 = λ width. All (λ (item : List ℕ). All (λ i. i < width) item) c.args.choice.now.items in
-    probing_distinct (circuit c.args.net.now) c.args.choice.now c.args.encoding.now c.args.solver.now.book c.args.asked.now.present.now
+    probing_distinct (circuit c.args.net.now) c.args.choice.now c.args.encoding.now c.args.solver.now.proof c.args.asked.now.present.now
     c.args.asked.now.stored.now (option_map (λ bits. bits.now) c.args.asked.now.older) c.args.asked.now.state.now c.raw-raw.ensures.checked
     (parts_placed c.args.net.now.raw c.raw-raw.ensures.placed c.args.choice.now.items (subst P c.requires.about.width c.items-items.ensures.sound.in_range))
     c.requires.may c.requires.about c.encodings_are_tidy.ensures
@@ -70,7 +70,7 @@ returns c =
             may = c.requires.may;
             kept = c.items-items.ensures.sound.kept;
             done = c.in_ok-end.ensures.ok;
-            accepted = accepted_by c.probe_once.new.solver.book.problem c.probe_once.new.solver.book.history c.log-log.result.now c.log-log.ensures.lines
+            accepted = accepted_by c.probe_once.new.solver.proof.problem c.probe_once.new.solver.proof.history c.log-log.result.now c.log-log.ensures.lines
                 (c.log-log.ensures.accepted c.in_ok-end.ensures.ok.ended.well c.in_ok-end.ensures.ok.ended.stage);
             shown = shown_by (circuit c.args.net.now) c.args.choice.now c.args.encoding.now c.requires.about.encoding c.predecessors_are_shown.ensures;
             solutions = solutions_by (circuit c.args.net.now) c.args.choice.now c.args.encoding.now c.requires.about.encoding c.solutions_are_predecessors.ensures;

@@ -67,7 +67,7 @@ returns-clause-ok g c =
       known_right = right;
       sought = sought;
       order = c.in_ok-cands.ensures;
-      accepted = accepted_by c.seek.new.solver.book.problem c.seek.new.solver.book.history c.log-log.result.now c.log-log.ensures.lines
+      accepted = accepted_by c.seek.new.solver.proof.problem c.seek.new.solver.proof.history c.log-log.result.now c.log-log.ensures.lines
           (c.log-log.ensures.accepted sought.ended.well sought.ended.stage);
       shown = shown_by (circuit c.args.net.now) c.args.choice.now c.args.encoding.now c.requires.about.encoding c.predecessors_are_shown.ensures;
       solutions = solutions_by (circuit c.args.net.now) c.args.choice.now c.args.encoding.now c.requires.about.encoding c.solutions_are_predecessors.ensures;

@@ -7,8 +7,8 @@ returns-clause-ok c = known_blocked _ _ _ _ c.solve_unsearched.new.self _ c.in_o
 
 pub returns-clause-lines : goal.returns-clause-lines
 returns-clause-lines c =
-    extends_then _ _ c.solve_unsearched.new.self.book _ _ [] (follows_extends _ _ _ _ c.in_ok-solve_unsearched.ensures.lines) c.block_state.ensures.lines
+    extends_then _ _ c.solve_unsearched.new.self.proof _ _ [] (follows_extends _ _ _ _ c.in_ok-solve_unsearched.ensures.lines) c.block_state.ensures.lines
 
 pub returns-in_err-block_state-clause-lines : goal.returns-in_err-block_state-clause-lines
 returns-in_err-block_state-clause-lines c =
-    extends_then _ _ c.solve_unsearched.new.self.book _ _ [] (follows_extends _ _ _ _ c.in_ok-solve_unsearched.ensures.lines) c.block_state.ensures.lines
+    extends_then _ _ c.solve_unsearched.new.self.proof _ _ [] (follows_extends _ _ _ _ c.in_ok-solve_unsearched.ensures.lines) c.block_state.ensures.lines

@@ -15,7 +15,7 @@ returns-in-Found-clause-ok c =
 
 -- src/turn.rt:25:1
 pub returns-in-Found-clause-lines : goal.returns-in-Found-clause-lines
-returns-in-Found-clause-lines c = extends_then _ _ c.solve.new.self.book _ _ [] (follows_extends _ _ _ _ c.in_ok-values.ensures.lines) c.list_one.ensures.lines
+returns-in-Found-clause-lines c = extends_then _ _ c.solve.new.self.proof _ _ [] (follows_extends _ _ _ _ c.in_ok-values.ensures.lines) c.list_one.ensures.lines
 
 -- src/turn.rt:25:1
 pub returns-in-Refuted-clause-ok : goal.returns-in-Refuted-clause-ok

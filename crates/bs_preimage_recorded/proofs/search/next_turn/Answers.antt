@@ -1,6 +1,6 @@
 use Rattle.std.proofs.Common.{ℕ, Option, length, subst}
 use Rattle.std.specs.Prelude.{MatchOption, option_map}
-use Rattle.bs_chip.specs.Signs.{NoneAlike, IsNextAlike}
+use Rattle.bs_chip.specs.SignatureHashes.{NoneAlike, IsNextAlike}
 use Rattle.bs_preimage_recorded.specs.Finder.{Seeker}
 use Rattle.bs_preimage_recorded.proofs.SearchLemmas.{none_behind}
 use Rattle.bs_preimage_recorded.proofs.search.next_turn.Goals as goal

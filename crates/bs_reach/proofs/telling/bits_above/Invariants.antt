@@ -1,7 +1,7 @@
 use Rattle.std.proofs.Common.{◌≡◌, take}
 use Rattle.bs_solve_recording.specs.Values.{value_of}
 use Rattle.bs_encode.specs.Cycle.{bits_on}
-use Rattle.bs_encode.specs.Copy.{raised_all}
+use Rattle.bs_encode.specs.Frame.{raised_all}
 use Rattle.bs_reach.proofs.telling.bits_above.Given as goal
 
 abbrev pub invariant-literals : goal.invariant-literals

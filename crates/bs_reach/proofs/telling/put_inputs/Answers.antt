@@ -5,10 +5,10 @@ use Rattle.bs_encode.specs.Cycle.{bits_on}
 use Rattle.bs_reach_unrolled.specs.Unrolled.{inputs_at}
 use Rattle.bs_reach.proofs.telling.put_inputs.Goals as goal
 
-pub copies-preserved : goal.copies-preserved
-copies-preserved c =
+pub frames-preserved : goal.frames-preserved
+frames-preserved c =
     let f = λ (i : ℕ). bits_on (value_of c.args.values.now) (inputs_at c.args.encoding.now i) in
-    let grown : c.push.new.self ≡ c.copies.inputs ++ f c.copies.i ∷ [] = search rules in
+    let grown : c.push.new.self ≡ c.frames.inputs ++ f c.frames.i ∷ [] = search rules in
     grown
-    ∙ (ap (λ (l : List (List Bool)). l ++ f c.copies.i ∷ []) c.copies.invariant
-    ∙ sym (map-range_with_len_more f 0 c.copies.i c.copies.i (zero-add c.copies.i)))
+    ∙ (ap (λ (l : List (List Bool)). l ++ f c.frames.i ∷ []) c.frames.invariant
+    ∙ sym (map-range_with_len_more f 0 c.frames.i c.frames.i (zero-add c.frames.i)))

@@ -5,5 +5,5 @@ use Rattle.bs_encode.specs.Cycle.{bits_on}
 use Rattle.bs_reach_unrolled.specs.Unrolled.{inputs_at}
 use Rattle.bs_reach.proofs.telling.put_inputs.Given as goal
 
-abbrev pub invariant-copies : goal.invariant-copies
-invariant-copies l = l.inputs ≡ map (λ i. bits_on (value_of l.values) (inputs_at l.encoding i)) (range_with_len 0 l.i)
+abbrev pub invariant-frames : goal.invariant-frames
+invariant-frames l = l.inputs ≡ map (λ i. bits_on (value_of l.values) (inputs_at l.encoding i)) (range_with_len 0 l.i)

@@ -3,5 +3,5 @@ use Rattle.std.specs.List.{flat_map, range_with_len}
 use Rattle.bs_reach_unrolled.specs.Unrolled.{links_of}
 use Rattle.bs_reach_unrolled.proofs.links.add_all_links.Given as goal
 
-abbrev pub invariant-copies : goal.invariant-copies
-invariant-copies l = l.into ≡ l.initial.into ++ flat_map (links_of l.encoding) (range_with_len 0 l.c)
+abbrev pub invariant-frames : goal.invariant-frames
+invariant-frames l = l.into ≡ l.initial.into ++ flat_map (links_of l.encoding) (range_with_len 0 l.c)

@@ -1,6 +1,6 @@
 use Rattle.std.proofs.Common.{◌≡◌, ◌++◌, rules}
-use Rattle.bs_encode.specs.Copy.{link}
-use Rattle.bs_encode.proofs.CopyLemmas.{links_step}
+use Rattle.bs_encode.specs.Frame.{link}
+use Rattle.bs_encode.proofs.FrameLemmas.{links_step}
 use Rattle.bs_reach_unrolled.proofs.links.add_links.Goals as goal
 
 pub places-preserved : goal.places-preserved

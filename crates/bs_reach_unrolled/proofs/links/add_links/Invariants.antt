@@ -1,5 +1,5 @@
 use Rattle.std.proofs.Common.{◌≡◌, ◌++◌, take}
-use Rattle.bs_encode.specs.Copy.{links}
+use Rattle.bs_encode.specs.Frame.{links}
 use Rattle.bs_reach_unrolled.proofs.links.add_links.Given as goal
 
 abbrev pub invariant-places : goal.invariant-places

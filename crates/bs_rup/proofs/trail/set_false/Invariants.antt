@@ -1,5 +1,5 @@
 use Rattle.std.proofs.Common.{drop}
-use Rattle.bs_rup.specs.Trail.{IsSetFalse}
+use Rattle.bs_rup.specs.TrueLiterals.{IsSetFalse}
 use Rattle.bs_rup.proofs.trail.set_false.Given as goal
 
 abbrev pub invariant-literals : goal.invariant-literals

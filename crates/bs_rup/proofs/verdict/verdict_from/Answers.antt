@@ -24,8 +24,8 @@ returns-in-Some c =
     first_refused p lines c.loop-i.i c.index-lines-i.result c.loop-i.state c.in-Some.why c.loop-i-test.true c.index-lines-i.is c.loop-i.invariant.state
     c.loop-i.invariant.right (sym c.in_ok-why.ensures ∙ c.in-Some.is)
 
-pub add-requires-clause-guard : goal.add-requires-clause-guard
-add-requires-clause-guard c =
+pub add-requires-clause-activation : goal.add-requires-clause-activation
+add-requires-clause-activation c =
     let p : Problem = meaning c.args.problem.now in
     let lines : List Line = c.args.lines.now in
     let h : History = history_of (take c.loop-i.i lines) in

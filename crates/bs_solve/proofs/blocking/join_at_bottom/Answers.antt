@@ -1,5 +1,5 @@
 use Rattle.bs_arena.specs.Arena.{literals_at}
-use Rattle.bs_solve.proofs.Stocks.{may_attach_off}
+use Rattle.bs_solve.proofs.Databases.{may_attach_off}
 use Rattle.bs_solve.proofs.Blockings.{emptied, has_emptied}
 use Rattle.bs_solve.proofs.blocking.join_at_bottom.Goals as goal
 

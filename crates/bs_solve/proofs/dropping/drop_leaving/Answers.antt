@@ -15,7 +15,7 @@ take_out-requires-clause-placed c = record {
 
 pub returns-clause-dropped : goal.returns-clause-dropped
 returns-clause-dropped c =
-    has_dropped c.args.watch.now c.take_out.new.watch c.args.arena.now.clauses c.take_out.new.arena.clauses c.args.stock.now _ c.args.leaving.now.start
+    has_dropped c.args.watch.now c.take_out.new.watch c.args.arena.now.clauses c.take_out.new.arena.clauses c.args.database.now _ c.args.leaving.now.start
     c.args.leaving.now.ids c.args.leaving.now.clauses.items c.args.leaving.now.watched.items (record {
       gone = c.requires.gone;
       held = c.requires.held;
@@ -28,6 +28,6 @@ returns-clause-dropped c =
 pub take_out-requires-clause-out : goal.take_out-requires-clause-out
 take_out-requires-clause-out c =
     let count = ap length c.trail-stand.ensures ∙ length-map c.args.watch.now.trail.places (λ (p : Place). p.literal) in
-    subst (λ n. AreOut c.args.stock.now.shorts.items n c.args.leaving.now.clauses.items) (sym count)
-    (staying_out c.args.arena.now.clauses c.args.stock.now c.args.watch.now.trail.places c.args.leaving.now.start c.args.leaving.now.ids
+    subst (λ n. AreOut c.args.database.now.shorts.items n c.args.leaving.now.clauses.items) (sym count)
+    (staying_out c.args.arena.now.clauses c.args.database.now c.args.watch.now.trail.places c.args.leaving.now.start c.args.leaving.now.ids
     c.args.leaving.now.clauses.items c.args.leaving.now.watched.items c.requires.held c.requires.gone c.requires.staying)

@@ -1,4 +1,4 @@
-use Rattle.bs_solve.proofs.Layings.{value_is, open_is}
+use Rattle.bs_solve.proofs.FirstLevels.{value_is, open_is}
 use Rattle.bs_solve.proofs.value.is_true.Goals as goal
 
 pub returns-in-Some : goal.returns-in-Some

@@ -4,14 +4,14 @@ use Rattle.std.proofs.lemmas.List.Elements.{All-contains}
 use Rattle.std.proofs.lemmas.Option.{slice_get_read}
 use Rattle.bs_arena.specs.Arena.{held_at}
 use Rattle.bs_watch.proofs.Gets.{Contains_from_get}
-use Rattle.bs_solve_reduction.specs.declared.row.Row.{Row}
+use Rattle.bs_solve_reduction.specs.declared.row.LoggedClause.{LoggedClause}
 use Rattle.bs_solve_reduction.specs.Notes.{IsThinned}
 use Rattle.bs_solve_reduction.proofs.Removals.{thinned_start, thinned_at, thinned_no, thinned_yes}
 use Rattle.bs_solve_reduction.proofs.removal.keep_rows.Goals.{then-is_live, else-is_live}
 use Rattle.bs_solve_reduction.proofs.removal.keep_rows.Goals as goal
 
 pub rows-init : goal.rows-init
-rows-init c = thinned_start (λ (x : Row). is_some (held_at c.args.arena.now.clauses x.clause)) c.args.rows.now.items c.args.from c.requires.live
+rows-init c = thinned_start (λ (x : LoggedClause). is_some (held_at c.args.arena.now.clauses x.clause)) c.args.rows.now.items c.args.from c.requires.live
 
 pub is_live-requires : goal.is_live-requires
 is_live-requires c =
@@ -19,9 +19,9 @@ is_live-requires c =
     let within : c.rows.place < length now = omega (arith, c.rows-test.true, c.len-place-end.ensures, c.args.rows.now.ok.0, c.rows.invariant.long) in
     let at : slice_get now c.rows.place ≡ Some c.index-row.result.now =
     slice_get_read now (length now) c.rows.place c.index-row.result.now refl within c.index-row.ensures in
-    All-contains (λ (x : Row). Contains c.args.arena.now.places x.clause) c.args.rows.now.items c.index-row.result.now c.requires.known
+    All-contains (λ (x : LoggedClause). Contains c.args.arena.now.places x.clause) c.args.rows.now.items c.index-row.result.now c.requires.known
     (Contains_from_get c.args.rows.now.items c.rows.place c.index-row.result.now
-    (thinned_at (λ (x : Row). is_some (held_at c.args.arena.now.clauses x.clause)) c.args.rows.now.items now c.rows.place c.rows.kept
+    (thinned_at (λ (x : LoggedClause). is_some (held_at c.args.arena.now.clauses x.clause)) c.args.rows.now.items now c.rows.place c.rows.kept
     c.index-row.result.now c.rows.invariant at))
 
 pub put_row-requires : goal.put_row-requires
@@ -37,17 +37,17 @@ rows-preserved c =
     slice_get_read now (length now) c.rows.place c.index-row.result.now refl within c.index-row.ensures in
     elim c.if-is_live.branch [
       | then-is_live w ↦
-          subst (λ n. IsThinned (λ (x : Row). is_some (held_at c.args.arena.now.clauses x.clause)) old c.if-is_live.rows.items (c.rows.place + 1) n)
+          subst (λ n. IsThinned (λ (x : LoggedClause). is_some (held_at c.args.arena.now.clauses x.clause)) old c.if-is_live.rows.items (c.rows.place + 1) n)
           (sym w.kept-is)
-          (subst (λ xs. IsThinned (λ (x : Row). is_some (held_at c.args.arena.now.clauses x.clause)) old xs (c.rows.place + 1) (c.rows.kept + 1))
+          (subst (λ xs. IsThinned (λ (x : LoggedClause). is_some (held_at c.args.arena.now.clauses x.clause)) old xs (c.rows.place + 1) (c.rows.kept + 1))
           (sym (ap (λ v. v.items) w.rows-is ∙ w.put_row.ensures))
-          (thinned_yes (λ (x : Row). is_some (held_at c.args.arena.now.clauses x.clause)) old now c.rows.place c.rows.kept c.index-row.result.now at
+          (thinned_yes (λ (x : LoggedClause). is_some (held_at c.args.arena.now.clauses x.clause)) old now c.rows.place c.rows.kept c.index-row.result.now at
           (sym c.is_live.ensures ∙ w.if-is_live.true) c.rows.invariant))
       | else-is_live w ↦
-          subst (λ n. IsThinned (λ (x : Row). is_some (held_at c.args.arena.now.clauses x.clause)) old c.if-is_live.rows.items (c.rows.place + 1) n)
+          subst (λ n. IsThinned (λ (x : LoggedClause). is_some (held_at c.args.arena.now.clauses x.clause)) old c.if-is_live.rows.items (c.rows.place + 1) n)
           (sym w.kept-is)
-          (subst (λ xs. IsThinned (λ (x : Row). is_some (held_at c.args.arena.now.clauses x.clause)) old xs (c.rows.place + 1) c.rows.kept)
+          (subst (λ xs. IsThinned (λ (x : LoggedClause). is_some (held_at c.args.arena.now.clauses x.clause)) old xs (c.rows.place + 1) c.rows.kept)
           (sym (ap (λ v. v.items) w.rows-is))
-          (thinned_no (λ (x : Row). is_some (held_at c.args.arena.now.clauses x.clause)) old now c.rows.place c.rows.kept c.index-row.result.now at
+          (thinned_no (λ (x : LoggedClause). is_some (held_at c.args.arena.now.clauses x.clause)) old now c.rows.place c.rows.kept c.index-row.result.now at
           (sym c.is_live.ensures ∙ w.if-is_live.false) c.rows.invariant))
     ]

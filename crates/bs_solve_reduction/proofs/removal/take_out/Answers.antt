@@ -2,7 +2,7 @@ use Rattle.std.proofs.Common.{sym, subst}
 use Rattle.std.specs.Prelude.{All, Contains}
 use Rattle.bs_clause.specs.Range.{HasVariables}
 use Rattle.bs_watch.specs.Sweep.{ArePlaced, HasServed}
-use Rattle.bs_solve_reduction.specs.declared.row.Row.{Row}
+use Rattle.bs_solve_reduction.specs.declared.row.LoggedClause.{LoggedClause}
 use Rattle.bs_solve_reduction.specs.Notes.{HasKilled}
 use Rattle.bs_solve_reduction.proofs.Removals.{gone_placed, rows_placed, refs_placed, first_stay, first_out, served, watched_range}
 use Rattle.bs_solve_reduction.proofs.removal.take_out.Goals as goal
@@ -15,7 +15,7 @@ kill_all-requires c =
 
 pub keep_rows-requires-clause-known : goal.keep_rows-requires-clause-known
 keep_rows-requires-clause-known c =
-    subst (λ places. All (λ (row : Row). Contains places row.clause) c.args.rows.now.items) (sym c.kill_all.ensures.places)
+    subst (λ places. All (λ (row : LoggedClause). Contains places row.clause) c.args.rows.now.items) (sym c.kill_all.ensures.places)
     (rows_placed c.args.arena.now.clauses c.args.arena.now.places c.args.rows.now.items c.holds_clauses.ensures.placed c.requires.held)
 
 pub keep_rows-requires-clause-live : goal.keep_rows-requires-clause-live

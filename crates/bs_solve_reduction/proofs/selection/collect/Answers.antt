@@ -13,8 +13,8 @@ use Rattle.bs_solve_reduction.proofs.selection.collect.Goals as goal
 
 pub loop-place-preserved : goal.loop-place-preserved
 loop-place-preserved c =
-    let own = c.args.guards.own in
-    let steps = c.args.guards.steps in
+    let own = c.args.activations.own in
+    let steps = c.args.activations.steps in
     let clauses = c.args.arena.now.clauses in
     let rows = c.args.rows.now in
     let k = c.loop-place.place in

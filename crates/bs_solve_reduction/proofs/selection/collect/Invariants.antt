@@ -7,8 +7,8 @@ use Rattle.bs_solve_reduction.proofs.selection.collect.Given as goal
 
 abbrev pub invariant-loop-place : goal.invariant-loop-place
 invariant-loop-place l = record {
-  noted : IsNoted l.arena.clauses (filter (goes l.guards.own l.guards.steps l.arena.clauses l.rows) (take l.place l.rows))
+  noted : IsNoted l.arena.clauses (filter (goes l.activations.own l.activations.steps l.arena.clauses l.rows) (take l.place l.rows))
       l.found.ids l.found.clauses.items l.found.watched.items;
-  seen : l.seen ≡ count_by (is_long_row l.guards.own l.guards.steps l.arena.clauses) (take l.place l.rows);
+  seen : l.seen ≡ count_by (is_long_row l.activations.own l.activations.steps l.arena.clauses) (take l.place l.rows);
   start : l.found.start ≡ l.from;
 }

@@ -3,7 +3,7 @@ use Rattle.std.specs.Prelude.{slice_get, Contains}
 use Rattle.bs_clause.specs.Literal.{code_of}
 use Rattle.bs_clause.specs.Range.{HasVariables}
 use Rattle.bs_arena.specs.Arena.{literal_of, literals_at}
-use Rattle.bs_watch.specs.Trail.{IsConflict, Forces}
+use Rattle.bs_watch.specs.Trail.{IsConflict, Implies}
 use Rattle.bs_watch.specs.Places.{literals_of}
 use Rattle.bs_watch.specs.Look.{IsFirstTwo, IsFree}
 use Rattle.bs_watch.specs.Lists.{row}
@@ -11,9 +11,9 @@ use Rattle.bs_watch.specs.Scene.{IsWatcher, Advances, AreMet}
 use Rattle.std.proofs.lemmas.List.{length-map}
 use Rattle.bs_watch.proofs.Gets.{get_within}
 use Rattle.bs_watch.proofs.Codes.{literals_back, range_at, code_within}
-use Rattle.bs_watch.proofs.Visits.{in_range, met_here, met_blocked, met_forced, conflict_of}
+use Rattle.bs_watch.proofs.Visits.{in_range, met_here, met_blocked, met_implied, conflict_of}
 use Rattle.bs_watch.proofs.Advancing.{advances_refl, met_still}
-use Rattle.bs_watch.proofs.Steps.{blocked, forced_one}
+use Rattle.bs_watch.proofs.Steps.{blocked, implied_one}
 use Rattle.bs_watch.proofs.Moved.{Move, moved, moved_front, moved_length}
 use Rattle.bs_watch.proofs.visit.visit_at.Goals as goal
 
@@ -97,12 +97,12 @@ assign-requires c =
     c.requires.listed.listed c.args.falsified c.args.at c.get-watcher.result c.get-watcher.ensures in
     let back : map literal_of c.lits.result.now ≡ literals_at c.args.arena.now.clauses c.get-watcher.result.clause =
     ap (map literal_of) c.lits.ensures.literals ∙ literals_back (literals_at c.args.arena.now.clauses c.get-watcher.result.clause) in
-    let forces : Forces (literals_of c.args.trail.now.places) (literals_at c.args.arena.now.clauses c.get-watcher.result.clause) c.in-Unit.literal =
-    subst (λ d. Forces (literals_of c.args.trail.now.places) d c.in-Unit.literal) back c.in-Unit.ensures in
+    let implies : Implies (literals_of c.args.trail.now.places) (literals_at c.args.arena.now.clauses c.get-watcher.result.clause) c.in-Unit.literal =
+    subst (λ d. Implies (literals_of c.args.trail.now.places) d c.in-Unit.literal) back c.in-Unit.ensures in
     record {
       in_range = in_range c.args.trail.now.vars
-          (literals_at c.args.arena.now.clauses c.get-watcher.result.clause) c.in-Unit.literal w.watchable.range forces.stands;
-      unassigned = forces.unassigned;
+          (literals_at c.args.arena.now.clauses c.get-watcher.result.clause) c.in-Unit.literal w.watchable.range implies.stands;
+      unassigned = implies.unassigned;
     }
 
 pub returns-in-True-clause-advances : goal.returns-in-True-clause-advances
@@ -214,12 +214,12 @@ returns-in-Unit-clause-advances c =
     c.requires.listed.listed c.args.falsified c.args.at c.get-watcher.result c.get-watcher.ensures in
     let back : map literal_of c.lits.result.now ≡ literals_at c.args.arena.now.clauses c.get-watcher.result.clause =
     ap (map literal_of) c.lits.ensures.literals ∙ literals_back (literals_at c.args.arena.now.clauses c.get-watcher.result.clause) in
-    let forces : Forces (literals_of c.args.trail.now.places) (literals_at c.args.arena.now.clauses c.get-watcher.result.clause) c.in-Unit.literal =
-    subst (λ d. Forces (literals_of c.args.trail.now.places) d c.in-Unit.literal) back c.in-Unit.ensures in
+    let implies : Implies (literals_of c.args.trail.now.places) (literals_at c.args.arena.now.clauses c.get-watcher.result.clause) c.in-Unit.literal =
+    subst (λ d. Implies (literals_of c.args.trail.now.places) d c.in-Unit.literal) back c.in-Unit.ensures in
     subst (λ t. Advances c.args.level (record { trail = c.args.trail.now; lists = c.args.lists.now; clauses = c.args.arena.now.clauses })
     (record { trail = t; lists = c.args.lists.now; clauses = c.args.arena.now.clauses })) (sym c.assign.ensures)
-    (forced_one c.args.level c.args.trail.now c.args.lists.now c.args.arena.now.clauses c.get-watcher.result.clause
-    (record { literal = c.in-Unit.literal; reason = Some c.get-watcher.result.clause; level = c.args.level }) c.requires.listed refl refl w.live forces)
+    (implied_one c.args.level c.args.trail.now c.args.lists.now c.args.arena.now.clauses c.get-watcher.result.clause
+    (record { literal = c.in-Unit.literal; reason = Some c.get-watcher.result.clause; level = c.args.level }) c.requires.listed refl refl w.live implies)
 
 pub returns-in-Unit-clause-ok : goal.returns-in-Unit-clause-ok
 returns-in-Unit-clause-ok c =
@@ -227,13 +227,13 @@ returns-in-Unit-clause-ok c =
     c.requires.listed.listed c.args.falsified c.args.at c.get-watcher.result c.get-watcher.ensures in
     let back : map literal_of c.lits.result.now ≡ literals_at c.args.arena.now.clauses c.get-watcher.result.clause =
     ap (map literal_of) c.lits.ensures.literals ∙ literals_back (literals_at c.args.arena.now.clauses c.get-watcher.result.clause) in
-    let forces : Forces (literals_of c.args.trail.now.places) (literals_at c.args.arena.now.clauses c.get-watcher.result.clause) c.in-Unit.literal =
-    subst (λ d. Forces (literals_of c.args.trail.now.places) d c.in-Unit.literal) back c.in-Unit.ensures in (
+    let implies : Implies (literals_of c.args.trail.now.places) (literals_at c.args.arena.now.clauses c.get-watcher.result.clause) c.in-Unit.literal =
+    subst (λ d. Implies (literals_of c.args.trail.now.places) d c.in-Unit.literal) back c.in-Unit.ensures in (
       subst (λ t. AreMet (record { trail = t; lists = c.args.lists.now; clauses = c.args.arena.now.clauses }) c.args.falsified (c.args.at + 1))
           (sym c.assign.ensures)
-          (met_forced c.args.level c.args.trail.now c.args.lists.now c.args.arena.now.clauses c.args.falsified c.args.at c.get-watcher.result
+          (met_implied c.args.level c.args.trail.now c.args.lists.now c.args.arena.now.clauses c.args.falsified c.args.at c.get-watcher.result
           (record { literal = c.in-Unit.literal; reason = Some c.get-watcher.result.clause; level = c.args.level })
-          c.requires.listed refl refl w.live forces c.get-watcher.ensures c.requires.met),
+          c.requires.listed refl refl w.live implies c.get-watcher.ensures c.requires.met),
       refl,
     )
 

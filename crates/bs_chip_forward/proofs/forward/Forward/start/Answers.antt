@@ -1,5 +1,5 @@
 use Rattle.std.proofs.Common.{◌≡◌, subst, sym}
-use Rattle.bs_chip.specs.Prints.{print_of}
+use Rattle.bs_chip.specs.Hashes.{hash_of}
 use Rattle.bs_chip_forward.specs.Forward.{Ahead, NoneLeadBefore}
 use Rattle.bs_chip_forward.specs.Groups.{parities_of}
 use Rattle.bs_chip_forward.proofs.FirstLemmas.{none_before}
@@ -12,6 +12,6 @@ returns-clause-none c =
     let present = c.args.present.now in
     subst (λ (a : Ahead). NoneLeadBefore a.circuit a.runs present c.first_of.result) c.self.view_is
     (none_before i.pass i.low i.high i.rows firsts.low firsts.high firsts.cycles c.first_of.result c.args.aim present c.self.invariant.0
-    c.note_rows.ensures (subst (λ (a : Ahead). c.args.aim.low ≡ print_of (parities_of a.low present)) (sym c.self.view_is) c.requires.low)
-    (subst (λ (a : Ahead). c.args.aim.high ≡ print_of (parities_of a.high present)) (sym c.self.view_is) c.requires.high) c.first_of.ensures.within
+    c.note_rows.ensures (subst (λ (a : Ahead). c.args.aim.low ≡ hash_of (parities_of a.low present)) (sym c.self.view_is) c.requires.low)
+    (subst (λ (a : Ahead). c.args.aim.high ≡ hash_of (parities_of a.high present)) (sym c.self.view_is) c.requires.high) c.first_of.ensures.within
     c.first_of.ensures.low c.first_of.ensures.high)

@@ -8,8 +8,8 @@ use Rattle.bs_encode.proofs.RoomLemmas.{few_variables}
 use Rattle.bs_encode.proofs.UnitLemmas.{plain_tables}
 use Rattle.bs_encode.proofs.encoding.Encoding.plain.Goals as goal
 
-pub lay_cycle-requires : goal.lay_cycle-requires
-lay_cycle-requires c =
+pub encode_cycle-requires : goal.encode_cycle-requires
+encode_cycle-requires c =
     let few : variables (circuit c.args.net.now) [] < 2 ^ 30 =
     few_variables (circuit c.args.net.now) [] c.raw-raw.ensures.checked c.raw-raw.ensures.bounded (omega arith) (omega arith) in
     omega (arith, few)
@@ -23,8 +23,8 @@ join-requires-clause-room c =
 pub returns : goal.returns
 returns c =
     let k : Circuit = circuit c.args.net.now in
-    let count : c.in_ok-laid.laid.end - 1 ≡ variables k [] = omega (arith, c.in_ok-laid.ensures.end) in
+    let count : c.in_ok-partial.partial.end - 1 ≡ variables k [] = omega (arith, c.in_ok-partial.ensures.end) in
     c.in_ok-encoding.ensures
-    ∙ (ap (λ (cs : List Clause). joined k cs (c.in_ok-laid.laid.end - 1) c.new.result) (plain_tables k c.in_ok-laid.laid.clauses c.in_ok-laid.ensures.clauses)
+    ∙ (ap (λ (cs : List Clause). joined k cs (c.in_ok-partial.partial.end - 1) c.new.result) (plain_tables k c.in_ok-partial.partial.clauses c.in_ok-partial.ensures.clauses)
     ∙ (ap (λ (n : ℕ). joined k (transition_clauses k []) n c.new.result) count
     ∙ ap (λ (ls : List Literal). joined k (transition_clauses k []) (variables k []) ls) c.new.ensures))

@@ -13,12 +13,12 @@ returns-clause-ok g c =
     (λ known. HasMadeStep (circuit c.self.inside.net.now) c.self.inside.choice.now c.self.inside.solver c.list_step.new.solver c.args.present.now
     c.args.stored.now (option_map (λ bits. bits.now) c.args.older) known c.args.k c.args.b c.in_ok-listing.listing)
     (λ known. HasListed c.args.self.now
-    (viewed (circuit c.self.inside.net.now) c.self.inside.choice.now c.list_step.new.solver.book (c.self.inside.calls + 1) false)
+    (viewed (circuit c.self.inside.net.now) c.self.inside.choice.now c.list_step.new.solver.proof (c.self.inside.calls + 1) false)
     c.args.present.now c.args.stored.now (option_map (λ bits. bits.now) c.args.older) known c.args.k c.args.b c.in_ok-listing.listing)
     c.args.k (length c.in_ok-listing.listing.cands) c.in_ok-listing.listing.end
     (λ known made.
     listed_again (circuit c.self.inside.net.now)
-    c.self.inside.choice.now c.self.inside.solver.book c.list_step.new.solver.book c.args.self.now c.self.inside.failed c.self.inside.calls
+    c.self.inside.choice.now c.self.inside.solver.proof c.list_step.new.solver.proof c.args.self.now c.self.inside.failed c.self.inside.calls
     (c.self.inside.calls + 1) c.args.present.now c.args.stored.now (option_map
     (λ bits. bits.now) c.args.older) known c.args.k c.args.b c.in_ok-listing.listing c.self.view_is c.if-self.false made.listed)
     c.in_ok-listing.ensures.ok

@@ -18,10 +18,10 @@ made_prepared c choice e s width encoded is = subst (λ x. IsPrepared c choice e
   rest = λ _. record {
     well = refl;
     idle = refl;
-    guards = omega arith;
+    activations = omega arith;
     number = refl;
     count = refl;
-    stand = λ x there. subst (λ cs. Contains cs x) (sym (axioms_stand (made e).book.problem)) there;
+    stand = λ x there. subst (λ cs. Contains cs x) (sym (axioms_stand (made e).proof.problem)) there;
     retired = λ n low high. absurd (omega (arith, low, high));
     whole = λ more. refl;
   };

@@ -16,15 +16,15 @@ grow_to-requires-clause-clear c = c.self.invariant.whole.clear c.if-self.false
 
 pub invariant_of-self-2 : goal.invariant_of-self-2
 invariant_of-self-2 c =
-    let inside : SolverState = record { book = c.self.inside.book; vars = c.self.inside.vars; stage = c.self.inside.stage; failed = c.self.inside.failed } in
-    engine_opened inside c.begin_solve.new.book c.is_begun.result c.args.assumptions.now c.self.inside.watch c.grow_to.new.watch
-    c.self.inside.arena c.self.inside.stock c.self.inside.marks c.grow_to.new.marks c.self.inside.own c.self.inside.known c.self.invariant
+    let inside : SolverState = record { proof = c.self.inside.proof; vars = c.self.inside.vars; stage = c.self.inside.stage; failed = c.self.inside.failed } in
+    engine_opened inside c.begin_solve.new.proof c.is_begun.result c.args.assumptions.now c.self.inside.watch c.grow_to.new.watch
+    c.self.inside.arena c.self.inside.database c.self.inside.marks c.grow_to.new.marks c.self.inside.own c.self.inside.known c.self.invariant
     (subst (λ s. MaySolve s c.args.assumptions.now) (sym c.self.view_is) c.requires.stage) c.if-self.false c.is_begun.ensures
     c.in_ok-begin_solve.ensures.ok c.in_ok-grow_to.ensures.vars c.in_ok-grow_to.ensures.rest c.in_ok-grow_to.ensures.clear
 
 pub returns-clause-ok : goal.returns-clause-ok
 returns-clause-ok c =
-    let inside : SolverState = record { book = c.self.inside.book; vars = c.self.inside.vars; stage = c.self.inside.stage; failed = c.self.inside.failed } in
-    has_opened inside c.args.self.now c.args.assumptions.now c.is_begun.result c.begin_solve.new.book c.self.view_is c.self.invariant.whole.ready
+    let inside : SolverState = record { proof = c.self.inside.proof; vars = c.self.inside.vars; stage = c.self.inside.stage; failed = c.self.inside.failed } in
+    has_opened inside c.args.self.now c.args.assumptions.now c.is_begun.result c.begin_solve.new.proof c.self.view_is c.self.invariant.whole.ready
     (subst (λ s. MaySolve s c.args.assumptions.now) (sym c.self.view_is) c.requires.stage) c.if-self.false c.is_begun.ensures
     c.in_ok-begin_solve.ensures.ok

@@ -1,6 +1,6 @@
 use Rattle.std.proofs.Common.{ap, ◌∙◌, sym, subst}
 use Rattle.bs_log.specs.History.{live}
-use Rattle.bs_solve_recording.specs.Book.{Book, IsRecorded}
+use Rattle.bs_solve_recording.specs.ProofLog.{ProofLog, IsRecorded}
 use Rattle.bs_solve_recording.proofs.Lines.{seen_step, recorded_member, live_with_member}
 use Rattle.bs_solve_recording.proofs.recording.Recording.add_step.Goals as goal
 
@@ -14,6 +14,6 @@ invariant_of-self-2 c =
 
 pub returns-clause-stands : goal.returns-clause-stands
 returns-clause-stands c =
-    ap (λ (b : Book). live b.problem b.history)
+    ap (λ (b : ProofLog). live b.problem b.history)
     (seen_step c.self.inside.vars c.self.inside.axioms.value c.self.inside.steps c.push.new.self c.self.inside.log c.args.member c.args.self.now
     c.self.view_is c.in-Ok.ensures.ok) ∙ live_with_member c.args.self.now c.args.member

@@ -2,12 +2,12 @@ use Rattle.std.proofs.Common.{◌≡◌, ◌∷◌, ◌++◌, [], sym, subst, re
 use Rattle.bs_clause.specs.Literal.{negation}
 use Rattle.bs_log.specs.declared.origin.Origin.TheVariants.{Retired}
 use Rattle.bs_log.specs.History.{live}
-use Rattle.bs_solve_recording.specs.Book.{Book, IsKept, next_id}
-use Rattle.bs_solve_recording.proofs.Books.{retired_stands}
+use Rattle.bs_solve_recording.specs.ProofLog.{ProofLog, IsKept, next_id}
+use Rattle.bs_solve_recording.proofs.ProofLogs.{retired_stands}
 use Rattle.bs_solve_recording.proofs.recording.Recording.holds_end.Goals as goal
 
 pub returns : goal.returns
 returns c =
-    let b : Book = c.args.self.now in
+    let b : ProofLog = c.args.self.now in
     retired_stands b (next_id b) (subst IsKept c.self.view_is c.self.invariant.kept) refl ∙
     (λ i. live b.problem b.history ++ record { id = next_id b; origin = Retired; literals = negation (sym c.requires i) ∷ [] } ∷ [])

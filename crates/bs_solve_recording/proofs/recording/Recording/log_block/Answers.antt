@@ -1,8 +1,8 @@
 use Rattle.std.proofs.Common.{ap, subst, ◌∙◌, sym, arith, ◌+◌}
 use Rattle.bs_log.specs.declared.line.Line.TheVariants.{Block}
 use Rattle.bs_log.specs.History.{live}
-use Rattle.bs_solve_recording.specs.Book.{Book, IsKept, IsRecorded}
-use Rattle.bs_solve_recording.proofs.Books.{recorded_block, block_stands}
+use Rattle.bs_solve_recording.specs.ProofLog.{ProofLog, IsKept, IsRecorded}
+use Rattle.bs_solve_recording.proofs.ProofLogs.{recorded_block, block_stands}
 use Rattle.bs_solve_recording.proofs.Lines.{recorded_line, seen_line}
 use Rattle.bs_solve_recording.proofs.recording.Recording.log_block.Goals as goal
 
@@ -16,7 +16,7 @@ invariant_of-self-2 c =
 
 pub returns-clause-stands : goal.returns-clause-stands
 returns-clause-stands c =
-    ap (λ (b : Book). live b.problem b.history)
+    ap (λ (b : ProofLog). live b.problem b.history)
     (seen_line c.self.inside.vars c.self.inside.axioms.value c.self.inside.steps c.self.inside.log c.push.new.self (Block c.in_ok-id.id c.args.lits)
     c.args.self.now c.self.view_is
     c.in-Ok.ensures.ok) ∙

@@ -3,9 +3,9 @@ use Rattle.bs_log.specs.declared.line.Line.TheVariants.{Retire, Delete}
 use Rattle.bs_log.specs.History.{state_of}
 use Rattle.bs_log.specs.Refusal.{refusal}
 use Rattle.bs_solve_recording.specs.Ids.{Rises}
-use Rattle.bs_solve_recording.specs.Book.{Book, IsRecorded, with_line, next_id, without}
+use Rattle.bs_solve_recording.specs.ProofLog.{ProofLog, IsRecorded, with_line, next_id, without}
 use Rattle.bs_solve_recording.specs.Solver.{retired}
-use Rattle.bs_solve_recording.proofs.Books.{recorded_retire, recorded_delete, deleted_rise, without_some}
+use Rattle.bs_solve_recording.proofs.ProofLogs.{recorded_retire, recorded_delete, deleted_rise, without_some}
 use Rattle.bs_solve_recording.proofs.Entries.{lemmas_rise}
 use Rattle.bs_solve_recording.proofs.Lines.{seen_two}
 use Rattle.bs_solve_recording.proofs.recording.Recording.log_both.Goals as goal
@@ -18,7 +18,7 @@ take_out-requires-clause-gone c = deleted_rise c.args.self.now.problem (retired 
 
 pub invariant_of-self-2 : goal.invariant_of-self-2
 invariant_of-self-2 c =
-    let b : Book = c.args.self.now in
+    let b : ProofLog = c.args.self.now in
     let id = c.in_ok-id.id in
     let recorded = subst (IsRecorded c.self.inside.last c.self.inside.lemmas.items) c.self.view_is c.self.invariant in
     let one : IsRecorded id c.self.inside.lemmas.items (with_line b (Retire id)) =
@@ -35,7 +35,7 @@ invariant_of-self-2 c =
 
 pub returns-clause-ok : goal.returns-clause-ok
 returns-clause-ok c =
-    let b : Book = c.args.self.now in
+    let b : ProofLog = c.args.self.now in
     let id = c.in_ok-id.id in
     seen_two c.self.inside.vars c.self.inside.axioms.value c.self.inside.steps c.self.inside.log c.push_two.new.self (Retire id)
     (Delete c.args.ids.now) b c.self.view_is

@@ -3,15 +3,15 @@ use Rattle.bs_log.specs.declared.line.Line.TheVariants.{Delete}
 use Rattle.bs_log.specs.History.{live, state_of}
 use Rattle.bs_log.specs.Refusal.{refusal}
 use Rattle.bs_solve_reduction.specs.Rows.{AreInOrder}
-use Rattle.bs_solve_recording.specs.Book.{Book, IsKept}
+use Rattle.bs_solve_recording.specs.ProofLog.{ProofLog, IsKept}
 use Rattle.bs_solve_recording.specs.Solver.{retired}
-use Rattle.bs_solve_recording.proofs.Books.{retired_in_order}
+use Rattle.bs_solve_recording.proofs.ProofLogs.{retired_in_order}
 use Rattle.bs_solve_recording.proofs.StepEnds.{leaving_is_right, stands_at_end, stands_at_bare_end}
 use Rattle.bs_solve_recording.proofs.recording.Recording.log_end.Goals as goal
 
 pub log_both-requires-clause-gone : goal.log_both-requires-clause-gone
 log_both-requires-clause-gone c =
-    let b : Book = c.args.self.now in
+    let b : ProofLog = c.args.self.now in
     let order : AreInOrder (live (retired b).problem (retired b).history) =
     retired_in_order b (subst IsKept c.self.view_is c.self.invariant.kept) c.requires.phase in
     subst (λ ids. refusal b.problem (state_of b.problem (retired b).history) (Delete ids) ≡ None) (sym c.requires.leaving)

@@ -3,8 +3,8 @@ use Rattle.bs_log.specs.declared.line.Line.TheVariants.{Lemma}
 use Rattle.bs_log.specs.declared.origin.Origin.TheVariants.{Learnt}
 use Rattle.bs_log.specs.History.{Entry, live}
 use Rattle.bs_log.specs.Refusal.{entry_of}
-use Rattle.bs_solve_recording.specs.Book.{Book, IsKept, IsRecorded, with_lemma}
-use Rattle.bs_solve_recording.proofs.Books.{recorded_lemma, lemma_stands}
+use Rattle.bs_solve_recording.specs.ProofLog.{ProofLog, IsKept, IsRecorded, with_lemma}
+use Rattle.bs_solve_recording.proofs.ProofLogs.{recorded_lemma, lemma_stands}
 use Rattle.bs_solve_recording.proofs.Entries.{found_last}
 use Rattle.bs_solve_recording.proofs.Lines.{recorded_line, seen_line}
 use Rattle.bs_solve_recording.proofs.recording.Recording.log_lemma.Goals as goal
@@ -22,7 +22,7 @@ invariant_of-self-2 c =
 
 pub returns-clause-stands : goal.returns-clause-stands
 returns-clause-stands c =
-    ap (λ (b : Book). live b.problem b.history)
+    ap (λ (b : ProofLog). live b.problem b.history)
     (seen_line c.self.inside.vars c.self.inside.axioms.value c.self.inside.steps c.self.inside.log c.push.new.self
     (Lemma c.in_ok-id.id c.args.lits c.args.hints) c.args.self.now c.self.view_is
     c.in-Ok.ensures.ok) ∙
@@ -34,8 +34,8 @@ returns-clause-entry c =
     let e : Entry = record { id = c.in_ok-id.id; origin = Learnt; literals = c.args.lits } in
     let after = recorded_lemma c.self.inside.last c.in_ok-id.id c.self.inside.lemmas.items c.args.self.now c.args.lits c.args.hints recorded
     (c.in_ok-id.ensures.id ∙ ap (λ n. n + 1) (sym recorded.last_is)) (omega arith) c.requires.phase c.requires.learnt c.requires.range c.requires.new in
-    let new : Book = with_lemma c.args.self.now c.in_ok-id.id c.args.lits c.args.hints in
-    ap (λ (b : Book). entry_of (live b.problem b.history) c.in_ok-id.id)
+    let new : ProofLog = with_lemma c.args.self.now c.in_ok-id.id c.args.lits c.args.hints in
+    ap (λ (b : ProofLog). entry_of (live b.problem b.history) c.in_ok-id.id)
     (seen_line c.self.inside.vars c.self.inside.axioms.value c.self.inside.steps c.self.inside.log c.push.new.self
     (Lemma c.in_ok-id.id c.args.lits c.args.hints) c.args.self.now c.self.view_is
     c.in-Ok.ensures.ok) ∙

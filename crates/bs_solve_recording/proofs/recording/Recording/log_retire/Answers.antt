@@ -1,7 +1,7 @@
 use Rattle.std.proofs.Common.{ap, subst, ◌∙◌, sym, arith, ◌+◌}
 use Rattle.bs_log.specs.declared.line.Line.TheVariants.{Retire}
-use Rattle.bs_solve_recording.specs.Book.{Book, IsRecorded, with_line}
-use Rattle.bs_solve_recording.proofs.Books.{recorded_retire}
+use Rattle.bs_solve_recording.specs.ProofLog.{ProofLog, IsRecorded, with_line}
+use Rattle.bs_solve_recording.proofs.ProofLogs.{recorded_retire}
 use Rattle.bs_solve_recording.proofs.Lines.{recorded_line, seen_line}
 use Rattle.bs_solve_recording.proofs.recording.Recording.log_retire.Goals as goal
 

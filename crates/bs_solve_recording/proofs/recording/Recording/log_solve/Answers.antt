@@ -1,7 +1,7 @@
 use Rattle.std.proofs.Common.{subst}
 use Rattle.bs_log.specs.declared.line.Line.TheVariants.{Solve}
-use Rattle.bs_solve_recording.specs.Book.{IsRecorded}
-use Rattle.bs_solve_recording.proofs.Books.{recorded_solve}
+use Rattle.bs_solve_recording.specs.ProofLog.{IsRecorded}
+use Rattle.bs_solve_recording.proofs.ProofLogs.{recorded_solve}
 use Rattle.bs_solve_recording.proofs.Lines.{recorded_line}
 use Rattle.bs_solve_recording.proofs.recording.Recording.log_solve.Goals as goal
 

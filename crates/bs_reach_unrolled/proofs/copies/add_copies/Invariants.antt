@@ -1,7 +1,0 @@
-use Rattle.std.proofs.Common.{◌≡◌, ◌++◌}
-use Rattle.std.specs.List.{flat_map, range_with_len}
-use Rattle.bs_reach_unrolled.specs.Unrolled.{copy_of}
-use Rattle.bs_reach_unrolled.proofs.copies.add_copies.Given as goal
-
-abbrev pub invariant-copies : goal.invariant-copies
-invariant-copies l = l.into ≡ l.initial.into ++ flat_map (copy_of l.encoding) (range_with_len 0 l.c)

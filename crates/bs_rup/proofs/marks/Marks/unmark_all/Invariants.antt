@@ -1,6 +1,0 @@
-use Rattle.std.proofs.Common.{take}
-use Rattle.bs_rup.specs.Marks.{UnmarksAll}
-use Rattle.bs_rup.proofs.marks.Marks.unmark_all.Given as goal
-
-abbrev pub invariant-literals : goal.invariant-literals
-invariant-literals l = UnmarksAll l.initial.self l.self (take l.literal-index l.literals)
