@@ -41,7 +41,12 @@ fn lent(signature: &Option<Bits>) -> Option<&Bits>
 }
 
 /// What a step assumes.
-fn assumed(alloc: Global, encoding: &Encoding, activation: Lit, step: &Step) -> Result<Lits, NoMemory>
+fn assumed(
+    alloc: Global,
+    encoding: &Encoding,
+    activation: Lit,
+    step: &Step,
+) -> Result<Lits, NoMemory>
     requires present { length step.now.present ≡ length encoding.now.next }
     requires stored { length step.now.stored ≡ length encoding.now.signatures }
     requires older { AreWide (length encoding.now.older_signatures) step.now.older }
@@ -87,7 +92,14 @@ fn wrong_lines(
     ensures { IfOk result (λ part. part ≡ first_of_all (lines_parts encoding.now assumptions.now budgets.now.conflicts i step.now (undeleted lines.now))) }
 {
     let activation = activation_of(encoding, i);
-    if !are_right_blocks(alloc, encoding, width, activation, step.cands.slice(), lines)? {
+    if !are_right_blocks(
+        alloc,
+        encoding,
+        width,
+        activation,
+        step.cands.slice(),
+        lines,
+    )? {
         return Ok(Some(Part::Blocks(number(i))));
     }
     if !is_right_end(alloc, budgets.conflicts, assumptions, lines, step.end)? {

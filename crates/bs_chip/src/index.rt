@@ -6,9 +6,9 @@ ghost use Rattle.bs_chip.specs.Index.{looks, price_of, HasNoneBefore, IsNoted, I
 ghost use Rattle.bs_chip.specs.Lockstep.{TrackShows};
 ghost use Rattle.bs_chip.specs.Hashes.{hash_of};
 
+use crate::hashes::hash_of;
 use crate::notes::cycle_of;
 use crate::pass::Pass;
-use crate::hashes::hash_of;
 use bs_bits::{List, NoMemory};
 use bs_scan::{HasState, Moment};
 use std::alloc::Global;

@@ -9,6 +9,7 @@
 //! kept: `MAX_TRACK_BYTES`, `MAX_HASHES`; when the index grows: `Pass::price`.
 #![tactic(auto)]
 
+mod hashes;
 mod index;
 mod inputs;
 mod lanes;
@@ -19,12 +20,11 @@ mod notes;
 mod parities;
 mod pass;
 mod player;
-mod hashes;
 mod replay;
 mod signature_hashes;
 mod track;
 
-pub use pass::{Pass, step_to};
 pub use hashes::{hash_more, hash_of};
+pub use pass::{Pass, step_to};
 pub use replay::{Chip, Hit, MAX_TRACK_BYTES};
 pub use signature_hashes::SignatureHashes;

@@ -7,9 +7,9 @@ ghost use Rattle.bs_stim.specs.Runs.{inputs_of};
 ghost use Rattle.bs_chip.specs.Index.{AddsLanes, AddsHash, HasBy, Keeps, NotesLanes};
 ghost use Rattle.bs_chip.specs.Lockstep.{wide_of};
 
+use crate::hashes::lane_hash;
 use crate::lanes::wide_for;
 use crate::live::cycles_of;
-use crate::hashes::lane_hash;
 use bs_bits::NoMemory;
 use bs_stim::Runs;
 use std::collections::HashMap;

@@ -7,10 +7,10 @@ ghost use Rattle.bs_chip.specs.Lockstep.{wide_of, IsLongest, IsSamePass, TrackSh
 ghost use Rattle.bs_chip.specs.Hashes.{hash_of};
 ghost use Rattle.bs_chip.specs.SignatureHashes.{recorded_by, HaveSignatureHashes, IsNextAlike, IsNextWithHash, AreSignatureHashes, NoneAlike, NoneWithHash};
 
+use crate::hashes::{hash_of, lane_hashes};
 use crate::lanes::wide_for;
 use crate::parities::put_parities;
 use crate::pass::{Pass, step_to, zero_planes};
-use crate::hashes::{lane_hashes, hash_of};
 use crate::track::lend;
 use bs_bits::{Bits, List, NoMemory};
 use bs_net::Netlist;
@@ -34,7 +34,13 @@ fn signature_hashes_of(
     let wide = pass.wide();
     let _depth = choice.depth();
     put_parities(choice, pass.planes(), wide, items);
-    let signature_hashes = lane_hashes(alloc, items.as_slice(), wide, choice.items(), pass.count())?;
+    let signature_hashes = lane_hashes(
+        alloc,
+        items.as_slice(),
+        wide,
+        choice.items(),
+        pass.count(),
+    )?;
     Ok(signature_hashes)
 }
 
@@ -129,7 +135,13 @@ fn reach_by(
 }
 
 /// The first run behind a number that lasts to a cycle and has a signature hash there.
-fn next_with_hash(pass: &Pass<'_>, signature_hashes: &[u64], cycle: u32, hash: u64, from: u32) -> Option<u32>
+fn next_with_hash(
+    pass: &Pass<'_>,
+    signature_hashes: &[u64],
+    cycle: u32,
+    hash: u64,
+    from: u32,
+) -> Option<u32>
     requires size { length signature_hashes.now ≡ length pass.now.runs }
     ensures { MatchOption result (NoneWithHash pass.now.runs signature_hashes.now cycle hash from (length pass.now.runs)) (IsNextWithHash pass.now.runs signature_hashes.now cycle hash from) }
 {

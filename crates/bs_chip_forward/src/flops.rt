@@ -26,7 +26,12 @@ fn known_flops(alloc: Global, marks: &[Mark], flops: &[Flop]) -> Result<Bits, No
 /// A flag for each flip-flop: those whose next bits no other data input moves, once this one (counted from 0) has a value.
 /// Where there is no such data input: those that no data input moves. It takes time linear in the nets and in the gates'
 /// inputs.
-pub fn independent_flops(alloc: Global, net: &Netlist, input: usize, value: bool) -> Result<Bits, NoMemory>
+pub fn independent_flops(
+    alloc: Global,
+    net: &Netlist,
+    input: usize,
+    value: bool,
+) -> Result<Bits, NoMemory>
     ensures { IfOk result (λ flags. IsIndependent (circuit net.now) input value flags) }
 {
     let marks = marks_of(alloc, net, input, value)?;

@@ -6,8 +6,8 @@ ghost use Rattle.bs_encode.specs.Assuming.{signed};
 ghost use Rattle.bs_encode.specs.Frame.{raised_all, link, links, under};
 ghost use Rattle.bs_encode.specs.Depth.{IsLinkable, link_of, older_clauses};
 
-use crate::frames::{add_frame, raise_all};
 use crate::encoding::Encoding;
+use crate::frames::{add_frame, raise_all};
 use crate::signs::push_signed;
 use crate::table::add_triple;
 use bs_bits::Bits;

@@ -45,7 +45,12 @@ fn lent(signature: &Option<Bits>) -> Option<&Bits>
 }
 
 /// What a step assumes.
-fn assumed(alloc: Global, encoding: &Encoding, activation: Lit, step: &Step) -> Result<Lits, NoMemory>
+fn assumed(
+    alloc: Global,
+    encoding: &Encoding,
+    activation: Lit,
+    step: &Step,
+) -> Result<Lits, NoMemory>
     requires present { length step.now.present ≡ length encoding.now.next }
     requires stored { length step.now.stored ≡ length encoding.now.signatures }
     requires older { AreWide (length encoding.now.older_signatures) step.now.older }

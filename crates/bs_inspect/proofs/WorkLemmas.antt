@@ -7,7 +7,7 @@ use Rattle.std.specs.Prelude.{Bool, IfOk, option_map}
 use Rattle.bs_bits.specs.declared.memory.NoMemory.{NoMemory}
 use Rattle.bs_inspect_notes.specs.Simulations.{data_clock_text}
 use Rattle.bs_inspect_values.specs.Simulated.{Simulated, clock_key}
-use Rattle.bs_inspect_view.specs.Drawn.{Asked}
+use Rattle.bs_inspect_view.specs.Drawn.{ViewRequest}
 use Rattle.bs_inspect_view.specs.View.{IsDrawing}
 use Rattle.bs_net.specs.Parts.{Parts}
 use Rattle.bs_scan.specs.Moments.{IsMoment, Moment}
@@ -16,21 +16,21 @@ use Rattle.bs_outside.specs.Calls.{FetchCall}
 use Rattle.bs_top_plan.specs.declared.file.File.{File}
 use Rattle.bs_top_plan.specs.declared.reply.Reply.{Reply}
 use Rattle.bs_top_plan.specs.declared.status.Status.{Status}
-use Rattle.bs_top_plan.specs.declared.told.Stop.{Stop}
+use Rattle.bs_top_plan.specs.declared.diagnostic.WalkStop.{WalkStop}
 use Rattle.bs_top_plan.specs.declared.walk.JobFault.{JobFault}
 use Rattle.bs_top_plan.specs.Files.{is_work_status}
 use Rattle.bs_top_plan.specs.Plan.{Tells, Counts, Plan, end}
 use Rattle.bs_top_plan.specs.Prepared.{AnswersStop, IsWork}
-use Rattle.bs_top_plan.specs.Telling.{WalksTold}
-use Rattle.bs_top_plan.specs.Told.{line_stop, note_stop}
-use Rattle.bs_top_plan.proofs.TellingLemmas.{told_end}
-use Rattle.bs_top_answer.specs.declared.note.Answer.{Answer}
+use Rattle.bs_top_plan.specs.Telling.{WalksDiagnosed}
+use Rattle.bs_top_plan.specs.Diagnostic.{line_stop, note_stop}
+use Rattle.bs_top_plan.proofs.TellingLemmas.{diagnosed_end}
+use Rattle.bs_top_answer.specs.declared.note.Response.{Response}
 use Rattle.bs_top_answer.specs.declared.note.Note.{Note}
 use Rattle.bs_top_answer.specs.declared.note.Note.TheVariants.{Silent}
 use Rattle.bs_top_answer.specs.Note.{Due, DueText}
 use Rattle.bs_top_answer.specs.Prepared.{NoteAlong, PreparedNoted}
 use Rattle.bs_top_answer.specs.Stops.{StopNoted}
-use Rattle.bs_top_answer.proofs.AnswerLemmas.{told_stopped, told_work}
+use Rattle.bs_top_answer.proofs.AnswerLemmas.{diagnosed_stopped, diagnosed_work}
 use Rattle.bs_top_files.specs.NoteCases.{NoteCase, NoteSays}
 use Rattle.bs_top_files.specs.Refusals.{Case, CheckSays}
 use Rattle.bs_inspect_words.specs.Request.{Request}
@@ -49,21 +49,21 @@ work_status (to_flops raw) status text done = ap is_work_status done.0 ∙ refl
 work_status (to_inputs raw) status text done = ap is_work_status done.0 ∙ refl
 work_status (to_stats raw) status text done = ap is_work_status done.0 ∙ refl
 work_status (to_steps report) status text done = ap is_work_status done.0 ∙ refl
-work_status (to_trace all only traced) status text done = ap is_work_status done.0 ∙ refl
+work_status (to_trace all only trace_files) status text done = ap is_work_status done.0 ∙ refl
 work_status (to_runs clock simulated) status text done = ap is_work_status done.0 ∙ refl
 work_status (to_dump dumped) status text done = ap is_work_status done.0 ∙ refl
-work_status (to_wave from all only traced) status text done = ap is_work_status done.0 ∙ refl
-work_status (to_signature items exercised) status text done = ap is_work_status done.0 ∙ refl
-work_status (to_table only traced) status text done = ap is_work_status done.0 ∙ refl
+work_status (to_wave from all only trace_files) status text done = ap is_work_status done.0 ∙ refl
+work_status (to_signature items run_files) status text done = ap is_work_status done.0 ∙ refl
+work_status (to_table only trace_files) status text done = ap is_work_status done.0 ∙ refl
 work_status (to_steps_table report) status text done = ap is_work_status done.0 ∙ refl
 work_status (to_keys names raw) status text done = ap is_work_status done.0 ∙ refl
 work_status (to_state scanned) status text done = ap is_work_status done.0 ∙ refl
-work_status (to_evidence kind step listed) status text done = ap is_work_status done.answered ∙ by done.evidence
+work_status (to_evidence kind step report_files) status text done = ap is_work_status done.answered ∙ by done.evidence
   where
     by : (e : Evidence) → is_work_status (evidence_status e) ≡ true
     by (Text t) = refl
     by (Flawed flaw) = refl
-work_status (to_page asked traced) status text done = ap is_work_status done.0 ∙ refl
+work_status (to_page asked trace_files) status text done = ap is_work_status done.0 ∙ refl
 work_status (to_novel most one_run) status text done = ap is_work_status done.0 ∙ refl
 
 pub is_work : IsWork finishes
@@ -77,7 +77,7 @@ pub run_there : (s : Stimulus) (m : Moment) → IsMoment (inputs_of s) m → m.r
 run_there s m there = omega (arith, there.recorded, length-map s.runs (λ (run : Recorded). run.inputs))
 
 -- a waveform with comments that are these
-pub drawn_as : (asked : List ℕ → Asked) (raw : Parts) (given lines : List ℕ) (states inputs : List (List Bool)) (text : List ℕ) → given ≡ lines →
+pub drawn_as : (asked : List ℕ → ViewRequest) (raw : Parts) (given lines : List ℕ) (states inputs : List (List Bool)) (text : List ℕ) → given ≡ lines →
     IsDrawing raw (asked given) states inputs text → IsDrawing raw (asked lines) states inputs text
 drawn_as asked raw given lines states inputs text e h = subst (λ (ls : List ℕ). IsDrawing raw (asked ls) states inputs text) e h
 
@@ -100,24 +100,24 @@ pub clock_quiet : (clock : List ℕ) (s : Simulated) → s.sampled.data_clock �
 clock_quiet clock s not = rw not refl
 
 -- work that a walk made ready for, on which there is no note
-pub told_done : {S T : Type 0} {held : S → Tells} {faults : S → Counts} {leads : S → FetchCall → S → Type 0} {before now : S} {plan : Plan Case Work}
-    {looked : Plan NoteCase Work} {view : T → Work} {t : T} (path_of : File → List ℕ) (r : Result Reply NoMemory) (answer : Result Answer NoMemory) →
-    answer ≡ silent r → work_note (view t) ≡ None → WalksTold CheckSays NoteSays held faults leads before now plan looked view view (Ok t) →
+pub diagnosed_done : {S T : Type 0} {held : S → Tells} {faults : S → Counts} {leads : S → FetchCall → S → Type 0} {before now : S} {plan : Plan Case Work}
+    {looked : Plan NoteCase Work} {view : T → Work} {t : T} (path_of : File → List ℕ) (r : Result Reply NoMemory) (answer : Result Response NoMemory) →
+    answer ≡ silent r → work_note (view t) ≡ None → WalksDiagnosed CheckSays NoteSays held faults leads before now plan looked view view (Ok t) →
     IfOk r (λ a. finishes (view t) a.status a.text.items) →
     PreparedNoted CheckSays finishes (NoteAlong NoteSays WorkSaid path_of looked) held faults leads before now (Some plan) answer
-told_done {held = held} {faults = faults} {leads = leads} {before = before} {now = now} {plan = plan} {looked = looked} {view = view} {t = t} path_of r answer
+diagnosed_done {held = held} {faults = faults} {leads = leads} {before = before} {now = now} {plan = plan} {looked = looked} {view = view} {t = t} path_of r answer
     same quiet walks done =
     subst (PreparedNoted CheckSays finishes (NoteAlong NoteSays WorkSaid path_of looked) held faults leads before now (Some plan)) (sym same)
-    (told_work WorkSaid path_of (silent r) is_work walks (silent_done (finishes (view t)) r done) (silent_said (view t) r quiet))
+    (diagnosed_work WorkSaid path_of (silent r) is_work walks (silent_done (finishes (view t)) r done) (silent_said (view t) r quiet))
 
 -- a walk that stopped, with the names of these files
-pub told_stop_at : {S T : Type 0} {held : S → Tells} {faults : S → Counts} {leads : S → FetchCall → S → Type 0} {before now : S} {plan : Plan Case Work}
-    {looked : Plan NoteCase Work} {view : T → Work} {stop : Stop} (given sources : Sources) (r : Result Answer NoMemory) → given ≡ sources →
-    WalksTold CheckSays NoteSays held faults leads before now plan looked view view (Err stop) →
+pub diagnosed_stop_at : {S T : Type 0} {held : S → Tells} {faults : S → Counts} {leads : S → FetchCall → S → Type 0} {before now : S} {plan : Plan Case Work}
+    {looked : Plan NoteCase Work} {view : T → Work} {stop : WalkStop} (given sources : Sources) (r : Result Response NoMemory) → given ≡ sources →
+    WalksDiagnosed CheckSays NoteSays held faults leads before now plan looked view view (Err stop) →
     IfOk r (λ a. AnswersStop (line_stop stop) a.reply.status a.reply.text.items) → IfOk r (λ a. StopNoted (source_of given) (note_stop stop) a.note) →
     PreparedNoted CheckSays finishes (NoteAlong NoteSays WorkSaid (source_of sources) looked) held faults leads before now (Some plan) r
-told_stop_at {stop = stop} given sources r same walks line says =
-    told_stopped finishes WorkSaid (source_of sources) r walks line
+diagnosed_stop_at {stop = stop} given sources r same walks line says =
+    diagnosed_stopped finishes WorkSaid (source_of sources) r walks line
     (subst (λ (n : Sources). IfOk r (λ a. StopNoted (source_of n) (note_stop stop) a.note)) same says)
 
 piece_more : (names : List (Bor (List ℕ))) (i : ℕ) (d : Bor (List ℕ)) → i < length names →
@@ -145,15 +145,15 @@ values_noted netlist names vcd vcds given fault note e is h =
     subst (λ (n : Sources). StopNoted (source_of n) fault note) (e ∙ ap (named_values netlist names) is) h
 
 -- the answer to a request of no file
-pub told_alone : {S : Type 0} {held : S → Tells} {faults : S → Counts} {leads : S → FetchCall → S → Type 0} {before : S} (work : Work)
-    (path_of : File → List ℕ) (r : Result Reply NoMemory) (answer : Result Answer NoMemory) → answer ≡ silent r →
+pub diagnosed_alone : {S : Type 0} {held : S → Tells} {faults : S → Counts} {leads : S → FetchCall → S → Type 0} {before : S} (work : Work)
+    (path_of : File → List ℕ) (r : Result Reply NoMemory) (answer : Result Response NoMemory) → answer ≡ silent r →
     work_note work ≡ None → IfOk r (λ a. finishes work a.status a.text.items) →
     PreparedNoted CheckSays finishes (NoteAlong NoteSays WorkSaid path_of (end work)) held faults leads before before (Some (end work)) answer
-told_alone {held = held} {faults = faults} {leads = leads} {before = before} work path_of r answer same quiet done =
-    told_done {T = Work} {view = λ w. w} {t = work} path_of r answer same quiet told_end done
+diagnosed_alone {held = held} {faults = faults} {leads = leads} {before = before} work path_of r answer same quiet done =
+    diagnosed_done {T = Work} {view = λ w. w} {t = work} path_of r answer same quiet diagnosed_end done
 
 -- the answer to a request, where it is this one
-pub noted_asked : {S : Type 0} {held : S → Tells} {faults : S → Counts} {leads : S → FetchCall → S → Type 0} {before now : S} (r : Result Answer NoMemory)
+pub noted_asked : {S : Type 0} {held : S → Tells} {faults : S → Counts} {leads : S → FetchCall → S → Type 0} {before now : S} (r : Result Response NoMemory)
     (asked request : Request) → asked ≡ request →
     PreparedNoted CheckSays finishes (RequestSaid request) held faults leads before now (Some (plan_of request)) r →
     PreparedNoted CheckSays finishes (RequestSaid asked) held faults leads before now (Some (plan_of asked)) r
@@ -162,14 +162,14 @@ noted_asked {held = held} {faults = faults} {leads = leads} {before = before} {n
 
 -- the answer to a request of these names, where it is of those
 pub noted_with : {A S : Type 0} {held : S → Tells} {faults : S → Counts} {leads : S → FetchCall → S → Type 0} {before now : S} (request : A → Request)
-    (a b : A) (r : Result Answer NoMemory) → a ≡ b →
+    (a b : A) (r : Result Response NoMemory) → a ≡ b →
     PreparedNoted CheckSays finishes (RequestSaid (request b)) held faults leads before now (Some (plan_of (request b))) r →
     PreparedNoted CheckSays finishes (RequestSaid (request a)) held faults leads before now (Some (plan_of (request a))) r
 noted_with request a b r is h = noted_asked r (request a) (request b) (ap request is) h
 
 -- the answer to words that are this
 pub noted_words_as : {S : Type 0} {held : S → Tells} {faults : S → Counts} {leads : S → FetchCall → S → Type 0} {before now : S} (words : List (List ℕ))
-    (read asked : Option Request) (r : Result Answer NoMemory) → read ≡ asked →
+    (read asked : Option Request) (r : Result Response NoMemory) → read ≡ asked →
     PreparedNoted CheckSays finishes (WordsSaid words read) held faults leads before now (option_map plan_of read) r →
     PreparedNoted CheckSays finishes (WordsSaid words asked) held faults leads before now (option_map plan_of asked) r
 noted_words_as {held = held} {faults = faults} {leads = leads} {before = before} {now = now} words read asked r e h =

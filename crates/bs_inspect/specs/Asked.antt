@@ -1,7 +1,7 @@
 -- What a request asks of the values of a simulator and of a waveform.
 use Rattle.std.specs.Prelude.{ℕ, Bool, List}
-use Rattle.bs_inspect_view.specs.Drawn.{Asked}
-use Rattle.bs_inspect_page.specs.Page.{PageAsked}
+use Rattle.bs_inspect_view.specs.Drawn.{ViewRequest}
+use Rattle.bs_inspect_page.specs.Page.{PageOptions}
 use Rattle.bs_inspect_words.specs.Request.{DumpRequest, PageRequest, StimulusRequest}
 use Rattle.bs_inspect_values.specs.Dumped.{DumpFiles}
 use Rattle.bs_inspect_values.specs.Simulated.{Clocked}
@@ -21,12 +21,12 @@ dump_files t = record {
 }
 
 -- what is asked of a waveform, with these comments
-abbrev pub drawing_of : (from : ℕ) → Bool → List (List ℕ) → List ℕ → Asked
+abbrev pub drawing_of : (from : ℕ) → Bool → List (List ℕ) → List ℕ → ViewRequest
 drawing_of from all only lines = record { from = from; all = all; only = only; remarks = lines }
 
 -- what is asked of a page
-abbrev pub page_for : (netlist report : List ℕ) → List (List ℕ) → ℕ → PageAsked
+abbrev pub page_for : (netlist report : List ℕ) → List (List ℕ) → ℕ → PageOptions
 page_for netlist report only most = record { netlist = netlist; report = report; only = only; most = most }
 
-abbrev pub page_asked : PageRequest → PageAsked
-page_asked t = page_for t.netlist t.report t.only t.most
+abbrev pub page_options : PageRequest → PageOptions
+page_options t = page_for t.netlist t.report t.only t.most

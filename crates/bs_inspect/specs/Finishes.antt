@@ -2,15 +2,15 @@
 use Rattle.std.specs.Prelude.{◌≡◌, ℕ, List, length}
 use Rattle.bs_top_plan.specs.declared.status.Status.{Status}
 use Rattle.bs_top_plan.specs.declared.status.Status.TheVariants.{Done, Rejected}
-use Rattle.bs_inspect_values.specs.Run.{runs_text}
-use Rattle.bs_inspect_netlist.specs.Dumped.{dump_told}
+use Rattle.bs_inspect_values.specs.SimulatedRun.{runs_text}
+use Rattle.bs_inspect_netlist.specs.Dumped.{dump_lines}
 use Rattle.bs_inspect.specs.Asked.{drawing_of}
 use Rattle.bs_inspect_view.specs.View.{IsDrawing}
 use Rattle.bs_inspect_lists.specs.Signature.{TellsSignature}
 use Rattle.bs_inspect_novel.specs.Novel.{TellsNovel}
 use Rattle.bs_inspect_netlist.specs.Called.{TellsKeys}
 use Rattle.bs_inspect_netlist.specs.Order.{state_line}
-use Rattle.bs_inspect_netlist.specs.Told.{TellsFlops, TellsInputs}
+use Rattle.bs_inspect_netlist.specs.Lines.{TellsFlops, TellsInputs}
 use Rattle.bs_inspect_netlist.specs.Sizes.{TellsSizes}
 use Rattle.bs_inspect_page.specs.Page.{ShowsReport}
 use Rattle.bs_inspect_report.specs.Remarks.{remarks}
@@ -25,7 +25,7 @@ use Rattle.bs_evidence.specs.declared.flaw.Evidence.{Evidence}
 use Rattle.bs_evidence.specs.declared.flaw.Evidence.TheVariants.{Text, Flawed}
 use Rattle.bs_evidence.specs.Evidence.{IsEvidence}
 use Rattle.bs_evidence.specs.Words.{flaw_text}
-use Rattle.bs_inspect_files.specs.Taken.{Listed}
+use Rattle.bs_inspect_files.specs.Taken.{ReportFiles}
 use Rattle.bs_inspect.specs.Work.{to_table, to_steps_table, to_keys, to_state, to_evidence, to_page, to_novel}
 
 -- the status and the text of evidence: a flaw is answered as an audit answers a part that fails
@@ -38,9 +38,9 @@ evidence_text (Text text) = text.items
 evidence_text (Flawed flaw) = flaw_text flaw
 
 -- the evidence for the list of a step, or why there is none
-pub record TellsEvidence (kind : Format) (step : ℕ) (listed : Listed) (status : Status) (text : List ℕ) : Type 0 where
+pub record TellsEvidence (kind : Format) (step : ℕ) (report_files : ReportFiles) (status : Status) (text : List ℕ) : Type 0 where
   pub evidence : Evidence
-  pub right : IsEvidence kind (circuit_of listed.raw) listed.choice listed.report step evidence
+  pub right : IsEvidence kind (circuit_of report_files.raw) report_files.choice report_files.report step evidence
   pub answered : status ≡ evidence_status evidence
   pub written : text ≡ evidence_text evidence
 
@@ -51,17 +51,17 @@ finishes (to_flops raw) status text = (status ≡ Done) × TellsFlops raw text
 finishes (to_inputs raw) status text = (status ≡ Done) × TellsInputs raw text
 finishes (to_stats raw) status text = (status ≡ Done) × TellsSizes raw text
 finishes (to_steps report) status text = (status ≡ Done) × (text ≡ steps_text report)
-finishes (to_trace all only traced) status text = (status ≡ Done) × TellsTrace traced.raw traced.report all only text
+finishes (to_trace all only trace_files) status text = (status ≡ Done) × TellsTrace trace_files.raw trace_files.report all only text
 finishes (to_runs clock simulated) status text = (status ≡ Done) × (text ≡ runs_text simulated.sampled.runs)
-finishes (to_dump dumped) status text = (status ≡ Done) × (text ≡ dump_told dumped.choice dumped.states)
-finishes (to_wave from all only traced) status text =
+finishes (to_dump dumped) status text = (status ≡ Done) × (text ≡ dump_lines dumped.choice dumped.states)
+finishes (to_wave from all only trace_files) status text =
     (status ≡ Done)
-    × IsDrawing traced.raw (drawing_of from all only (remarks traced.report)) traced.report.states traced.report.inputs text
-finishes (to_signature items exercised) status text = (status ≡ Done) × TellsSignature exercised.raw exercised.runs items text
-finishes (to_table only traced) status text = (status ≡ Done) × TellsTable traced.raw traced.report only text
+    × IsDrawing trace_files.raw (drawing_of from all only (remarks trace_files.report)) trace_files.report.states trace_files.report.inputs text
+finishes (to_signature items run_files) status text = (status ≡ Done) × TellsSignature run_files.raw run_files.runs items text
+finishes (to_table only trace_files) status text = (status ≡ Done) × TellsTable trace_files.raw trace_files.report only text
 finishes (to_steps_table report) status text = (status ≡ Done) × (text ≡ steps_table report)
 finishes (to_keys names raw) status text = (status ≡ Done) × TellsKeys raw names text
 finishes (to_state scanned) status text = (status ≡ Done) × (text ≡ state_line (length scanned.raw.flops) scanned.order scanned.pattern)
-finishes (to_evidence kind step listed) status text = TellsEvidence kind step listed status text
-finishes (to_page asked traced) status text = (status ≡ Done) × ShowsReport traced.raw traced.report asked text
-finishes (to_novel most one_run) status text = (status ≡ Done) × TellsNovel one_run.exercised.raw one_run.exercised.runs one_run.moment.run most text
+finishes (to_evidence kind step report_files) status text = TellsEvidence kind step report_files status text
+finishes (to_page asked trace_files) status text = (status ≡ Done) × ShowsReport trace_files.raw trace_files.report asked text
+finishes (to_novel most one_run) status text = (status ≡ Done) × TellsNovel one_run.run_files.raw one_run.run_files.runs one_run.moment.run most text

@@ -5,7 +5,7 @@ use Rattle.bs_outside.specs.Calls.{FetchCall}
 use Rattle.bs_top_plan.specs.declared.reply.Reply.{Reply}
 use Rattle.bs_top_plan.specs.declared.status.Status.{Status}
 use Rattle.bs_top_plan.specs.Plan.{Plan, end, ◌>>=◌}
-use Rattle.bs_top_answer.specs.declared.note.Answer.{Answer}
+use Rattle.bs_top_answer.specs.declared.note.Response.{Response}
 use Rattle.bs_top_answer.specs.declared.note.Note.{Note}
 use Rattle.bs_top_answer.specs.declared.note.Note.TheVariants.{Silent}
 use Rattle.bs_top_answer.specs.Note.{Due, DueText}
@@ -16,11 +16,11 @@ use Rattle.bs_inspect_words.specs.Request.{Request, Help, Version, Flops, Inputs
 use Rattle.bs_inspect_values.specs.Dumped.{dumped_looked}
 use Rattle.bs_inspect_values.specs.Simulated.{Simulated, clock_key, simulated_looked}
 use Rattle.bs_evidence.specs.declared.evidence.Format.TheVariants.{Clauses, Proof}
-use Rattle.bs_inspect_files.specs.Taken.{charted_looked, one_run_looked, exercised_looked, listed_looked, picked_looked}
+use Rattle.bs_inspect_files.specs.Taken.{charted_looked, one_run_looked, run_files_looked, report_files_looked, picked_looked}
 use Rattle.bs_inspect_files.specs.FlopFiles.{named_looked, scanned_looked}
 use Rattle.bs_inspect_notes.specs.Usages.{words_text}
 use Rattle.bs_inspect_notes.specs.Simulations.{data_clock_text}
-use Rattle.bs_inspect.specs.Asked.{clocked_of, dump_files, page_asked}
+use Rattle.bs_inspect.specs.Asked.{clocked_of, dump_files, page_options}
 use Rattle.bs_inspect.specs.Sources.{source_of, sources_of}
 use Rattle.bs_inspect.specs.Work.{Work, to_help, to_version, to_flops, to_inputs, to_stats, to_steps, to_trace, to_runs, to_dump, to_wave, to_signature, to_table, to_steps_table, to_keys, to_state, to_evidence, to_page, to_novel}
 
@@ -38,11 +38,11 @@ looked_of (Stats netlist) = do
   raw ← netlist_looked netlist
   end (to_stats raw)
 looked_of (Steps report) = do
-  told ← report_looked report
-  end (to_steps told)
+  content ← report_looked report
+  end (to_steps content)
 looked_of (Trace t) = do
-  traced ← picked_looked t.netlist t.report t.only
-  end (to_trace t.all t.only traced)
+  trace_files ← picked_looked t.netlist t.report t.only
+  end (to_trace t.all t.only trace_files)
 looked_of (Stimulus t) = do
   simulated ← simulated_looked t.netlist t.names (clocked_of t) t.vcds
   end (to_runs t.clock simulated)
@@ -50,17 +50,17 @@ looked_of (Dump t) = do
   dumped ← dumped_looked (dump_files t)
   end (to_dump dumped)
 looked_of (Wave t) = do
-  traced ← charted_looked t.netlist t.report t.only
-  end (to_wave t.from t.all t.only traced)
+  trace_files ← charted_looked t.netlist t.report t.only
+  end (to_wave t.from t.all t.only trace_files)
 looked_of (Signature t) = do
-  exercised ← exercised_looked t.netlist t.runs
-  end (to_signature t.items exercised)
+  run_files ← run_files_looked t.netlist t.runs
+  end (to_signature t.items run_files)
 looked_of (TraceTable t) = do
-  traced ← picked_looked t.netlist t.report t.only
-  end (to_table t.only traced)
+  trace_files ← picked_looked t.netlist t.report t.only
+  end (to_table t.only trace_files)
 looked_of (StepsTable report) = do
-  told ← report_looked report
-  end (to_steps_table told)
+  content ← report_looked report
+  end (to_steps_table content)
 looked_of (Keys t) = do
   raw ← named_looked t.netlist t.names
   end (to_keys t.names raw)
@@ -68,14 +68,14 @@ looked_of (Unscan t) = do
   scanned ← scanned_looked t.netlist t.order t.pattern
   end (to_state scanned)
 looked_of (Cnf t) = do
-  listed ← listed_looked t.netlist t.signature t.report
-  end (to_evidence Clauses t.step listed)
+  report_files ← report_files_looked t.netlist t.signature t.report
+  end (to_evidence Clauses t.step report_files)
 looked_of (Lrat t) = do
-  listed ← listed_looked t.netlist t.signature t.report
-  end (to_evidence Proof t.step listed)
+  report_files ← report_files_looked t.netlist t.signature t.report
+  end (to_evidence Proof t.step report_files)
 looked_of (Page t) = do
-  traced ← picked_looked t.netlist t.report t.only
-  end (to_page (page_asked t) traced)
+  trace_files ← picked_looked t.netlist t.report t.only
+  end (to_page (page_options t) trace_files)
 looked_of (Novel t) = do
   one_run ← one_run_looked t.netlist t.runs t.run
   end (to_novel t.most one_run)
@@ -102,6 +102,6 @@ WordsSaid words None = λ fetches status text note. Due (λ said. said ≡ words
 WordsSaid words (Some request) = RequestSaid request
 
 -- a reply on which there is no note
-abbrev pub silent : Result Reply NoMemory → Result Answer NoMemory
+abbrev pub silent : Result Reply NoMemory → Result Response NoMemory
 silent (Ok reply) = Ok record { reply = reply; note = Silent }
 silent (Err want) = Err want

@@ -37,8 +37,8 @@ netlist_source netlist = record { netlist = netlist; signature = []; stimulus = 
 abbrev pub report_source : List ℕ → Sources
 report_source report = record { netlist = []; signature = []; stimulus = []; report = report; vcd = []; map = [] }
 
-abbrev pub traced_sources : List ℕ → List ℕ → Sources
-traced_sources netlist report = record { netlist = netlist; signature = []; stimulus = []; report = report; vcd = []; map = [] }
+abbrev pub trace_sources : List ℕ → List ℕ → Sources
+trace_sources netlist report = record { netlist = netlist; signature = []; stimulus = []; report = report; vcd = []; map = [] }
 
 abbrev pub runs_sources : SignatureRequest → Sources
 runs_sources t = record { netlist = t.netlist; signature = []; stimulus = t.runs; report = []; vcd = []; map = [] }
@@ -87,18 +87,18 @@ sources_of (Flops netlist) = netlist_source netlist
 sources_of (Inputs netlist) = netlist_source netlist
 sources_of (Stats netlist) = netlist_source netlist
 sources_of (Steps report) = report_source report
-sources_of (Trace t) = traced_sources t.netlist t.report
+sources_of (Trace t) = trace_sources t.netlist t.report
 sources_of (Stimulus t) = values_sources t
-sources_of (Wave t) = traced_sources t.netlist t.report
+sources_of (Wave t) = trace_sources t.netlist t.report
 sources_of (Signature t) = runs_sources t
 sources_of (Dump t) = dump_sources t
-sources_of (TraceTable t) = traced_sources t.netlist t.report
+sources_of (TraceTable t) = trace_sources t.netlist t.report
 sources_of (StepsTable report) = report_source report
 sources_of (Keys t) = netlist_source t.netlist
 sources_of (Unscan t) = chain_sources t.netlist t.order
 sources_of (Cnf t) = evidence_sources t
 sources_of (Lrat t) = evidence_sources t
-sources_of (Page t) = traced_sources t.netlist t.report
+sources_of (Page t) = trace_sources t.netlist t.report
 sources_of (Novel t) = novel_sources t
 
 abbrev pub sources_in : CodeSources → Sources

@@ -8,12 +8,12 @@ use Rattle.bs_top_files.specs.Entry.{netlist_of, report_of}
 use Rattle.bs_top_files.specs.Refusals.{Case}
 use Rattle.bs_evidence.specs.declared.evidence.Format.{Format}
 use Rattle.bs_evidence.specs.declared.evidence.Format.TheVariants.{Clauses, Proof}
-use Rattle.bs_inspect_files.specs.Taken.{OneRun, Traced, Exercised, Listed, picked_of, charted_of, one_run_of, exercised_of, listed_of}
+use Rattle.bs_inspect_files.specs.Taken.{OneRun, TraceFiles, RunFiles, ReportFiles, picked_of, charted_of, one_run_of, run_files_of, report_files_of}
 use Rattle.bs_inspect_values.specs.Dumped.{Dumped, dumped_of}
 use Rattle.bs_inspect_values.specs.Simulated.{Simulated, simulated_of}
 use Rattle.bs_inspect_files.specs.FlopFiles.{Scanned, named_of, scanned_of}
-use Rattle.bs_inspect_page.specs.Page.{PageAsked}
-use Rattle.bs_inspect.specs.Asked.{clocked_of, dump_files, page_asked}
+use Rattle.bs_inspect_page.specs.Page.{PageOptions}
+use Rattle.bs_inspect.specs.Asked.{clocked_of, dump_files, page_options}
 
 -- how words stand, the version, the flip-flops, data inputs or sizes of a netlist, the steps of a report, its trace with the
 -- names of a netlist, simulated runs (by a clock with this name), a dump, the waveform of a trace from a cycle on, or a signature of so
@@ -26,17 +26,17 @@ pub data Work : Type 0 where
   to_inputs : Parts → Work
   to_stats : Parts → Work
   to_steps : Report → Work
-  to_trace : Bool → List (List ℕ) → Traced → Work
+  to_trace : Bool → List (List ℕ) → TraceFiles → Work
   to_runs : List ℕ → Simulated → Work
   to_dump : Dumped → Work
-  to_wave : (from : ℕ) → Bool → List (List ℕ) → Traced → Work
-  to_signature : ℕ → Exercised → Work
-  to_table : List (List ℕ) → Traced → Work
+  to_wave : (from : ℕ) → Bool → List (List ℕ) → TraceFiles → Work
+  to_signature : ℕ → RunFiles → Work
+  to_table : List (List ℕ) → TraceFiles → Work
   to_steps_table : Report → Work
   to_keys : List (List ℕ) → Parts → Work
   to_state : Scanned → Work
-  to_evidence : Format → ℕ → Listed → Work
-  to_page : PageAsked → Traced → Work
+  to_evidence : Format → ℕ → ReportFiles → Work
+  to_page : PageOptions → TraceFiles → Work
   to_novel : (most : ℕ) → OneRun → Work
 
 -- the plan of a request
@@ -53,11 +53,11 @@ plan_of (Stats netlist) = do
   raw ← netlist_of netlist
   end (to_stats raw)
 plan_of (Steps report) = do
-  told ← report_of report
-  end (to_steps told)
+  content ← report_of report
+  end (to_steps content)
 plan_of (Trace t) = do
-  traced ← picked_of t.netlist t.report t.only
-  end (to_trace t.all t.only traced)
+  trace_files ← picked_of t.netlist t.report t.only
+  end (to_trace t.all t.only trace_files)
 plan_of (Stimulus t) = do
   simulated ← simulated_of t.netlist t.names (clocked_of t) t.vcds
   end (to_runs t.clock simulated)
@@ -65,17 +65,17 @@ plan_of (Dump t) = do
   dumped ← dumped_of (dump_files t)
   end (to_dump dumped)
 plan_of (Wave t) = do
-  traced ← charted_of t.netlist t.report t.only
-  end (to_wave t.from t.all t.only traced)
+  trace_files ← charted_of t.netlist t.report t.only
+  end (to_wave t.from t.all t.only trace_files)
 plan_of (Signature t) = do
-  exercised ← exercised_of t.netlist t.runs
-  end (to_signature t.items exercised)
+  run_files ← run_files_of t.netlist t.runs
+  end (to_signature t.items run_files)
 plan_of (TraceTable t) = do
-  traced ← picked_of t.netlist t.report t.only
-  end (to_table t.only traced)
+  trace_files ← picked_of t.netlist t.report t.only
+  end (to_table t.only trace_files)
 plan_of (StepsTable report) = do
-  told ← report_of report
-  end (to_steps_table told)
+  content ← report_of report
+  end (to_steps_table content)
 plan_of (Keys t) = do
   raw ← named_of t.netlist t.names
   end (to_keys t.names raw)
@@ -83,14 +83,14 @@ plan_of (Unscan t) = do
   scanned ← scanned_of t.netlist t.order t.pattern
   end (to_state scanned)
 plan_of (Cnf t) = do
-  listed ← listed_of t.netlist t.signature t.report
-  end (to_evidence Clauses t.step listed)
+  report_files ← report_files_of t.netlist t.signature t.report
+  end (to_evidence Clauses t.step report_files)
 plan_of (Lrat t) = do
-  listed ← listed_of t.netlist t.signature t.report
-  end (to_evidence Proof t.step listed)
+  report_files ← report_files_of t.netlist t.signature t.report
+  end (to_evidence Proof t.step report_files)
 plan_of (Page t) = do
-  traced ← picked_of t.netlist t.report t.only
-  end (to_page (page_asked t) traced)
+  trace_files ← picked_of t.netlist t.report t.only
+  end (to_page (page_options t) trace_files)
 plan_of (Novel t) = do
   one_run ← one_run_of t.netlist t.runs t.run
   end (to_novel t.most one_run)

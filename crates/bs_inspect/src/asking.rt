@@ -11,25 +11,38 @@ ghost use Rattle.bs_inspect.specs.Work.{plan_of, to_runs};
 ghost use Rattle.bs_inspect_notes.specs.Simulations.{data_clock_text};
 ghost use Rattle.bs_inspect_values.specs.Simulated.{simulated_in};
 
-use crate::sources::{chain_sources, dump_sources, evidence_sources, netlist_source, novel_sources, report_source, runs_sources, stop_at, stop_values, traced_sources};
-use crate::telling::{tell_dump, tell_evidence, tell_flops, tell_inputs, tell_keys, tell_novel, tell_page, tell_runs, tell_signature, tell_state, tell_stats, tell_steps, tell_steps_table, tell_table, tell_trace, tell_usage, tell_version, tell_wave};
+use crate::sources::{
+    chain_sources, dump_sources, evidence_sources, netlist_source, novel_sources, report_source,
+    runs_sources, stop_at, stop_values, trace_sources,
+};
+use crate::telling::{
+    tell_dump, tell_evidence, tell_flops, tell_inputs, tell_keys, tell_novel, tell_page, tell_runs,
+    tell_signature, tell_state, tell_stats, tell_steps, tell_steps_table, tell_table, tell_trace,
+    tell_usage, tell_version, tell_wave,
+};
 use bs_evidence::Format;
-use bs_inspect_files::{load_charted, load_exercised, load_listed, load_named, load_one_run, load_picked, load_scanned};
+use bs_inspect_files::{
+    load_charted, load_named, load_one_run, load_picked, load_report_files, load_run_files,
+    load_scanned,
+};
 use bs_inspect_notes::data_clock_note;
 use bs_inspect_values::{Clocked, DumpFiles, Simulated, clock_key, load_dumped, load_simulated};
-use bs_inspect_words::{DumpRequest, EvidenceRequest, KeysRequest, NovelRequest, PageRequest, Request, SignatureRequest, StimulusRequest, TraceRequest, UnscanRequest, WaveRequest};
+use bs_inspect_words::{
+    DumpRequest, EvidenceRequest, KeysRequest, NovelRequest, PageRequest, Request,
+    SignatureRequest, StimulusRequest, TraceRequest, UnscanRequest, WaveRequest,
+};
 use bs_outside::{NoMemory, Shelf};
-use bs_top_answer::{Answer, Note, note_made};
+use bs_top_answer::{Note, Response, note_made};
 use bs_top_files::{load_netlist, load_report};
 use bs_top_plan::Reply;
 use std::alloc::Global;
 
 /// A reply on which there is no note.
-fn silent(reply: Result<Reply, NoMemory>) -> Result<Answer, NoMemory>
+fn silent(reply: Result<Reply, NoMemory>) -> Result<Response, NoMemory>
     ensures { result ≡ silent reply }
 {
     match reply {
-        Ok(reply) => Ok(Answer {
+        Ok(reply) => Ok(Response {
             reply,
             note: Note::Silent,
         }),
@@ -38,7 +51,7 @@ fn silent(reply: Result<Reply, NoMemory>) -> Result<Answer, NoMemory>
 }
 
 /// The answer to `flops`.
-fn flops<S: Shelf>(alloc: Global, shelf: &mut S, netlist: &str) -> Result<Answer, NoMemory>
+fn flops<S: Shelf>(alloc: Global, shelf: &mut S, netlist: &str) -> Result<Response, NoMemory>
     ensures { PreparedNoted CheckSays finishes (RequestSaid (FlopsOf netlist.now)) S.held S.faults S.leads shelf.old shelf.new (Some (plan_of (FlopsOf netlist.now))) result }
 {
     match load_netlist(alloc, shelf, netlist) {
@@ -48,7 +61,7 @@ fn flops<S: Shelf>(alloc: Global, shelf: &mut S, netlist: &str) -> Result<Answer
 }
 
 /// The answer to `inputs`.
-fn inputs<S: Shelf>(alloc: Global, shelf: &mut S, netlist: &str) -> Result<Answer, NoMemory>
+fn inputs<S: Shelf>(alloc: Global, shelf: &mut S, netlist: &str) -> Result<Response, NoMemory>
     ensures { PreparedNoted CheckSays finishes (RequestSaid (InputsOf netlist.now)) S.held S.faults S.leads shelf.old shelf.new (Some (plan_of (InputsOf netlist.now))) result }
 {
     match load_netlist(alloc, shelf, netlist) {
@@ -58,7 +71,7 @@ fn inputs<S: Shelf>(alloc: Global, shelf: &mut S, netlist: &str) -> Result<Answe
 }
 
 /// The answer to `stats`.
-fn stats<S: Shelf>(alloc: Global, shelf: &mut S, netlist: &str) -> Result<Answer, NoMemory>
+fn stats<S: Shelf>(alloc: Global, shelf: &mut S, netlist: &str) -> Result<Response, NoMemory>
     ensures { PreparedNoted CheckSays finishes (RequestSaid (StatsOf netlist.now)) S.held S.faults S.leads shelf.old shelf.new (Some (plan_of (StatsOf netlist.now))) result }
 {
     match load_netlist(alloc, shelf, netlist) {
@@ -68,11 +81,11 @@ fn stats<S: Shelf>(alloc: Global, shelf: &mut S, netlist: &str) -> Result<Answer
 }
 
 /// The answer to `steps`.
-fn steps<S: Shelf>(alloc: Global, shelf: &mut S, report: &str) -> Result<Answer, NoMemory>
+fn steps<S: Shelf>(alloc: Global, shelf: &mut S, report: &str) -> Result<Response, NoMemory>
     ensures { PreparedNoted CheckSays finishes (RequestSaid (StepsOf report.now)) S.held S.faults S.leads shelf.old shelf.new (Some (plan_of (StepsOf report.now))) result }
 {
     match load_report(alloc, shelf, report) {
-        Ok(told) => silent(tell_steps(alloc, &told)),
+        Ok(content) => silent(tell_steps(alloc, &content)),
         Err(stop) => stop_at(alloc, report_source(report), shelf.reason(), stop),
     }
 }
@@ -82,15 +95,15 @@ fn trace<S: Shelf>(
     alloc: Global,
     shelf: &mut S,
     asked: &TraceRequest<'_>,
-) -> Result<Answer, NoMemory>
+) -> Result<Response, NoMemory>
     ensures { PreparedNoted CheckSays finishes (RequestSaid (TraceOf (trace_in asked.now))) S.held S.faults S.leads shelf.old shelf.new (Some (plan_of (TraceOf (trace_in asked.now)))) result }
 {
     let only = asked.only.as_slice();
     match load_picked(alloc, shelf, asked.netlist, asked.report, only) {
-        Ok(traced) => silent(tell_trace(alloc, &traced, asked.all, only)),
+        Ok(trace_files) => silent(tell_trace(alloc, &trace_files, asked.all, only)),
         Err(stop) => stop_at(
             alloc,
-            traced_sources(asked.netlist, asked.report),
+            trace_sources(asked.netlist, asked.report),
             shelf.reason(),
             stop,
         ),
@@ -117,13 +130,13 @@ fn clock_note(alloc: Global, clock: &str, simulated: &Simulated) -> Note
 }
 
 /// Runs, and what is said of their clock.
-fn runs_answer(alloc: Global, clock: &str, simulated: &Simulated) -> Result<Answer, NoMemory>
+fn runs_answer(alloc: Global, clock: &str, simulated: &Simulated) -> Result<Response, NoMemory>
     ensures reply { IfOk result (λ answer. finishes (to_runs clock.now (simulated_in simulated.now)) answer.reply.status answer.reply.text.items) }
     ensures note { IfOk result (λ answer. DueText (clock_doubt clock.now (simulated_in simulated.now)) answer.note) }
 {
     let reply = tell_runs(alloc, clock, simulated)?;
     let note = clock_note(alloc, clock, simulated);
-    Ok(Answer { reply, note })
+    Ok(Response { reply, note })
 }
 
 /// The answer to `stimulus`.
@@ -131,7 +144,7 @@ fn stimulus<S: Shelf>(
     alloc: Global,
     shelf: &mut S,
     asked: &StimulusRequest<'_>,
-) -> Result<Answer, NoMemory>
+) -> Result<Response, NoMemory>
     ensures { PreparedNoted CheckSays finishes (RequestSaid (StimulusOf (stimulus_in asked.now))) S.held S.faults S.leads shelf.old shelf.new (Some (plan_of (StimulusOf (stimulus_in asked.now)))) result }
 {
     let vcds = asked.vcds.as_slice();
@@ -153,7 +166,11 @@ fn stimulus<S: Shelf>(
 }
 
 /// The answer to `dump`.
-fn dump<S: Shelf>(alloc: Global, shelf: &mut S, asked: &DumpRequest<'_>) -> Result<Answer, NoMemory>
+fn dump<S: Shelf>(
+    alloc: Global,
+    shelf: &mut S,
+    asked: &DumpRequest<'_>,
+) -> Result<Response, NoMemory>
     ensures { PreparedNoted CheckSays finishes (RequestSaid (DumpOf (dump_in asked.now))) S.held S.faults S.leads shelf.old shelf.new (Some (plan_of (DumpOf (dump_in asked.now)))) result }
 {
     let files = DumpFiles {
@@ -172,15 +189,19 @@ fn dump<S: Shelf>(alloc: Global, shelf: &mut S, asked: &DumpRequest<'_>) -> Resu
 }
 
 /// The answer to `wave`.
-fn wave<S: Shelf>(alloc: Global, shelf: &mut S, asked: &WaveRequest<'_>) -> Result<Answer, NoMemory>
+fn wave<S: Shelf>(
+    alloc: Global,
+    shelf: &mut S,
+    asked: &WaveRequest<'_>,
+) -> Result<Response, NoMemory>
     ensures { PreparedNoted CheckSays finishes (RequestSaid (WaveOf (wave_in asked.now))) S.held S.faults S.leads shelf.old shelf.new (Some (plan_of (WaveOf (wave_in asked.now)))) result }
 {
     let only = asked.only.as_slice();
     match load_charted(alloc, shelf, asked.netlist, asked.report, only) {
-        Ok(traced) => silent(tell_wave(alloc, &traced, asked.from, asked.all, only)),
+        Ok(trace_files) => silent(tell_wave(alloc, &trace_files, asked.from, asked.all, only)),
         Err(stop) => stop_at(
             alloc,
-            traced_sources(asked.netlist, asked.report),
+            trace_sources(asked.netlist, asked.report),
             shelf.reason(),
             stop,
         ),
@@ -192,11 +213,11 @@ fn signature<S: Shelf>(
     alloc: Global,
     shelf: &mut S,
     asked: &SignatureRequest<'_>,
-) -> Result<Answer, NoMemory>
+) -> Result<Response, NoMemory>
     ensures { PreparedNoted CheckSays finishes (RequestSaid (SignatureOf (signature_in asked.now))) S.held S.faults S.leads shelf.old shelf.new (Some (plan_of (SignatureOf (signature_in asked.now)))) result }
 {
-    match load_exercised(alloc, shelf, asked.netlist, asked.runs) {
-        Ok(exercised) => silent(tell_signature(alloc, &exercised, asked.items)),
+    match load_run_files(alloc, shelf, asked.netlist, asked.runs) {
+        Ok(run_files) => silent(tell_signature(alloc, &run_files, asked.items)),
         Err(stop) => stop_at(alloc, runs_sources(asked), shelf.reason(), stop),
     }
 }
@@ -206,15 +227,15 @@ fn trace_table<S: Shelf>(
     alloc: Global,
     shelf: &mut S,
     asked: &TraceRequest<'_>,
-) -> Result<Answer, NoMemory>
+) -> Result<Response, NoMemory>
     ensures { PreparedNoted CheckSays finishes (RequestSaid (TraceTableOf (trace_in asked.now))) S.held S.faults S.leads shelf.old shelf.new (Some (plan_of (TraceTableOf (trace_in asked.now)))) result }
 {
     let only = asked.only.as_slice();
     match load_picked(alloc, shelf, asked.netlist, asked.report, only) {
-        Ok(traced) => silent(tell_table(alloc, &traced, only)),
+        Ok(trace_files) => silent(tell_table(alloc, &trace_files, only)),
         Err(stop) => stop_at(
             alloc,
-            traced_sources(asked.netlist, asked.report),
+            trace_sources(asked.netlist, asked.report),
             shelf.reason(),
             stop,
         ),
@@ -222,17 +243,21 @@ fn trace_table<S: Shelf>(
 }
 
 /// The answer to `steps` as a table.
-fn steps_table<S: Shelf>(alloc: Global, shelf: &mut S, report: &str) -> Result<Answer, NoMemory>
+fn steps_table<S: Shelf>(alloc: Global, shelf: &mut S, report: &str) -> Result<Response, NoMemory>
     ensures { PreparedNoted CheckSays finishes (RequestSaid (StepsTableOf report.now)) S.held S.faults S.leads shelf.old shelf.new (Some (plan_of (StepsTableOf report.now))) result }
 {
     match load_report(alloc, shelf, report) {
-        Ok(told) => silent(tell_steps_table(alloc, &told)),
+        Ok(content) => silent(tell_steps_table(alloc, &content)),
         Err(stop) => stop_at(alloc, report_source(report), shelf.reason(), stop),
     }
 }
 
 /// The answer to `keys`.
-fn keys<S: Shelf>(alloc: Global, shelf: &mut S, asked: &KeysRequest<'_>) -> Result<Answer, NoMemory>
+fn keys<S: Shelf>(
+    alloc: Global,
+    shelf: &mut S,
+    asked: &KeysRequest<'_>,
+) -> Result<Response, NoMemory>
     ensures { PreparedNoted CheckSays finishes (RequestSaid (KeysOf (keys_in asked.now))) S.held S.faults S.leads shelf.old shelf.new (Some (plan_of (KeysOf (keys_in asked.now)))) result }
 {
     let names = asked.names.as_slice();
@@ -247,7 +272,7 @@ fn unscan<S: Shelf>(
     alloc: Global,
     shelf: &mut S,
     asked: &UnscanRequest<'_>,
-) -> Result<Answer, NoMemory>
+) -> Result<Response, NoMemory>
     ensures { PreparedNoted CheckSays finishes (RequestSaid (UnscanOf (unscan_in asked.now))) S.held S.faults S.leads shelf.old shelf.new (Some (plan_of (UnscanOf (unscan_in asked.now)))) result }
 {
     match load_scanned(
@@ -272,11 +297,16 @@ fn cnf<S: Shelf>(
     alloc: Global,
     shelf: &mut S,
     asked: &EvidenceRequest<'_>,
-) -> Result<Answer, NoMemory>
+) -> Result<Response, NoMemory>
     ensures { PreparedNoted CheckSays finishes (RequestSaid (CnfOf (evidence_in asked.now))) S.held S.faults S.leads shelf.old shelf.new (Some (plan_of (CnfOf (evidence_in asked.now)))) result }
 {
-    match load_listed(alloc, shelf, asked.netlist, asked.signature, asked.report) {
-        Ok(listed) => silent(tell_evidence(alloc, Format::Clauses, &listed, asked.step)),
+    match load_report_files(alloc, shelf, asked.netlist, asked.signature, asked.report) {
+        Ok(report_files) => silent(tell_evidence(
+            alloc,
+            Format::Clauses,
+            &report_files,
+            asked.step,
+        )),
         Err(stop) => stop_at(alloc, evidence_sources(asked), shelf.reason(), stop),
     }
 }
@@ -286,24 +316,28 @@ fn lrat<S: Shelf>(
     alloc: Global,
     shelf: &mut S,
     asked: &EvidenceRequest<'_>,
-) -> Result<Answer, NoMemory>
+) -> Result<Response, NoMemory>
     ensures { PreparedNoted CheckSays finishes (RequestSaid (LratOf (evidence_in asked.now))) S.held S.faults S.leads shelf.old shelf.new (Some (plan_of (LratOf (evidence_in asked.now)))) result }
 {
-    match load_listed(alloc, shelf, asked.netlist, asked.signature, asked.report) {
-        Ok(listed) => silent(tell_evidence(alloc, Format::Proof, &listed, asked.step)),
+    match load_report_files(alloc, shelf, asked.netlist, asked.signature, asked.report) {
+        Ok(report_files) => silent(tell_evidence(alloc, Format::Proof, &report_files, asked.step)),
         Err(stop) => stop_at(alloc, evidence_sources(asked), shelf.reason(), stop),
     }
 }
 
 /// The answer to `page`.
-fn page<S: Shelf>(alloc: Global, shelf: &mut S, asked: &PageRequest<'_>) -> Result<Answer, NoMemory>
+fn page<S: Shelf>(
+    alloc: Global,
+    shelf: &mut S,
+    asked: &PageRequest<'_>,
+) -> Result<Response, NoMemory>
     ensures { PreparedNoted CheckSays finishes (RequestSaid (PageOf (page_in asked.now))) S.held S.faults S.leads shelf.old shelf.new (Some (plan_of (PageOf (page_in asked.now)))) result }
 {
     let only = asked.only.as_slice();
     match load_picked(alloc, shelf, asked.netlist, asked.report, only) {
-        Ok(traced) => silent(tell_page(
+        Ok(trace_files) => silent(tell_page(
             alloc,
-            &traced,
+            &trace_files,
             asked.netlist,
             asked.report,
             only,
@@ -311,7 +345,7 @@ fn page<S: Shelf>(alloc: Global, shelf: &mut S, asked: &PageRequest<'_>) -> Resu
         )),
         Err(stop) => stop_at(
             alloc,
-            traced_sources(asked.netlist, asked.report),
+            trace_sources(asked.netlist, asked.report),
             shelf.reason(),
             stop,
         ),
@@ -323,7 +357,7 @@ fn novel<S: Shelf>(
     alloc: Global,
     shelf: &mut S,
     asked: &NovelRequest<'_>,
-) -> Result<Answer, NoMemory>
+) -> Result<Response, NoMemory>
     ensures { PreparedNoted CheckSays finishes (RequestSaid (NovelOf (novel_in asked.now))) S.held S.faults S.leads shelf.old shelf.new (Some (plan_of (NovelOf (novel_in asked.now)))) result }
 {
     match load_one_run(alloc, shelf, asked.netlist, asked.runs, asked.run) {
@@ -337,7 +371,7 @@ pub(crate) fn request_answer<S: Shelf>(
     alloc: Global,
     request: &Request<'_>,
     shelf: &mut S,
-) -> Result<Answer, NoMemory>
+) -> Result<Response, NoMemory>
     ensures { PreparedNoted CheckSays finishes (RequestSaid (request_in request.now)) S.held S.faults S.leads shelf.old shelf.new
         (Some (plan_of (request_in request.now))) result }
 {

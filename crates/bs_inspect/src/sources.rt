@@ -3,15 +3,15 @@ ghost use Rattle.std.specs.Prelude.{◌≡◌, ◌++◌, [], map, option_map, st
 ghost use Rattle.std.specs.List.{flat_map};
 ghost use Rattle.std.specs.Option.{unwrap_or};
 ghost use Rattle.bs_top_plan.specs.Prepared.{AnswersStop};
-ghost use Rattle.bs_top_plan.specs.Told.{line_stop, note_stop};
+ghost use Rattle.bs_top_plan.specs.Diagnostic.{line_stop, note_stop};
 ghost use Rattle.bs_top_answer.specs.Stops.{stop_file, StopNoted};
 ghost use Rattle.bs_inspect_words.specs.Asked.{dump_in, evidence_in, novel_in, signature_in};
-ghost use Rattle.bs_inspect.specs.Sources.{behind_piece, chain_sources, dump_sources, evidence_sources, joined, named_values, netlist_source, novel_sources, report_source, runs_sources, source_of, sources_in, traced_sources};
+ghost use Rattle.bs_inspect.specs.Sources.{behind_piece, chain_sources, dump_sources, evidence_sources, joined, named_values, netlist_source, novel_sources, report_source, runs_sources, source_of, sources_in, trace_sources};
 
 use bs_inspect_words::{DumpRequest, EvidenceRequest, NovelRequest, SignatureRequest};
 use bs_outside::NoMemory;
-use bs_top_answer::{Answer, stop_file, stopped_at};
-use bs_top_plan::{File, Stop};
+use bs_top_answer::{Response, stop_file, stopped_at};
+use bs_top_plan::{File, WalkStop};
 use std::alloc::Global;
 use std::io::ErrorKind;
 
@@ -70,8 +70,8 @@ pub fn report_source<'a>(report: &'a str) -> Sources<'a>
 }
 
 /// A netlist and a report.
-pub fn traced_sources<'a>(netlist: &'a str, report: &'a str) -> Sources<'a>
-    ensures { sources_in result ≡ traced_sources netlist.now report.now }
+pub fn trace_sources<'a>(netlist: &'a str, report: &'a str) -> Sources<'a>
+    ensures { sources_in result ≡ trace_sources netlist.now report.now }
 {
     Sources {
         netlist,
@@ -211,7 +211,7 @@ fn joined(alloc: Global, names: &[&str]) -> Result<String, NoMemory>
 
 /// The name of the file at which a walk stopped.
 #[tactic(auto, using(bs_top_answer::proofs::NoteLemmas::path_there, bs_top_answer::proofs::NoteLemmas::path_none))]
-fn stop_source<'a>(sources: &Sources<'a>, stop: &Stop) -> &'a str
+fn stop_source<'a>(sources: &Sources<'a>, stop: &WalkStop) -> &'a str
     ensures { IfSome (stop_file stop.now) (λ file. result.now ≡ source_of (sources_in sources.now) file) }
 {
     match stop_file(stop) {
@@ -225,8 +225,8 @@ pub fn stop_at(
     alloc: Global,
     sources: Sources<'_>,
     kind: Option<ErrorKind>,
-    stop: Stop,
-) -> Result<Answer, NoMemory>
+    stop: WalkStop,
+) -> Result<Response, NoMemory>
     ensures reply { IfOk result (λ answer. AnswersStop (line_stop stop) answer.reply.status answer.reply.text.items) }
     ensures note { IfOk result (λ answer. StopNoted (source_of (sources_in sources.entry)) (note_stop stop) answer.note) }
 {
@@ -242,8 +242,8 @@ pub fn stop_values(
     names: Option<&str>,
     vcds: &[&str],
     kind: Option<ErrorKind>,
-    stop: Stop,
-) -> Result<Answer, NoMemory>
+    stop: WalkStop,
+) -> Result<Response, NoMemory>
     ensures reply { IfOk result (λ answer. AnswersStop (line_stop stop) answer.reply.status answer.reply.text.items) }
     ensures note { IfOk result (λ answer. StopNoted (source_of (named_values netlist.now (option_map (λ s. s.now) names.entry) (joined (map (λ s. s.now) vcds.now)))) (note_stop stop) answer.note) }
 {

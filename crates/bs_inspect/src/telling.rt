@@ -3,11 +3,11 @@ ghost use Rattle.std.specs.Prelude.{◌≡◌, ◌<◌, map, IfOk};
 ghost use Rattle.bs_stim.specs.Runs.{inputs_of};
 ghost use Rattle.bs_scan.specs.Moments.{IsMoment};
 ghost use Rattle.bs_inspect_novel.specs.Novel.{TellsNovel};
-ghost use Rattle.bs_inspect_files.specs.Taken.{one_run_in, exercised_in, listed_in, traced_in};
+ghost use Rattle.bs_inspect_files.specs.Taken.{one_run_in, run_files_in, report_files_in, trace_files_in};
 ghost use Rattle.bs_inspect_values.specs.Dumped.{dumped_in};
 ghost use Rattle.bs_inspect_values.specs.Simulated.{simulated_in};
 ghost use Rattle.bs_inspect_files.specs.FlopFiles.{scanned_in};
-ghost use Rattle.bs_inspect_netlist.specs.Dumped.{dump_told};
+ghost use Rattle.bs_inspect_netlist.specs.Dumped.{dump_lines};
 ghost use Rattle.bs_inspect_netlist.specs.Order.{state_line};
 ghost use Rattle.bs_inspect_view.specs.View.{IsDrawing};
 ghost use Rattle.bs_evidence.specs.Words.{flaw_text};
@@ -17,14 +17,16 @@ ghost use Rattle.bs_inspect.specs.Work.{to_dump, to_evidence, to_flops, to_help,
 
 use crate::usage::{usage_text, version_text};
 use bs_evidence::{Evidence, Flaw, Format, evidence_of, flaw_text};
-use bs_inspect_files::{Exercised, Listed, OneRun, Scanned, Traced};
+use bs_inspect_files::{OneRun, ReportFiles, RunFiles, Scanned, TraceFiles};
 use bs_inspect_lists::signature_text;
-use bs_inspect_netlist::{flops_text, inputs_text, keys_text, last_dump, last_state, state_text, stats_text};
+use bs_inspect_netlist::{
+    flops_text, inputs_text, keys_text, last_dump, last_state, state_text, stats_text,
+};
 use bs_inspect_novel::novel_text;
-use bs_inspect_page::{PageAsked, page_text};
+use bs_inspect_page::{PageOptions, page_text};
 use bs_inspect_report::{remarks_text, steps_table, steps_text, trace_table, trace_text};
 use bs_inspect_values::{Dumped, Simulated, runs_text};
-use bs_inspect_view::{Asked, drawing};
+use bs_inspect_view::{ViewRequest, drawing};
 use bs_net::Netlist;
 use bs_outside::NoMemory;
 use bs_report::Report;
@@ -101,13 +103,13 @@ pub(crate) fn tell_steps(alloc: Global, report: &Report) -> Result<Reply, NoMemo
 /// The trace of a report with the names of a netlist.
 pub(crate) fn tell_trace(
     alloc: Global,
-    traced: &Traced,
+    trace_files: &TraceFiles,
     all: bool,
     only: &[&str],
 ) -> Result<Reply, NoMemory>
-    ensures { IfOk result (λ answer. finishes (to_trace all (map (λ s. s.now) only.now) (traced_in traced.now)) answer.status answer.text.items) }
+    ensures { IfOk result (λ answer. finishes (to_trace all (map (λ s. s.now) only.now) (trace_files_in trace_files.now)) answer.status answer.text.items) }
 {
-    let text = trace_text(alloc, &traced.net, &traced.report, all, only)?;
+    let text = trace_text(alloc, &trace_files.net, &trace_files.report, all, only)?;
     Ok(Reply {
         status: Status::Done,
         text,
@@ -130,8 +132,8 @@ pub(crate) fn tell_runs(
 }
 
 /// The state of a dump alone, or with a signature the whole dump.
-fn dump_told(alloc: Global, dumped: &Dumped) -> Result<Vec<u8>, NoMemory>
-    ensures { IfOk result (λ text. text.items ≡ dump_told (dumped_in dumped.now).choice (dumped_in dumped.now).states) }
+fn dump_lines(alloc: Global, dumped: &Dumped) -> Result<Vec<u8>, NoMemory>
+    ensures { IfOk result (λ text. text.items ≡ dump_lines (dumped_in dumped.now).choice (dumped_in dumped.now).states) }
 {
     match dumped {
         Dumped::Plain(taken) => last_state(alloc, &taken.states),
@@ -143,7 +145,7 @@ fn dump_told(alloc: Global, dumped: &Dumped) -> Result<Vec<u8>, NoMemory>
 pub(crate) fn tell_dump(alloc: Global, dumped: &Dumped) -> Result<Reply, NoMemory>
     ensures { IfOk result (λ answer. finishes (to_dump (dumped_in dumped.now)) answer.status answer.text.items) }
 {
-    let text = dump_told(alloc, dumped)?;
+    let text = dump_lines(alloc, dumped)?;
     Ok(Reply {
         status: Status::Done,
         text,
@@ -153,15 +155,15 @@ pub(crate) fn tell_dump(alloc: Global, dumped: &Dumped) -> Result<Reply, NoMemor
 /// The text of the waveform of a report's trace, with these comments.
 fn drawn(
     alloc: Global,
-    traced: &Traced,
+    trace_files: &TraceFiles,
     from: u64,
     all: bool,
     only: &[&str],
     remarks: &[u8],
 ) -> Result<Vec<u8>, NoMemory>
-    ensures { IfOk result (λ text. IsDrawing traced.now.net.raw (drawing_of from all (map (λ s. s.now) only.now) remarks.now) traced.now.report.states traced.now.report.inputs text.items) }
+    ensures { IfOk result (λ text. IsDrawing trace_files.now.net.raw (drawing_of from all (map (λ s. s.now) only.now) remarks.now) trace_files.now.report.states trace_files.now.report.inputs text.items) }
 {
-    let asked = Asked {
+    let asked = ViewRequest {
         from,
         all,
         only,
@@ -169,9 +171,9 @@ fn drawn(
     };
     let text = drawing(
         alloc,
-        &traced.net,
-        &traced.report.states,
-        &traced.report.inputs,
+        &trace_files.net,
+        &trace_files.report.states,
+        &trace_files.report.inputs,
         &asked,
     )?;
     Ok(text)
@@ -180,15 +182,15 @@ fn drawn(
 /// The waveform of a report's trace from a cycle on, with where its states come from as comments.
 pub(crate) fn tell_wave(
     alloc: Global,
-    traced: &Traced,
+    trace_files: &TraceFiles,
     from: u64,
     all: bool,
     only: &[&str],
 ) -> Result<Reply, NoMemory>
-    ensures { IfOk result (λ answer. finishes (to_wave from all (map (λ s. s.now) only.now) (traced_in traced.now)) answer.status answer.text.items) }
+    ensures { IfOk result (λ answer. finishes (to_wave from all (map (λ s. s.now) only.now) (trace_files_in trace_files.now)) answer.status answer.text.items) }
 {
-    let remarks = remarks_text(alloc, &traced.report)?;
-    let text = drawn(alloc, traced, from, all, only, remarks.as_slice())?;
+    let remarks = remarks_text(alloc, &trace_files.report)?;
+    let text = drawn(alloc, trace_files, from, all, only, remarks.as_slice())?;
     Ok(Reply {
         status: Status::Done,
         text,
@@ -198,13 +200,13 @@ pub(crate) fn tell_wave(
 /// A signature of so many items that recorded runs propose, and the lists that it leads to.
 pub(crate) fn tell_signature(
     alloc: Global,
-    exercised: &Exercised,
+    run_files: &RunFiles,
     items: u64,
 ) -> Result<Reply, NoMemory>
     requires { 0 < items }
-    ensures { IfOk result (λ answer. finishes (to_signature items (exercised_in exercised.now)) answer.status answer.text.items) }
+    ensures { IfOk result (λ answer. finishes (to_signature items (run_files_in run_files.now)) answer.status answer.text.items) }
 {
-    let text = signature_text(alloc, &exercised.net, &exercised.runs, items as usize)?;
+    let text = signature_text(alloc, &run_files.net, &run_files.runs, items as usize)?;
     Ok(Reply {
         status: Status::Done,
         text,
@@ -212,10 +214,14 @@ pub(crate) fn tell_signature(
 }
 
 /// The trace of a report as a table.
-pub(crate) fn tell_table(alloc: Global, traced: &Traced, only: &[&str]) -> Result<Reply, NoMemory>
-    ensures { IfOk result (λ answer. finishes (to_table (map (λ s. s.now) only.now) (traced_in traced.now)) answer.status answer.text.items) }
+pub(crate) fn tell_table(
+    alloc: Global,
+    trace_files: &TraceFiles,
+    only: &[&str],
+) -> Result<Reply, NoMemory>
+    ensures { IfOk result (λ answer. finishes (to_table (map (λ s. s.now) only.now) (trace_files_in trace_files.now)) answer.status answer.text.items) }
 {
-    let text = trace_table(alloc, &traced.net, &traced.report, only)?;
+    let text = trace_table(alloc, &trace_files.net, &trace_files.report, only)?;
     Ok(Reply {
         status: Status::Done,
         text,
@@ -293,17 +299,17 @@ fn tell_found(alloc: Global, evidence: Evidence) -> Result<Reply, NoMemory>
 pub(crate) fn tell_evidence(
     alloc: Global,
     kind: Format,
-    listed: &Listed,
+    report_files: &ReportFiles,
     step: u64,
 ) -> Result<Reply, NoMemory>
-    ensures { IfOk result (λ answer. finishes (to_evidence kind step (listed_in listed.now)) answer.status answer.text.items) }
+    ensures { IfOk result (λ answer. finishes (to_evidence kind step (report_files_in report_files.now)) answer.status answer.text.items) }
 {
     let found = evidence_of(
         alloc,
         kind,
-        &listed.net,
-        &listed.choice,
-        &listed.report,
+        &report_files.net,
+        &report_files.choice,
+        &report_files.report,
         step,
     )?;
     let reply = tell_found(alloc, found)?;
@@ -313,21 +319,21 @@ pub(crate) fn tell_evidence(
 /// A report as a page.
 pub(crate) fn tell_page(
     alloc: Global,
-    traced: &Traced,
+    trace_files: &TraceFiles,
     netlist: &str,
     report: &str,
     only: &[&str],
     most: u64,
 ) -> Result<Reply, NoMemory>
-    ensures { IfOk result (λ answer. finishes (to_page (page_for netlist.now report.now (map (λ s. s.now) only.now) most) (traced_in traced.now)) answer.status answer.text.items) }
+    ensures { IfOk result (λ answer. finishes (to_page (page_for netlist.now report.now (map (λ s. s.now) only.now) most) (trace_files_in trace_files.now)) answer.status answer.text.items) }
 {
-    let asked = PageAsked {
+    let asked = PageOptions {
         netlist,
         report,
         only,
         most,
     };
-    let text = page_text(alloc, &traced.net, &traced.report, &asked)?;
+    let text = page_text(alloc, &trace_files.net, &trace_files.report, &asked)?;
     Ok(Reply {
         status: Status::Done,
         text,
@@ -336,16 +342,16 @@ pub(crate) fn tell_page(
 
 /// The text of the values that the run of a moment alone has.
 #[tactic(auto, using(crate::proofs::WorkLemmas::run_first, crate::proofs::WorkLemmas::run_there))]
-fn novel_told(
+fn novel_lines(
     alloc: Global,
-    exercised: &Exercised,
+    run_files: &RunFiles,
     moment: Moment,
     most: u64,
 ) -> Result<Vec<u8>, NoMemory>
-    requires { IsMoment (inputs_of exercised.now.runs) moment }
-    ensures { IfOk result (λ text. TellsNovel exercised.now.net.raw exercised.now.runs moment.run most text.items) }
+    requires { IsMoment (inputs_of run_files.now.runs) moment }
+    ensures { IfOk result (λ text. TellsNovel run_files.now.net.raw run_files.now.runs moment.run most text.items) }
 {
-    let text = novel_text(alloc, &exercised.net, &exercised.runs, moment.run, most)?;
+    let text = novel_text(alloc, &run_files.net, &run_files.runs, moment.run, most)?;
     Ok(text)
 }
 
@@ -353,7 +359,7 @@ fn novel_told(
 pub(crate) fn tell_novel(alloc: Global, one_run: &OneRun, most: u64) -> Result<Reply, NoMemory>
     ensures { IfOk result (λ answer. finishes (to_novel most (one_run_in one_run.now)) answer.status answer.text.items) }
 {
-    let text = novel_told(alloc, &one_run.exercised, one_run.moment, most)?;
+    let text = novel_lines(alloc, &one_run.run_files, one_run.moment, most)?;
     Ok(Reply {
         status: Status::Done,
         text,

@@ -21,18 +21,18 @@ use crate::asking::request_answer;
 use bs_inspect_notes::words_note;
 use bs_inspect_words::{Request, read_request};
 use bs_outside::{Deaf, NoMemory, Shelf, Sink, put_text};
-use bs_top_answer::{Answer, deliver_noted, note_made};
+use bs_top_answer::{Response, deliver_noted, note_made};
 use bs_top_plan::{Status, refused_words};
 use std::alloc::Global;
 
 /// The answer to words that are no request, and the note on what is wrong with them.
-fn words_answer(alloc: Global, words: &[String]) -> Result<Answer, NoMemory>
+fn words_answer(alloc: Global, words: &[String]) -> Result<Response, NoMemory>
     ensures reply { IfOk result (λ answer. RefusesWords answer.reply.status answer.reply.text.items) }
     ensures note { IfOk result (λ answer. Due (λ said. said ≡ words_text (map string_bytes words.now)) answer.note) }
 {
     let reply = refused_words(alloc)?;
     let note = note_made(words_note(alloc, words));
-    Ok(Answer { reply, note })
+    Ok(Response { reply, note })
 }
 
 /// The answer to words, by the request that they are.
@@ -41,7 +41,7 @@ fn asked_answer<S: Shelf>(
     words: &[String],
     asked: Option<Request<'_>>,
     shelf: &mut S,
-) -> Result<Answer, NoMemory>
+) -> Result<Response, NoMemory>
     ensures { PreparedNoted CheckSays finishes (WordsSaid (map string_bytes words.now) (shown_request asked.entry)) S.held S.faults S.leads
         shelf.old shelf.new (option_map plan_of (shown_request asked.entry)) result }
 {
@@ -55,7 +55,7 @@ fn asked_answer<S: Shelf>(
 }
 
 /// What is to be answered and written, and what is to be said.
-fn prepare<S: Shelf>(alloc: Global, words: &[String], shelf: &mut S) -> Result<Answer, NoMemory>
+fn prepare<S: Shelf>(alloc: Global, words: &[String], shelf: &mut S) -> Result<Response, NoMemory>
     ensures { PreparedNoted CheckSays finishes (WordsSaid (map string_bytes words.now) (request_of (map string_bytes words.now))) S.held S.faults S.leads
         shelf.old shelf.new (planned (map string_bytes words.now)) result }
 {

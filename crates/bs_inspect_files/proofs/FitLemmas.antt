@@ -42,46 +42,46 @@ all_fit width lists e = by (nat_lt (position_or_len (other width) lists) (length
 -- ---- what is told
 
 -- the words and the note of one refusal
-pub words_told : {T V : Type 0} (view : T → V) (these : List ℕ) (q : Refusal) → HasWords these q →
+pub words_diagnostic : {T V : Type 0} (view : T → V) (these : List ℕ) (q : Refusal) → HasWords these q →
     Reads {R = Case} {T = T} CheckSays view (Err (exactly these)) (Err q)
-words_told view these Q.NoMemory h = tt
-words_told view these (Q.Why why) h = h
+words_diagnostic view these Q.NoMemory h = tt
+words_diagnostic view these (Q.Why why) h = h
 
-pub note_told : {T V : Type 0} (view : T → V) (text : List ℕ) (q : Refusal) → HasNote (exactly text) q →
+pub note_diagnostic : {T V : Type 0} (view : T → V) (text : List ℕ) (q : Refusal) → HasNote (exactly text) q →
     Reads {R = NoteCase} {T = T} NoteSays view (Err (exactly text)) (Err q)
-note_told view text Q.NoMemory h = tt
-note_told view text (Q.Why why) h = h
+note_diagnostic view text Q.NoMemory h = tt
+note_diagnostic view text (Q.Why why) h = h
 
 -- a name that is not known
 pub known_words : {T : Type 0} (view : T → Bool) (first : Option (List ℕ)) (name : List ℕ) (q : Refusal) → Some name ≡ first →
     HasWords (name_words name) q → Reads CheckSays view (known_of first) (Err q)
 known_words {T = T} view first name q e h =
-    subst (λ (o : Option (List ℕ)). Reads {T = T} CheckSays view (known_of o) (Err q)) e (words_told view (name_words name) q h)
+    subst (λ (o : Option (List ℕ)). Reads {T = T} CheckSays view (known_of o) (Err q)) e (words_diagnostic view (name_words name) q h)
 
 pub known_note : {T : Type 0} (view : T → Bool) (keys : List (List ℕ)) (first : Option (List ℕ)) (name : List ℕ) (q : Refusal) → Some name ≡ first →
     HasNote (exactly (name_text name keys)) q → Reads NoteSays view (known_said keys first) (Err q)
 known_note {T = T} view keys first name q e h =
-    subst (λ (o : Option (List ℕ)). Reads {T = T} NoteSays view (known_said keys o) (Err q)) e (note_told view (name_text name keys) q h)
+    subst (λ (o : Option (List ℕ)). Reads {T = T} NoteSays view (known_said keys o) (Err q)) e (note_diagnostic view (name_text name keys) q h)
 
 -- a state or an input that does not fit
 pub state_words : {T : Type 0} (view : T → Bool) (state input : Option ℕ) (place : ℕ) (q : Refusal) → Some place ≡ state →
     HasWords (codes "TraceState " ++ decimal place) q → Reads CheckSays view (fit_of state input) (Err q)
 state_words {T = T} view state input place q e h =
-    subst (λ (o : Option ℕ). Reads {T = T} CheckSays view (fit_of o input) (Err q)) e (words_told view (codes "TraceState " ++ decimal place) q h)
+    subst (λ (o : Option ℕ). Reads {T = T} CheckSays view (fit_of o input) (Err q)) e (words_diagnostic view (codes "TraceState " ++ decimal place) q h)
 
 pub state_note : {T : Type 0} (view : T → Bool) (path : List ℕ) (state input : Option ℕ) (place : ℕ) (q : Refusal) → Some place ≡ state →
     HasNote (exactly (state_text path place)) q → Reads NoteSays view (fit_said path state input) (Err q)
 state_note {T = T} view path state input place q e h =
-    subst (λ (o : Option ℕ). Reads {T = T} NoteSays view (fit_said path o input) (Err q)) e (note_told view (state_text path place) q h)
+    subst (λ (o : Option ℕ). Reads {T = T} NoteSays view (fit_said path o input) (Err q)) e (note_diagnostic view (state_text path place) q h)
 
 pub input_words : {T : Type 0} (view : T → Bool) (state input : Option ℕ) (place : ℕ) (q : Refusal) → None ≡ state → Some place ≡ input →
     HasWords (codes "TraceInput " ++ decimal place) q → Reads CheckSays view (fit_of state input) (Err q)
 input_words {T = T} view state input place q none e h =
     subst (λ (o : Option ℕ). Reads {T = T} CheckSays view (fit_of o input) (Err q)) none
-    (subst (λ (o : Option ℕ). Reads {T = T} CheckSays view (fit_of None o) (Err q)) e (words_told view (codes "TraceInput " ++ decimal place) q h))
+    (subst (λ (o : Option ℕ). Reads {T = T} CheckSays view (fit_of None o) (Err q)) e (words_diagnostic view (codes "TraceInput " ++ decimal place) q h))
 
 pub input_note : {T : Type 0} (view : T → Bool) (path : List ℕ) (state input : Option ℕ) (place : ℕ) (q : Refusal) → None ≡ state → Some place ≡ input →
     HasNote (exactly (trace_text path place)) q → Reads NoteSays view (fit_said path state input) (Err q)
 input_note {T = T} view path state input place q none e h =
     subst (λ (o : Option ℕ). Reads {T = T} NoteSays view (fit_said path o input) (Err q)) none
-    (subst (λ (o : Option ℕ). Reads {T = T} NoteSays view (fit_said path None o) (Err q)) e (note_told view (trace_text path place) q h))
+    (subst (λ (o : Option ℕ). Reads {T = T} NoteSays view (fit_said path None o) (Err q)) e (note_diagnostic view (trace_text path place) q h))

@@ -17,208 +17,208 @@ use Rattle.bs_inspect_files.specs.Readings.{called_in, called_noted}
 use Rattle.bs_inspect_files.specs.Fits.{fit_in, known_in}
 use Rattle.bs_inspect_files.specs.Saying.{fit_noted, known_noted}
 use Rattle.bs_inspect_files.specs.declared.ready.OneRun.{OneRun as CodeOneRun}
-use Rattle.bs_inspect_files.specs.declared.ready.Traced.{Traced as CodeTraced}
-use Rattle.bs_inspect_files.specs.declared.ready.Exercised.{Exercised as CodeExercised}
-use Rattle.bs_inspect_files.specs.declared.ready.Listed.{Listed as CodeListed}
+use Rattle.bs_inspect_files.specs.declared.ready.TraceFiles.{TraceFiles as CodeTraceFiles}
+use Rattle.bs_inspect_files.specs.declared.ready.RunFiles.{RunFiles as CodeRunFiles}
+use Rattle.bs_inspect_files.specs.declared.ready.ReportFiles.{ReportFiles as CodeReportFiles}
 
 -- a netlist's parts, and a report whose trace fits them
-pub record Traced : Type 0 where
+pub record TraceFiles : Type 0 where
   pub raw : Parts
   pub report : Report
 
 -- two files, and last whether the trace of the report fits the netlist
-abbrev pub traced_of : (netlist report : List ℕ) → Plan Case Traced
-traced_of netlist report = do
+abbrev pub trace_files_of : (netlist report : List ℕ) → Plan Case TraceFiles
+trace_files_of netlist report = do
   raw ← netlist_of netlist
-  told ← report_of report
-  fits ← read_as files.Report (fit_in raw told)
-  end record { raw = raw; report = told }
+  content ← report_of report
+  fits ← read_as files.Report (fit_in raw content)
+  end record { raw = raw; report = content }
 
-abbrev pub traced_in : CodeTraced → Traced
-traced_in t = record { raw = t.net.raw; report = t.report }
+abbrev pub trace_files_in : CodeTraceFiles → TraceFiles
+trace_files_in t = record { raw = t.net.raw; report = t.report }
 
 -- the same, and last whether the netlist has these names
-abbrev pub picked_of : (netlist report : List ℕ) → List (List ℕ) → Plan Case Traced
+abbrev pub picked_of : (netlist report : List ℕ) → List (List ℕ) → Plan Case TraceFiles
 picked_of netlist report only = do
-  traced ← traced_of netlist report
-  known ← read_as files.Name (known_in traced.raw only)
-  end traced
+  trace_files ← trace_files_of netlist report
+  known ← read_as files.Name (known_in trace_files.raw only)
+  end trace_files
 
 -- the same, then whether a waveform of the trace is not too large, and last whether nets have these names
-abbrev pub charted_of : (netlist report : List ℕ) → List (List ℕ) → Plan Case Traced
+abbrev pub charted_of : (netlist report : List ℕ) → List (List ℕ) → Plan Case TraceFiles
 charted_of netlist report only = do
-  traced ← traced_of netlist report
-  small ← read_as files.Report (size_in traced.raw traced.report)
-  known ← read_as files.Name (called_in traced.raw only)
-  end traced
+  trace_files ← trace_files_of netlist report
+  small ← read_as files.Report (size_in trace_files.raw trace_files.report)
+  known ← read_as files.Name (called_in trace_files.raw only)
+  end trace_files
 
 -- a netlist's parts, and recorded runs
-pub record Exercised : Type 0 where
+pub record RunFiles : Type 0 where
   pub raw : Parts
   pub runs : Runs
 
 -- two files
-abbrev pub exercised_of : (netlist stimulus : List ℕ) → Plan Case Exercised
-exercised_of netlist stimulus = do
+abbrev pub run_files_of : (netlist stimulus : List ℕ) → Plan Case RunFiles
+run_files_of netlist stimulus = do
   raw ← netlist_of netlist
   runs ← stimulus_of raw stimulus
   end record { raw = raw; runs = runs }
 
-abbrev pub exercised_in : CodeExercised → Exercised
-exercised_in t = record { raw = t.net.raw; runs = t.runs }
+abbrev pub run_files_in : CodeRunFiles → RunFiles
+run_files_in t = record { raw = t.net.raw; runs = t.runs }
 
 -- a netlist's parts, what its signature is taken of, and a report
-pub record Listed : Type 0 where
+pub record ReportFiles : Type 0 where
   pub raw : Parts
   pub choice : Chosen
   pub report : Report
 
 -- three files
-abbrev pub listed_of : (netlist signature report : List ℕ) → Plan Case Listed
-listed_of netlist signature report = do
+abbrev pub report_files_of : (netlist signature report : List ℕ) → Plan Case ReportFiles
+report_files_of netlist signature report = do
   raw ← netlist_of netlist
   choice ← signature_of raw signature
-  told ← report_of report
-  end record { raw = raw; choice = choice; report = told }
+  content ← report_of report
+  end record { raw = raw; choice = choice; report = content }
 
-abbrev pub listed_in : CodeListed → Listed
-listed_in t = record { raw = t.net.raw; choice = t.choice; report = t.report }
+abbrev pub report_files_in : CodeReportFiles → ReportFiles
+report_files_in t = record { raw = t.net.raw; choice = t.choice; report = t.report }
 
 -- the same, and the beginning of the run with a number
 pub record OneRun : Type 0 where
-  pub exercised : Exercised
+  pub run_files : RunFiles
   pub moment : Moment
 
 -- the same files, and last whether there is such a run
 abbrev pub one_run_of : (netlist stimulus : List ℕ) → ℕ → Plan Case OneRun
 one_run_of netlist stimulus run = do
-  exercised ← exercised_of netlist stimulus
-  moment ← read_as files.Dump (moment_in exercised.runs run 0)
-  end record { exercised = exercised; moment = moment }
+  run_files ← run_files_of netlist stimulus
+  moment ← read_as files.Dump (moment_in run_files.runs run 0)
+  end record { run_files = run_files; moment = moment }
 
 abbrev pub one_run_in : CodeOneRun → OneRun
-one_run_in t = record { exercised = exercised_in t.exercised; moment = t.moment }
+one_run_in t = record { run_files = run_files_in t.run_files; moment = t.moment }
 
 -- ---- the same as the notes see them
 
-abbrev pub listed_looked : (netlist signature report : List ℕ) → Plan NoteCase Listed
-listed_looked netlist signature report = do
+abbrev pub report_files_looked : (netlist signature report : List ℕ) → Plan NoteCase ReportFiles
+report_files_looked netlist signature report = do
   raw ← netlist_looked netlist
   choice ← signature_looked raw signature
-  told ← report_looked report
-  end record { raw = raw; choice = choice; report = told }
+  content ← report_looked report
+  end record { raw = raw; choice = choice; report = content }
 
-abbrev pub traced_looked : (netlist report : List ℕ) → Plan NoteCase Traced
-traced_looked netlist report = do
+abbrev pub trace_files_looked : (netlist report : List ℕ) → Plan NoteCase TraceFiles
+trace_files_looked netlist report = do
   raw ← netlist_looked netlist
-  told ← report_looked report
-  fits ← read_as files.Report (fit_noted report raw told)
-  end record { raw = raw; report = told }
+  content ← report_looked report
+  fits ← read_as files.Report (fit_noted report raw content)
+  end record { raw = raw; report = content }
 
-abbrev pub picked_looked : (netlist report : List ℕ) → List (List ℕ) → Plan NoteCase Traced
+abbrev pub picked_looked : (netlist report : List ℕ) → List (List ℕ) → Plan NoteCase TraceFiles
 picked_looked netlist report only = do
-  traced ← traced_looked netlist report
-  known ← read_as files.Name (known_noted traced.raw only)
-  end traced
+  trace_files ← trace_files_looked netlist report
+  known ← read_as files.Name (known_noted trace_files.raw only)
+  end trace_files
 
-abbrev pub charted_looked : (netlist report : List ℕ) → List (List ℕ) → Plan NoteCase Traced
+abbrev pub charted_looked : (netlist report : List ℕ) → List (List ℕ) → Plan NoteCase TraceFiles
 charted_looked netlist report only = do
-  traced ← traced_looked netlist report
-  small ← read_as files.Report (size_noted report traced.raw traced.report)
-  known ← read_as files.Name (called_noted traced.raw only)
-  end traced
+  trace_files ← trace_files_looked netlist report
+  small ← read_as files.Report (size_noted report trace_files.raw trace_files.report)
+  known ← read_as files.Name (called_noted trace_files.raw only)
+  end trace_files
 
-abbrev pub exercised_looked : (netlist stimulus : List ℕ) → Plan NoteCase Exercised
-exercised_looked netlist stimulus = do
+abbrev pub run_files_looked : (netlist stimulus : List ℕ) → Plan NoteCase RunFiles
+run_files_looked netlist stimulus = do
   raw ← netlist_looked netlist
   runs ← stimulus_looked raw stimulus
   end record { raw = raw; runs = runs }
 
 abbrev pub one_run_looked : (netlist stimulus : List ℕ) → ℕ → Plan NoteCase OneRun
 one_run_looked netlist stimulus run = do
-  exercised ← exercised_looked netlist stimulus
-  moment ← read_as files.Dump (moment_noted exercised.runs run 0)
-  end record { exercised = exercised; moment = moment }
+  run_files ← run_files_looked netlist stimulus
+  moment ← read_as files.Dump (moment_noted run_files.runs run 0)
+  end record { run_files = run_files; moment = moment }
 
 -- ---- what is left of a walk once its first files are read
 
 -- behind the netlist
-abbrev pub report_step : Parts → List ℕ → Plan Case Traced
+abbrev pub report_step : Parts → List ℕ → Plan Case TraceFiles
 report_step raw report = do
-  told ← report_of report
-  fits ← read_as files.Report (fit_in raw told)
-  end record { raw = raw; report = told }
+  content ← report_of report
+  fits ← read_as files.Report (fit_in raw content)
+  end record { raw = raw; report = content }
 
-abbrev pub report_step_looked : Parts → List ℕ → Plan NoteCase Traced
+abbrev pub report_step_looked : Parts → List ℕ → Plan NoteCase TraceFiles
 report_step_looked raw report = do
-  told ← report_looked report
-  fits ← read_as files.Report (fit_noted report raw told)
-  end record { raw = raw; report = told }
+  content ← report_looked report
+  fits ← read_as files.Report (fit_noted report raw content)
+  end record { raw = raw; report = content }
 
-abbrev pub runs_step : Parts → List ℕ → Plan Case Exercised
+abbrev pub runs_step : Parts → List ℕ → Plan Case RunFiles
 runs_step raw stimulus = do
   runs ← stimulus_of raw stimulus
   end record { raw = raw; runs = runs }
 
-abbrev pub runs_step_looked : Parts → List ℕ → Plan NoteCase Exercised
+abbrev pub runs_step_looked : Parts → List ℕ → Plan NoteCase RunFiles
 runs_step_looked raw stimulus = do
   runs ← stimulus_looked raw stimulus
   end record { raw = raw; runs = runs }
 
-abbrev pub choice_step : Parts → (signature report : List ℕ) → Plan Case Listed
+abbrev pub choice_step : Parts → (signature report : List ℕ) → Plan Case ReportFiles
 choice_step raw signature report = do
   choice ← signature_of raw signature
-  told ← report_of report
-  end record { raw = raw; choice = choice; report = told }
+  content ← report_of report
+  end record { raw = raw; choice = choice; report = content }
 
-abbrev pub choice_step_looked : Parts → (signature report : List ℕ) → Plan NoteCase Listed
+abbrev pub choice_step_looked : Parts → (signature report : List ℕ) → Plan NoteCase ReportFiles
 choice_step_looked raw signature report = do
   choice ← signature_looked raw signature
-  told ← report_looked report
-  end record { raw = raw; choice = choice; report = told }
+  content ← report_looked report
+  end record { raw = raw; choice = choice; report = content }
 
 -- behind the signature
-abbrev pub listed_step : Parts → Chosen → List ℕ → Plan Case Listed
-listed_step raw choice report = do
-  told ← report_of report
-  end record { raw = raw; choice = choice; report = told }
+abbrev pub report_files_step : Parts → Chosen → List ℕ → Plan Case ReportFiles
+report_files_step raw choice report = do
+  content ← report_of report
+  end record { raw = raw; choice = choice; report = content }
 
-abbrev pub listed_step_looked : Parts → Chosen → List ℕ → Plan NoteCase Listed
-listed_step_looked raw choice report = do
-  told ← report_looked report
-  end record { raw = raw; choice = choice; report = told }
+abbrev pub report_files_step_looked : Parts → Chosen → List ℕ → Plan NoteCase ReportFiles
+report_files_step_looked raw choice report = do
+  content ← report_looked report
+  end record { raw = raw; choice = choice; report = content }
 
 -- behind the report
-abbrev pub fit_step : Parts → Report → Plan Case Traced
-fit_step raw told = do
-  fits ← read_as files.Report (fit_in raw told)
-  end record { raw = raw; report = told }
+abbrev pub fit_step : Parts → Report → Plan Case TraceFiles
+fit_step raw content = do
+  fits ← read_as files.Report (fit_in raw content)
+  end record { raw = raw; report = content }
 
-abbrev pub fit_step_looked : List ℕ → Parts → Report → Plan NoteCase Traced
-fit_step_looked path raw told = do
-  fits ← read_as files.Report (fit_noted path raw told)
-  end record { raw = raw; report = told }
+abbrev pub fit_step_looked : List ℕ → Parts → Report → Plan NoteCase TraceFiles
+fit_step_looked path raw content = do
+  fits ← read_as files.Report (fit_noted path raw content)
+  end record { raw = raw; report = content }
 
 -- behind the trace that fits
-abbrev pub chart_step : List (List ℕ) → Traced → Plan Case Traced
-chart_step only traced = do
-  small ← read_as files.Report (size_in traced.raw traced.report)
-  known ← read_as files.Name (called_in traced.raw only)
-  end traced
+abbrev pub chart_step : List (List ℕ) → TraceFiles → Plan Case TraceFiles
+chart_step only trace_files = do
+  small ← read_as files.Report (size_in trace_files.raw trace_files.report)
+  known ← read_as files.Name (called_in trace_files.raw only)
+  end trace_files
 
-abbrev pub chart_step_looked : List ℕ → List (List ℕ) → Traced → Plan NoteCase Traced
-chart_step_looked path only traced = do
-  small ← read_as files.Report (size_noted path traced.raw traced.report)
-  known ← read_as files.Name (called_noted traced.raw only)
-  end traced
+abbrev pub chart_step_looked : List ℕ → List (List ℕ) → TraceFiles → Plan NoteCase TraceFiles
+chart_step_looked path only trace_files = do
+  small ← read_as files.Report (size_noted path trace_files.raw trace_files.report)
+  known ← read_as files.Name (called_noted trace_files.raw only)
+  end trace_files
 
 -- behind that
-abbrev pub drawn_step : List (List ℕ) → Traced → Plan Case Traced
-drawn_step only traced = do
-  known ← read_as files.Name (called_in traced.raw only)
-  end traced
+abbrev pub drawn_step : List (List ℕ) → TraceFiles → Plan Case TraceFiles
+drawn_step only trace_files = do
+  known ← read_as files.Name (called_in trace_files.raw only)
+  end trace_files
 
-abbrev pub drawn_step_looked : List (List ℕ) → Traced → Plan NoteCase Traced
-drawn_step_looked only traced = do
-  known ← read_as files.Name (called_noted traced.raw only)
-  end traced
+abbrev pub drawn_step_looked : List (List ℕ) → TraceFiles → Plan NoteCase TraceFiles
+drawn_step_looked only trace_files = do
+  known ← read_as files.Name (called_noted trace_files.raw only)
+  end trace_files

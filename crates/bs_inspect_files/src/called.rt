@@ -1,7 +1,7 @@
-//! Whether the nets of a netlist have names, or what is told of the first that none has.
+//! Whether the nets of a netlist have names, or the diagnostic of the first that none has.
 ghost use Rattle.std.specs.Prelude.{◌≡◌, true, map, IfOk};
 ghost use Rattle.bs_top_plan.specs.Plan.{exactly};
-ghost use Rattle.bs_top_plan.specs.Told.{note_refusal, noted, word_refusal, worded};
+ghost use Rattle.bs_top_plan.specs.Diagnostic.{note_refusal, noted, word_refusal, worded};
 ghost use Rattle.bs_top_plan.specs.Walks.{Reads};
 ghost use Rattle.bs_top_files.specs.NoteCases.{HasNote, NoteSays};
 ghost use Rattle.bs_top_files.specs.Refusals.{CheckSays, HasWords};
@@ -42,9 +42,9 @@ fn unnamed_note(alloc: Global, net: &Netlist, name: &str) -> Result<Vec<u8>, NoM
     Ok(note)
 }
 
-/// What is told of a name that no net has.
+/// The diagnostic of a name that no net has.
 #[tactic(auto, using(bs_top_files::proofs::NotingLemmas::both_words, bs_top_files::proofs::NotingLemmas::both_these))]
-fn unnamed_told(alloc: Global, net: &Netlist, name: &str) -> Unread
+fn unnamed_diagnostic(alloc: Global, net: &Netlist, name: &str) -> Unread
     ensures words { HasWords (unnamed_words name.now) (word_refusal result) }
     ensures note { HasNote (exactly (net_text name.now net.now.raw.names)) (note_refusal result) }
 {
@@ -53,15 +53,15 @@ fn unnamed_told(alloc: Global, net: &Netlist, name: &str) -> Unread
     both(words, note)
 }
 
-/// Whether nets of a netlist have these names, or what is told of the first that none has.
+/// Whether nets of a netlist have these names, or the diagnostic of the first that none has.
 #[tactic(auto, using(crate::proofs::CalledLemmas::called_words, crate::proofs::CalledLemmas::called_note))]
-pub fn called_or_told(alloc: Global, net: &Netlist, names: &[&str]) -> Result<(), Unread>
+pub fn called_or_diagnostic(alloc: Global, net: &Netlist, names: &[&str]) -> Result<(), Unread>
     ensures words { Reads CheckSays (λ _. true) (called_in net.now.raw (map (λ s. s.now) names.now)) (worded result) }
     ensures note { Reads NoteSays (λ _. true) (called_noted net.now.raw (map (λ s. s.now) names.now)) (noted result) }
 {
     match first_unnamed(alloc, net, names) {
         Ok(None) => Ok(()),
-        Ok(Some(name)) => Err(unnamed_told(alloc, net, name)),
+        Ok(Some(name)) => Err(unnamed_diagnostic(alloc, net, name)),
         Err(_) => Err(Unread::NoMemory),
     }
 }

@@ -1,9 +1,9 @@
-//! Whether the trace of a report fits a netlist, and whether names are those of a netlist, or what is told of them.
+//! Whether the trace of a report fits a netlist, and whether names are those of a netlist, or the diagnostic of them.
 ghost use Rattle.std.specs.Prelude.{◌≡◌, ◌==◌, ◌++◌, codes, decimal, length, true, not, map, All, IfOk};
 ghost use Rattle.std.specs.List.{position};
 ghost use Rattle.bs_net.specs.Netlist.{circuit};
 ghost use Rattle.bs_top_plan.specs.Plan.{exactly};
-ghost use Rattle.bs_top_plan.specs.Told.{note_refusal, noted, word_refusal, worded};
+ghost use Rattle.bs_top_plan.specs.Diagnostic.{note_refusal, noted, word_refusal, worded};
 ghost use Rattle.bs_top_plan.specs.Walks.{Reads};
 ghost use Rattle.bs_top_files.specs.NoteCases.{HasNote, NoteSays};
 ghost use Rattle.bs_top_files.specs.Refusals.{CheckSays, HasWords};
@@ -32,9 +32,9 @@ fn misfit(width: usize, lists: &[Bits]) -> Option<usize>
     lists.iter().position(|bits| bits.len() != width)
 }
 
-/// What is told of a state that does not fit.
+/// The diagnostic of a state that does not fit.
 #[tactic(auto, using(bs_top_files::proofs::NotingLemmas::both_words, bs_top_files::proofs::NotingLemmas::both_these))]
-fn state_told(alloc: Global, path: &str, place: u64) -> Unread
+fn state_diagnostic(alloc: Global, path: &str, place: u64) -> Unread
     ensures words { HasWords (codes "TraceState " ++ decimal place) (word_refusal result) }
     ensures note { HasNote (exactly (state_text path.now place)) (note_refusal result) }
 {
@@ -43,9 +43,9 @@ fn state_told(alloc: Global, path: &str, place: u64) -> Unread
     both(words, note)
 }
 
-/// What is told of an input that does not fit.
+/// The diagnostic of an input that does not fit.
 #[tactic(auto, using(bs_top_files::proofs::NotingLemmas::both_words, bs_top_files::proofs::NotingLemmas::both_these))]
-fn trace_told(alloc: Global, path: &str, place: u64) -> Unread
+fn input_diagnostic(alloc: Global, path: &str, place: u64) -> Unread
     ensures words { HasWords (codes "TraceInput " ++ decimal place) (word_refusal result) }
     ensures note { HasNote (exactly (trace_text path.now place)) (note_refusal result) }
 {
@@ -54,19 +54,24 @@ fn trace_told(alloc: Global, path: &str, place: u64) -> Unread
     both(words, note)
 }
 
-/// Whether the trace of a report fits a netlist, or what is told of it.
+/// Whether the trace of a report fits a netlist, or the diagnostic of it.
 #[tactic(auto, using(crate::proofs::FitLemmas::all_fit, crate::proofs::FitLemmas::state_words, crate::proofs::FitLemmas::state_note, crate::proofs::FitLemmas::input_words, crate::proofs::FitLemmas::input_note))]
-pub fn fit_or_told(alloc: Global, path: &str, net: &Netlist, report: &Report) -> Result<(), Unread>
+pub fn fit_or_diagnostic(
+    alloc: Global,
+    path: &str,
+    net: &Netlist,
+    report: &Report,
+) -> Result<(), Unread>
     ensures words { Reads CheckSays (λ _. true) (fit_in net.now.raw report.now) (worded result) }
     ensures note { Reads NoteSays (λ _. true) (fit_noted path.now net.now.raw report.now) (noted result) }
     ensures states { IfOk result (λ _. All (λ s. length s ≡ length (circuit net.now).flops) report.now.states) }
     ensures inputs { IfOk result (λ _. All (λ x. length x ≡ length (circuit net.now).inputs) report.now.inputs) }
 {
     if let Some(place) = misfit(net.width(), report.states.slice()) {
-        return Err(state_told(alloc, path, place as u64));
+        return Err(state_diagnostic(alloc, path, place as u64));
     }
     if let Some(place) = misfit(net.data_inputs().len(), report.inputs.slice()) {
-        return Err(trace_told(alloc, path, place as u64));
+        return Err(input_diagnostic(alloc, path, place as u64));
     }
     Ok(())
 }
@@ -84,9 +89,9 @@ fn unknown_note(alloc: Global, net: &Netlist, name: &str) -> Result<Vec<u8>, NoM
     Ok(note)
 }
 
-/// What is told of a name that is none of a netlist.
+/// The diagnostic of a name that is none of a netlist.
 #[tactic(auto, using(bs_top_files::proofs::NotingLemmas::both_words, bs_top_files::proofs::NotingLemmas::both_these))]
-fn unknown_told(alloc: Global, net: &Netlist, name: &str) -> Unread
+fn unknown_diagnostic(alloc: Global, net: &Netlist, name: &str) -> Unread
     ensures words { HasWords (name_words name.now) (word_refusal result) }
     ensures note { HasNote (exactly (name_text name.now (all_keys net.now.raw))) (note_refusal result) }
 {
@@ -95,15 +100,15 @@ fn unknown_told(alloc: Global, net: &Netlist, name: &str) -> Unread
     both(words, note)
 }
 
-/// Whether a netlist has these names, or what is told of the first that it has not.
+/// Whether a netlist has these names, or the diagnostic of the first that it has not.
 #[tactic(auto, using(crate::proofs::FitLemmas::known_words, crate::proofs::FitLemmas::known_note))]
-pub fn known_or_told(alloc: Global, net: &Netlist, only: &[&str]) -> Result<(), Unread>
+pub fn known_or_diagnostic(alloc: Global, net: &Netlist, only: &[&str]) -> Result<(), Unread>
     ensures words { Reads CheckSays (λ _. true) (known_in net.now.raw (map (λ s. s.now) only.now)) (worded result) }
     ensures note { Reads NoteSays (λ _. true) (known_noted net.now.raw (map (λ s. s.now) only.now)) (noted result) }
 {
     match first_unknown(alloc, net, only) {
         Ok(None) => Ok(()),
-        Ok(Some(name)) => Err(unknown_told(alloc, net, name)),
+        Ok(Some(name)) => Err(unknown_diagnostic(alloc, net, name)),
         Err(_) => Err(Unread::NoMemory),
     }
 }

@@ -2,8 +2,8 @@
 //! what they make ready or the first refusal.
 //!
 //! Modules: `refusals` and `flop_refusals` (the words of a refusal), `lines` (a note on a line), `fits` (whether a trace fits a
-//! netlist, and names are its own, or what is told), `called`, `order` and `pattern` (names, a scan chain's order and a pattern: a
-//! reader each, `*_or_told`), `ready` (`Traced`, `Exercised`, `Listed`, `OneRun`, `Scanned`), `tracing` and `loading` (the walks).
+//! netlist, and names are its own, or a diagnostic), `called`, `order` and `pattern` (names, a scan chain's order and a pattern: a
+//! reader each, `*_or_diagnostic`), `ready` (`TraceFiles`, `RunFiles`, `ReportFiles`, `OneRun`, `Scanned`), `tracing` and `loading` (the walks).
 //! The netlist, the report and the stimulus are fetched and read by bs_top_files; a simulation's values by
 //! bs_inspect_values; what names, an order and a pattern are is said by bs_inspect_netlist. Used above: `WalksTold CheckSays
 //! NoteSays ..` over the two plans of `specs/Taken` and `specs/FlopFiles`. A refusal: `specs/Words` or `specs/FlopWords`, its note in
@@ -22,5 +22,5 @@ mod refusals;
 mod tracing;
 
 pub use loading::{load_named, load_scanned};
-pub use ready::{Exercised, Listed, OneRun, Scanned, Traced};
-pub use tracing::{load_charted, load_exercised, load_listed, load_one_run, load_picked};
+pub use ready::{OneRun, ReportFiles, RunFiles, Scanned, TraceFiles};
+pub use tracing::{load_charted, load_one_run, load_picked, load_report_files, load_run_files};

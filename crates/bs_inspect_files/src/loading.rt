@@ -1,18 +1,18 @@
 //! The walks over the files: each is fetched and read once, up to the first that stops the walk.
 ghost use Rattle.std.specs.Prelude.{◌≡◌, map};
-ghost use Rattle.bs_top_plan.specs.Telling.{WalksTold};
+ghost use Rattle.bs_top_plan.specs.Telling.{WalksDiagnosed};
 ghost use Rattle.bs_top_files.specs.NoteCases.{NoteSays};
 ghost use Rattle.bs_top_files.specs.Refusals.{CheckSays};
 ghost use Rattle.bs_inspect_files.specs.FlopFiles.{chain_step, chain_step_looked, named_looked, named_of, order_looked, order_of, pattern_step, pattern_step_looked, scanned_in, scanned_looked, scanned_of};
 
-use crate::called::called_or_told;
-use crate::order::order_or_told;
-use crate::pattern::pattern_or_told;
+use crate::called::called_or_diagnostic;
+use crate::order::order_or_diagnostic;
+use crate::pattern::pattern_or_diagnostic;
 use crate::ready::Scanned;
 use bs_net::Netlist;
 use bs_outside::Shelf;
 use bs_top_files::load_netlist;
-use bs_top_plan::{File, Stop, fetch_file, settle_told};
+use bs_top_plan::{File, WalkStop, fetch_file, settle_diagnostic};
 use std::alloc::Global;
 
 /// Drops a value, which a walk that stops lets go.
@@ -24,13 +24,13 @@ pub fn load_named<S: Shelf>(
     shelf: &mut S,
     netlist: &str,
     names: &[&str],
-) -> Result<Netlist, Stop>
-    ensures { WalksTold CheckSays NoteSays S.held S.faults S.leads shelf.old shelf.new
+) -> Result<Netlist, WalkStop>
+    ensures { WalksDiagnosed CheckSays NoteSays S.held S.faults S.leads shelf.old shelf.new
         (named_of netlist.now (map (λ s. s.now) names.now)) (named_looked netlist.now (map (λ s. s.now) names.now)) (λ net. net.raw) (λ net. net.raw) result }
 {
     let net = load_netlist(alloc, shelf, netlist)?;
-    let known = called_or_told(alloc, &net, names);
-    match settle_told(File::Name, known) {
+    let known = called_or_diagnostic(alloc, &net, names);
+    match settle_diagnostic(File::Name, known) {
         Ok(()) => Ok(net),
         Err(stop) => {
             let_go(net);
@@ -45,12 +45,12 @@ fn load_order<S: Shelf>(
     shelf: &mut S,
     net: &Netlist,
     order: &str,
-) -> Result<Vec<usize>, Stop>
-    ensures { WalksTold CheckSays NoteSays S.held S.faults S.leads shelf.old shelf.new
+) -> Result<Vec<usize>, WalkStop>
+    ensures { WalksDiagnosed CheckSays NoteSays S.held S.faults S.leads shelf.old shelf.new
         (order_of net.now.raw order.now) (order_looked net.now.raw order.now) (λ chain. chain.items) (λ chain. chain.items) result }
 {
     let bytes = fetch_file(alloc, shelf, File::Map, order)?;
-    settle_told(File::Map, order_or_told(alloc, order, &bytes, net))
+    settle_diagnostic(File::Map, order_or_diagnostic(alloc, order, &bytes, net))
 }
 
 /// A netlist with the order of its scan chain, and a pattern.
@@ -60,11 +60,11 @@ fn load_pattern<S: Shelf>(
     net: Netlist,
     order: Vec<usize>,
     pattern: &[u8],
-) -> Result<Scanned, Stop>
-    ensures { WalksTold CheckSays NoteSays S.held S.faults S.leads _shelf.old _shelf.new
+) -> Result<Scanned, WalkStop>
+    ensures { WalksDiagnosed CheckSays NoteSays S.held S.faults S.leads _shelf.old _shelf.new
         (pattern_step net.raw order.items pattern.now) (pattern_step_looked net.raw order.items pattern.now) scanned_in scanned_in result }
 {
-    match settle_told(File::State, pattern_or_told(alloc, pattern, &net)) {
+    match settle_diagnostic(File::State, pattern_or_diagnostic(alloc, pattern, &net)) {
         Ok(bits) => Ok(Scanned {
             net,
             order,
@@ -85,8 +85,8 @@ fn load_chain<S: Shelf>(
     net: Netlist,
     order: &str,
     pattern: &[u8],
-) -> Result<Scanned, Stop>
-    ensures { WalksTold CheckSays NoteSays S.held S.faults S.leads shelf.old shelf.new
+) -> Result<Scanned, WalkStop>
+    ensures { WalksDiagnosed CheckSays NoteSays S.held S.faults S.leads shelf.old shelf.new
         (chain_step net.raw order.now pattern.now) (chain_step_looked net.raw order.now pattern.now) scanned_in scanned_in result }
 {
     match load_order(alloc, shelf, &net, order) {
@@ -105,8 +105,8 @@ pub fn load_scanned<S: Shelf>(
     netlist: &str,
     order: &str,
     pattern: &[u8],
-) -> Result<Scanned, Stop>
-    ensures { WalksTold CheckSays NoteSays S.held S.faults S.leads shelf.old shelf.new
+) -> Result<Scanned, WalkStop>
+    ensures { WalksDiagnosed CheckSays NoteSays S.held S.faults S.leads shelf.old shelf.new
         (scanned_of netlist.now order.now pattern.now) (scanned_looked netlist.now order.now pattern.now) scanned_in scanned_in result }
 {
     match load_netlist(alloc, shelf, netlist) {

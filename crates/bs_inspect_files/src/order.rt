@@ -1,9 +1,9 @@
-//! The order of a scan chain, or what is told of its text.
+//! The order of a scan chain, or the diagnostic of its text.
 ghost use Rattle.std.specs.Prelude.{◌≡◌, IfOk};
 ghost use Rattle.bs_note_files.specs.Notes.{said};
 ghost use Rattle.bs_top_plan.specs.declared.walk.Refusal.TheVariants.{NoMemory as Want};
 ghost use Rattle.bs_top_plan.specs.Plan.{Says};
-ghost use Rattle.bs_top_plan.specs.Told.{note_refusal, noted, word_refusal, worded};
+ghost use Rattle.bs_top_plan.specs.Diagnostic.{note_refusal, noted, word_refusal, worded};
 ghost use Rattle.bs_top_plan.specs.Walks.{Reads};
 ghost use Rattle.bs_top_files.specs.NoteCases.{HasNote, IsNoteAtLine, NoteSays};
 ghost use Rattle.bs_top_files.specs.Refusals.{CheckSays, HasWords};
@@ -107,9 +107,9 @@ fn order_note(
     }
 }
 
-/// What is told of a text that is no order.
+/// The diagnostic of a text that is no order.
 #[tactic(auto, using(bs_top_files::proofs::NotingLemmas::both_words, bs_top_files::proofs::NotingLemmas::both_note, bs_top_files::proofs::NotingLemmas::both_want))]
-fn order_told(alloc: Global, path: &str, text: &[u8], fault: OrderFault) -> Unread
+fn order_diagnostic(alloc: Global, path: &str, text: &[u8], fault: OrderFault) -> Unread
     ensures words { HasWords (order_words fault) (word_refusal result) }
     ensures want { fault ≡ OrderWant → word_refusal result ≡ Want }
     ensures note { HasNote (order_note_reason path.now text.now fault) (note_refusal result) }
@@ -120,8 +120,8 @@ fn order_told(alloc: Global, path: &str, text: &[u8], fault: OrderFault) -> Unre
     both(words, note)
 }
 
-/// The flip-flops of a scan chain in its order, or what is told of their text.
-pub fn order_or_told(
+/// The flip-flops of a scan chain in its order, or the diagnostic of their text.
+pub fn order_or_diagnostic(
     alloc: Global,
     path: &str,
     text: &[u8],
@@ -132,6 +132,6 @@ pub fn order_or_told(
 {
     match read_order(alloc, net, text) {
         Ok(order) => Ok(order),
-        Err(fault) => Err(order_told(alloc, path, text, fault)),
+        Err(fault) => Err(order_diagnostic(alloc, path, text, fault)),
     }
 }

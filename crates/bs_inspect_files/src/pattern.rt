@@ -1,8 +1,8 @@
-//! The pattern of a scan chain, or what is told of its bits.
+//! The pattern of a scan chain, or the diagnostic of its bits.
 ghost use Rattle.std.specs.Prelude.{◌≡◌, length, IfOk};
 ghost use Rattle.bs_top_plan.specs.declared.walk.Refusal.TheVariants.{NoMemory as Want};
 ghost use Rattle.bs_top_plan.specs.Plan.{exactly};
-ghost use Rattle.bs_top_plan.specs.Told.{note_refusal, noted, word_refusal, worded};
+ghost use Rattle.bs_top_plan.specs.Diagnostic.{note_refusal, noted, word_refusal, worded};
 ghost use Rattle.bs_top_plan.specs.Walks.{Reads};
 ghost use Rattle.bs_top_files.specs.NoteCases.{HasNote, NoteSays};
 ghost use Rattle.bs_top_files.specs.Refusals.{CheckSays, HasWords};
@@ -51,9 +51,9 @@ fn pattern_note(alloc: Global, width: usize, fault: PatternFault) -> Result<Vec<
     }
 }
 
-/// What is told of bits that are no pattern of so many.
+/// The diagnostic of bits that are no pattern of so many.
 #[tactic(auto, using(bs_top_files::proofs::NotingLemmas::both_words, bs_top_files::proofs::NotingLemmas::both_these, bs_top_files::proofs::NotingLemmas::both_want))]
-fn pattern_told(alloc: Global, width: usize, fault: PatternFault) -> Unread
+fn pattern_diagnostic(alloc: Global, width: usize, fault: PatternFault) -> Unread
     ensures words { HasWords (pattern_words fault) (word_refusal result) }
     ensures want { fault ≡ PatternWant → word_refusal result ≡ Want }
     ensures note { HasNote (exactly (pattern_text width fault)) (note_refusal result) }
@@ -64,21 +64,21 @@ fn pattern_told(alloc: Global, width: usize, fault: PatternFault) -> Unread
     both(words, note)
 }
 
-/// A pattern of so many bits, or what is told of them.
-fn bits_or_told(alloc: Global, text: &[u8], width: usize) -> Result<Bits, Unread>
+/// A pattern of so many bits, or the diagnostic of them.
+fn bits_or_diagnostic(alloc: Global, text: &[u8], width: usize) -> Result<Bits, Unread>
     ensures words { Reads CheckSays (λ bits. bits) (pattern_read width text.now) (worded result) }
     ensures note { Reads NoteSays (λ bits. bits) (pattern_noted width text.now) (noted result) }
 {
     match read_pattern(alloc, text, width) {
         Ok(bits) => Ok(bits),
-        Err(fault) => Err(pattern_told(alloc, width, fault)),
+        Err(fault) => Err(pattern_diagnostic(alloc, width, fault)),
     }
 }
 
-/// A pattern of a netlist's scan chain, or what is told of its bits.
-pub fn pattern_or_told(alloc: Global, text: &[u8], net: &Netlist) -> Result<Bits, Unread>
+/// A pattern of a netlist's scan chain, or the diagnostic of its bits.
+pub fn pattern_or_diagnostic(alloc: Global, text: &[u8], net: &Netlist) -> Result<Bits, Unread>
     ensures words { Reads CheckSays (λ bits. bits) (pattern_read (length net.now.raw.flops) text.now) (worded result) }
     ensures note { Reads NoteSays (λ bits. bits) (pattern_noted (length net.now.raw.flops) text.now) (noted result) }
 {
-    bits_or_told(alloc, text, net.width())
+    bits_or_diagnostic(alloc, text, net.width())
 }

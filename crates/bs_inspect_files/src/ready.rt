@@ -13,7 +13,7 @@ use bs_stim::Runs;
 
 /// A netlist, and a report whose trace has as many bits as it.
 #[derive(Drop)]
-pub struct Traced {
+pub struct TraceFiles {
     pub net: Netlist,
     pub report: Report,
     ghost more: { length report.states ≡ length report.inputs + 1 },
@@ -23,7 +23,7 @@ pub struct Traced {
 
 /// A netlist, and recorded runs.
 #[derive(Drop)]
-pub struct Exercised {
+pub struct RunFiles {
     pub net: Netlist,
     pub runs: Runs,
     ghost inputs: { runs.width ≡ length (circuit net).inputs },
@@ -31,7 +31,7 @@ pub struct Exercised {
 
 /// A netlist, what its signature is taken of, and a report.
 #[derive(Drop)]
-pub struct Listed {
+pub struct ReportFiles {
     pub net: Netlist,
     pub choice: Choice,
     pub report: Report,
@@ -42,9 +42,9 @@ pub struct Listed {
 /// A netlist, and recorded runs of which one has a moment.
 #[derive(Drop)]
 pub struct OneRun {
-    pub exercised: Exercised,
+    pub run_files: RunFiles,
     pub moment: Moment,
-    ghost recorded: { IsMoment (inputs_of exercised.runs) moment },
+    ghost recorded: { IsMoment (inputs_of run_files.runs) moment },
 }
 
 /// A netlist, the flip-flops of a scan chain in its order, by their numbers from 0, and a pattern in that order.

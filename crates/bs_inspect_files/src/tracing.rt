@@ -1,20 +1,23 @@
 //! The walks over the files of a report and of recorded runs: each file is fetched and read once, up to the first that stops the walk.
 ghost use Rattle.std.specs.Prelude.{◌≡◌, ◌+◌, length, map};
 ghost use Rattle.bs_net.specs.Netlist.{circuit};
-ghost use Rattle.bs_top_plan.specs.Telling.{WalksTold};
+ghost use Rattle.bs_top_plan.specs.Telling.{WalksDiagnosed};
 ghost use Rattle.bs_top_files.specs.NoteCases.{NoteSays};
 ghost use Rattle.bs_top_files.specs.Refusals.{CheckSays};
-ghost use Rattle.bs_inspect_files.specs.Taken.{chart_step, chart_step_looked, charted_looked, charted_of, one_run_in, one_run_looked, one_run_of, drawn_step, drawn_step_looked, exercised_in, exercised_looked, exercised_of, picked_looked, picked_of, choice_step, choice_step_looked, fit_step, fit_step_looked, listed_in, listed_looked, listed_of, listed_step, listed_step_looked, report_step, report_step_looked, runs_step, runs_step_looked, traced_in, traced_looked, traced_of};
+ghost use Rattle.bs_inspect_files.specs.Taken.{chart_step, chart_step_looked, charted_looked, charted_of, one_run_in, one_run_looked, one_run_of, drawn_step, drawn_step_looked, run_files_in, run_files_looked, run_files_of, picked_looked, picked_of, choice_step, choice_step_looked, fit_step, fit_step_looked, report_files_in, report_files_looked, report_files_of, report_files_step, report_files_step_looked, report_step, report_step_looked, runs_step, runs_step_looked, trace_files_in, trace_files_looked, trace_files_of};
 
-use crate::called::called_or_told;
-use crate::fits::{fit_or_told, known_or_told};
-use crate::ready::{Exercised, Listed, OneRun, Traced};
+use crate::called::called_or_diagnostic;
+use crate::fits::{fit_or_diagnostic, known_or_diagnostic};
+use crate::ready::{OneRun, ReportFiles, RunFiles, TraceFiles};
 use bs_net::Netlist;
 use bs_outside::Shelf;
 use bs_report::Report;
 use bs_scan::Choice;
-use bs_top_files::{load_netlist, load_report, load_signature, load_stimulus, moment_or_told, size_or_told};
-use bs_top_plan::{File, Stop, settle_told};
+use bs_top_files::{
+    load_netlist, load_report, load_signature, load_stimulus, moment_or_diagnostic,
+    size_or_diagnostic,
+};
+use bs_top_plan::{File, WalkStop, settle_diagnostic};
 use std::alloc::Global;
 
 /// Drops a value, which a walk that stops lets go.
@@ -27,13 +30,13 @@ fn load_fitting<S: Shelf>(
     net: Netlist,
     report: Report,
     path: &str,
-) -> Result<Traced, Stop>
+) -> Result<TraceFiles, WalkStop>
     requires { length report.states ≡ length report.inputs + 1 }
-    ensures { WalksTold CheckSays NoteSays S.held S.faults S.leads _shelf.old _shelf.new
-        (fit_step net.raw report) (fit_step_looked path.now net.raw report) traced_in traced_in result }
+    ensures { WalksDiagnosed CheckSays NoteSays S.held S.faults S.leads _shelf.old _shelf.new
+        (fit_step net.raw report) (fit_step_looked path.now net.raw report) trace_files_in trace_files_in result }
 {
-    match settle_told(File::Report, fit_or_told(alloc, path, &net, &report)) {
-        Ok(()) => Ok(Traced { net, report }),
+    match settle_diagnostic(File::Report, fit_or_diagnostic(alloc, path, &net, &report)) {
+        Ok(()) => Ok(TraceFiles { net, report }),
         Err(stop) => {
             let_go(net);
             let_go(report);
@@ -48,9 +51,9 @@ fn load_reported<S: Shelf>(
     shelf: &mut S,
     net: Netlist,
     path: &str,
-) -> Result<Traced, Stop>
-    ensures { WalksTold CheckSays NoteSays S.held S.faults S.leads shelf.old shelf.new
-        (report_step net.raw path.now) (report_step_looked net.raw path.now) traced_in traced_in result }
+) -> Result<TraceFiles, WalkStop>
+    ensures { WalksDiagnosed CheckSays NoteSays S.held S.faults S.leads shelf.old shelf.new
+        (report_step net.raw path.now) (report_step_looked net.raw path.now) trace_files_in trace_files_in result }
 {
     match load_report(alloc, shelf, path) {
         Ok(report) => load_fitting(alloc, shelf, net, report, path),
@@ -62,14 +65,14 @@ fn load_reported<S: Shelf>(
 }
 
 /// A netlist, and a report whose trace fits it.
-fn load_traced<S: Shelf>(
+fn load_trace_files<S: Shelf>(
     alloc: Global,
     shelf: &mut S,
     netlist: &str,
     report: &str,
-) -> Result<Traced, Stop>
-    ensures { WalksTold CheckSays NoteSays S.held S.faults S.leads shelf.old shelf.new
-        (traced_of netlist.now report.now) (traced_looked netlist.now report.now) traced_in traced_in result }
+) -> Result<TraceFiles, WalkStop>
+    ensures { WalksDiagnosed CheckSays NoteSays S.held S.faults S.leads shelf.old shelf.new
+        (trace_files_of netlist.now report.now) (trace_files_looked netlist.now report.now) trace_files_in trace_files_in result }
 {
     match load_netlist(alloc, shelf, netlist) {
         Ok(net) => load_reported(alloc, shelf, net, report),
@@ -84,17 +87,17 @@ pub fn load_picked<S: Shelf>(
     netlist: &str,
     report: &str,
     only: &[&str],
-) -> Result<Traced, Stop>
-    ensures { WalksTold CheckSays NoteSays S.held S.faults S.leads shelf.old shelf.new
+) -> Result<TraceFiles, WalkStop>
+    ensures { WalksDiagnosed CheckSays NoteSays S.held S.faults S.leads shelf.old shelf.new
         (picked_of netlist.now report.now (map (λ s. s.now) only.now)) (picked_looked netlist.now report.now (map (λ s. s.now) only.now))
-        traced_in traced_in result }
+        trace_files_in trace_files_in result }
 {
-    let traced = load_traced(alloc, shelf, netlist, report)?;
-    let known = known_or_told(alloc, &traced.net, only);
-    match settle_told(File::Name, known) {
-        Ok(()) => Ok(traced),
+    let trace_files = load_trace_files(alloc, shelf, netlist, report)?;
+    let known = known_or_diagnostic(alloc, &trace_files.net, only);
+    match settle_diagnostic(File::Name, known) {
+        Ok(()) => Ok(trace_files),
         Err(stop) => {
-            let_go(traced);
+            let_go(trace_files);
             Err(stop)
         }
     }
@@ -104,16 +107,19 @@ pub fn load_picked<S: Shelf>(
 fn load_drawn<S: Shelf>(
     alloc: Global,
     _shelf: &mut S,
-    traced: Traced,
+    trace_files: TraceFiles,
     only: &[&str],
-) -> Result<Traced, Stop>
-    ensures { WalksTold CheckSays NoteSays S.held S.faults S.leads _shelf.old _shelf.new
-        (drawn_step (map (λ s. s.now) only.now) (traced_in traced)) (drawn_step_looked (map (λ s. s.now) only.now) (traced_in traced)) traced_in traced_in result }
+) -> Result<TraceFiles, WalkStop>
+    ensures { WalksDiagnosed CheckSays NoteSays S.held S.faults S.leads _shelf.old _shelf.new
+        (drawn_step (map (λ s. s.now) only.now) (trace_files_in trace_files)) (drawn_step_looked (map (λ s. s.now) only.now) (trace_files_in trace_files)) trace_files_in trace_files_in result }
 {
-    match settle_told(File::Name, called_or_told(alloc, &traced.net, only)) {
-        Ok(()) => Ok(traced),
+    match settle_diagnostic(
+        File::Name,
+        called_or_diagnostic(alloc, &trace_files.net, only),
+    ) {
+        Ok(()) => Ok(trace_files),
         Err(stop) => {
-            let_go(traced);
+            let_go(trace_files);
             Err(stop)
         }
     }
@@ -123,18 +129,18 @@ fn load_drawn<S: Shelf>(
 fn load_small<S: Shelf>(
     alloc: Global,
     shelf: &mut S,
-    traced: Traced,
+    trace_files: TraceFiles,
     path: &str,
     only: &[&str],
-) -> Result<Traced, Stop>
-    ensures { WalksTold CheckSays NoteSays S.held S.faults S.leads shelf.old shelf.new
-        (chart_step (map (λ s. s.now) only.now) (traced_in traced)) (chart_step_looked path.now (map (λ s. s.now) only.now) (traced_in traced)) traced_in traced_in result }
+) -> Result<TraceFiles, WalkStop>
+    ensures { WalksDiagnosed CheckSays NoteSays S.held S.faults S.leads shelf.old shelf.new
+        (chart_step (map (λ s. s.now) only.now) (trace_files_in trace_files)) (chart_step_looked path.now (map (λ s. s.now) only.now) (trace_files_in trace_files)) trace_files_in trace_files_in result }
 {
-    let size = size_or_told(alloc, path, &traced.net, &traced.report);
-    match settle_told(File::Report, size) {
-        Ok(()) => load_drawn(alloc, shelf, traced, only),
+    let size = size_or_diagnostic(alloc, path, &trace_files.net, &trace_files.report);
+    match settle_diagnostic(File::Report, size) {
+        Ok(()) => load_drawn(alloc, shelf, trace_files, only),
         Err(stop) => {
-            let_go(traced);
+            let_go(trace_files);
             Err(stop)
         }
     }
@@ -147,13 +153,13 @@ pub fn load_charted<S: Shelf>(
     netlist: &str,
     report: &str,
     only: &[&str],
-) -> Result<Traced, Stop>
-    ensures { WalksTold CheckSays NoteSays S.held S.faults S.leads shelf.old shelf.new
+) -> Result<TraceFiles, WalkStop>
+    ensures { WalksDiagnosed CheckSays NoteSays S.held S.faults S.leads shelf.old shelf.new
         (charted_of netlist.now report.now (map (λ s. s.now) only.now)) (charted_looked netlist.now report.now (map (λ s. s.now) only.now))
-        traced_in traced_in result }
+        trace_files_in trace_files_in result }
 {
-    match load_traced(alloc, shelf, netlist, report) {
-        Ok(traced) => load_small(alloc, shelf, traced, report, only),
+    match load_trace_files(alloc, shelf, netlist, report) {
+        Ok(trace_files) => load_small(alloc, shelf, trace_files, report, only),
         Err(stop) => Err(stop),
     }
 }
@@ -164,12 +170,12 @@ fn load_runs<S: Shelf>(
     shelf: &mut S,
     net: Netlist,
     runs: &str,
-) -> Result<Exercised, Stop>
-    ensures { WalksTold CheckSays NoteSays S.held S.faults S.leads shelf.old shelf.new
-        (runs_step net.raw runs.now) (runs_step_looked net.raw runs.now) exercised_in exercised_in result }
+) -> Result<RunFiles, WalkStop>
+    ensures { WalksDiagnosed CheckSays NoteSays S.held S.faults S.leads shelf.old shelf.new
+        (runs_step net.raw runs.now) (runs_step_looked net.raw runs.now) run_files_in run_files_in result }
 {
     match load_stimulus(alloc, shelf, runs, &net) {
-        Ok(runs) => Ok(Exercised { net, runs }),
+        Ok(runs) => Ok(RunFiles { net, runs }),
         Err(stop) => {
             let_go(net);
             Err(stop)
@@ -178,14 +184,14 @@ fn load_runs<S: Shelf>(
 }
 
 /// A netlist, and recorded runs.
-pub fn load_exercised<S: Shelf>(
+pub fn load_run_files<S: Shelf>(
     alloc: Global,
     shelf: &mut S,
     netlist: &str,
     runs: &str,
-) -> Result<Exercised, Stop>
-    ensures { WalksTold CheckSays NoteSays S.held S.faults S.leads shelf.old shelf.new
-        (exercised_of netlist.now runs.now) (exercised_looked netlist.now runs.now) exercised_in exercised_in result }
+) -> Result<RunFiles, WalkStop>
+    ensures { WalksDiagnosed CheckSays NoteSays S.held S.faults S.leads shelf.old shelf.new
+        (run_files_of netlist.now runs.now) (run_files_looked netlist.now runs.now) run_files_in run_files_in result }
 {
     match load_netlist(alloc, shelf, netlist) {
         Ok(net) => load_runs(alloc, shelf, net, runs),
@@ -200,13 +206,13 @@ fn load_list<S: Shelf>(
     net: Netlist,
     choice: Choice,
     report: &str,
-) -> Result<Listed, Stop>
+) -> Result<ReportFiles, WalkStop>
     requires { choice.width ≡ length (circuit net).flops }
-    ensures { WalksTold CheckSays NoteSays S.held S.faults S.leads shelf.old shelf.new
-        (listed_step net.raw choice report.now) (listed_step_looked net.raw choice report.now) listed_in listed_in result }
+    ensures { WalksDiagnosed CheckSays NoteSays S.held S.faults S.leads shelf.old shelf.new
+        (report_files_step net.raw choice report.now) (report_files_step_looked net.raw choice report.now) report_files_in report_files_in result }
 {
     match load_report(alloc, shelf, report) {
-        Ok(report) => Ok(Listed {
+        Ok(report) => Ok(ReportFiles {
             net,
             choice,
             report,
@@ -226,9 +232,9 @@ fn load_choice<S: Shelf>(
     net: Netlist,
     signature: &str,
     report: &str,
-) -> Result<Listed, Stop>
-    ensures { WalksTold CheckSays NoteSays S.held S.faults S.leads shelf.old shelf.new
-        (choice_step net.raw signature.now report.now) (choice_step_looked net.raw signature.now report.now) listed_in listed_in result }
+) -> Result<ReportFiles, WalkStop>
+    ensures { WalksDiagnosed CheckSays NoteSays S.held S.faults S.leads shelf.old shelf.new
+        (choice_step net.raw signature.now report.now) (choice_step_looked net.raw signature.now report.now) report_files_in report_files_in result }
 {
     match load_signature(alloc, shelf, signature, &net) {
         Ok(choice) => load_list(alloc, shelf, net, choice, report),
@@ -240,15 +246,15 @@ fn load_choice<S: Shelf>(
 }
 
 /// A netlist, a signature and a report.
-pub fn load_listed<S: Shelf>(
+pub fn load_report_files<S: Shelf>(
     alloc: Global,
     shelf: &mut S,
     netlist: &str,
     signature: &str,
     report: &str,
-) -> Result<Listed, Stop>
-    ensures { WalksTold CheckSays NoteSays S.held S.faults S.leads shelf.old shelf.new
-        (listed_of netlist.now signature.now report.now) (listed_looked netlist.now signature.now report.now) listed_in listed_in result }
+) -> Result<ReportFiles, WalkStop>
+    ensures { WalksDiagnosed CheckSays NoteSays S.held S.faults S.leads shelf.old shelf.new
+        (report_files_of netlist.now signature.now report.now) (report_files_looked netlist.now signature.now report.now) report_files_in report_files_in result }
 {
     match load_netlist(alloc, shelf, netlist) {
         Ok(net) => load_choice(alloc, shelf, net, signature, report),
@@ -263,15 +269,18 @@ pub fn load_one_run<S: Shelf>(
     netlist: &str,
     runs: &str,
     run: u64,
-) -> Result<OneRun, Stop>
-    ensures { WalksTold CheckSays NoteSays S.held S.faults S.leads shelf.old shelf.new
+) -> Result<OneRun, WalkStop>
+    ensures { WalksDiagnosed CheckSays NoteSays S.held S.faults S.leads shelf.old shelf.new
         (one_run_of netlist.now runs.now run) (one_run_looked netlist.now runs.now run) one_run_in one_run_in result }
 {
-    let exercised = load_exercised(alloc, shelf, netlist, runs)?;
-    match settle_told(File::Dump, moment_or_told(alloc, &exercised.runs, run, 0)) {
-        Ok(moment) => Ok(OneRun { exercised, moment }),
+    let run_files = load_run_files(alloc, shelf, netlist, runs)?;
+    match settle_diagnostic(
+        File::Dump,
+        moment_or_diagnostic(alloc, &run_files.runs, run, 0),
+    ) {
+        Ok(moment) => Ok(OneRun { run_files, moment }),
         Err(stop) => {
-            let_go(exercised);
+            let_go(run_files);
             Err(stop)
         }
     }

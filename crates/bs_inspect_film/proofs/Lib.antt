@@ -1,6 +1,6 @@
 pub mod RowLemmas
 pub mod PackedLemmas
-pub mod LookedLemmas
-pub mod KeptLemmas
-pub mod FilmLemmas
+pub mod SimulatedStatesLemmas
+pub mod StateTableLemmas
+pub mod SimulationLemmas
 pub mod ListingLemmas

@@ -11,31 +11,31 @@ use Rattle.bs_stim.specs.Runs.{Recorded, Stimulus, inputs_of, run_at}
 use Rattle.bs_lanes_planes.specs.Planes.{lane}
 use Rattle.bs_scan.specs.Moments.{Run, state_at}
 use Rattle.bs_scan.proofs.SignatureLemmas.{length_state}
-use Rattle.bs_inspect_film.specs.Film.{IsFilm, IsLongest, run_in}
-use Rattle.bs_inspect_film.specs.Kept.{IsKept, IsLooked, KeepsRuns, states_in, step_row, steps_in}
-use Rattle.bs_inspect_film.specs.Looked.{run_states, run_steps, states_looked, step_at, steps_looked}
+use Rattle.bs_inspect_film.specs.Simulation.{IsRunSimulation, IsLongest, run_in}
+use Rattle.bs_inspect_film.specs.StateTable.{IsKept, IsLooked, KeepsRuns, states_in, step_row, steps_in}
+use Rattle.bs_inspect_film.specs.SimulatedStates.{run_states, run_steps, states_looked, step_at, steps_looked}
 use Rattle.bs_inspect_film.specs.Rows.{kept_row, kept_rows}
-use Rattle.bs_inspect_film.specs.declared.kept.Kept.{Kept as CodeKept}
-use Rattle.bs_inspect_film.specs.declared.kept.TheConstants.{MAX_ROWS}
-use Rattle.bs_inspect_film.proofs.KeptLemmas.{full_rows}
-use Rattle.bs_inspect_film.proofs.LookedLemmas.{run_is, run_more}
+use Rattle.bs_inspect_film.specs.declared.state_table.StateTable.{StateTable as CodeStateTable}
+use Rattle.bs_inspect_film.specs.declared.state_table.TheConstants.{MAX_ROWS}
+use Rattle.bs_inspect_film.proofs.StateTableLemmas.{full_rows}
+use Rattle.bs_inspect_film.proofs.SimulatedStatesLemmas.{run_is, run_more}
 
--- ---- a row of a film
+-- ---- a row of a simulation
 
-shot_words : (film : List (List ℕ)) (t : ℕ) (got words : List ℕ) → t < length film → got ≡ get_or film t got → words ≡ got → words ≡ get_or film t []
-shot_words film t got words lt e same = same ∙ (e ∙ get_or_default film t got [] lt)
+simulated_words : (simulation : List (List ℕ)) (t : ℕ) (got words : List ℕ) → t < length simulation → got ≡ get_or simulation t got → words ≡ got → words ≡ get_or simulation t []
+simulated_words simulation t got words lt e same = same ∙ (e ∙ get_or_default simulation t got [] lt)
 
-pub row_size : (c : Circuit) (runs : List Run) (first t width : ℕ) (film : List (List ℕ)) (got words : List ℕ) → width ≡ length c.flops →
-    IsFilm c runs first film → t < length film → got ≡ get_or film t got → words ≡ got → length words ≡ width
-row_size c runs first t width film got words wide is lt e same =
-    ap length (shot_words film t got words lt e same) ∙ ((is.each t lt).size ∙ sym wide)
+pub row_size : (c : Circuit) (runs : List Run) (first t width : ℕ) (simulation : List (List ℕ)) (got words : List ℕ) → width ≡ length c.flops →
+    IsRunSimulation c runs first simulation → t < length simulation → got ≡ get_or simulation t got → words ≡ got → length words ≡ width
+row_size c runs first t width simulation got words wide is lt e same =
+    ap length (simulated_words simulation t got words lt e same) ∙ ((is.each t lt).size ∙ sym wide)
 
-pub row_shown : (c : Circuit) (runs : List Run) (first t width k : ℕ) (film : List (List ℕ)) (got words : List ℕ) (row : List Bool) →
-    width ≡ length c.flops → IsFilm c runs first film → t < length film → got ≡ get_or film t got → words ≡ got → k < 64 → first + k < length runs →
+pub row_shown : (c : Circuit) (runs : List Run) (first t width k : ℕ) (simulation : List (List ℕ)) (got words : List ℕ) (row : List Bool) →
+    width ≡ length c.flops → IsRunSimulation c runs first simulation → t < length simulation → got ≡ get_or simulation t got → words ≡ got → k < 64 → first + k < length runs →
     t ≤ length (run_in runs first k) → row ≡ lane 1 width words k → row ≡ state_at c (run_in runs first k) t
-row_shown c runs first t width k film got words row wide is lt e same small there lasts shown =
+row_shown c runs first t width k simulation got words row wide is lt e same small there lasts shown =
     shown
-    ∙ ((λ i. lane 1 (wide i) (shot_words film t got words lt e same i) k) ∙ (is.each t lt).each k small there lasts)
+    ∙ ((λ i. lane 1 (wide i) (simulated_words simulation t got words lt e same i) k) ∙ (is.each t lt).each k small there lasts)
 
 pub state_width : (c : Circuit) (run : Run) (t width : ℕ) (row : List Bool) → width ≡ length c.flops → row ≡ state_at c run t → length row ≡ width
 state_width c run t width row wide e = ap length e ∙ (length_state c run t ∙ sym wide)
@@ -53,9 +53,9 @@ pub last_short : (s : Stimulus) (first k n cycles last : ℕ) → first + k < le
     last ≡ min cycles n → last ≤ length (run_in (inputs_of s) first k)
 last_short s first k n cycles last lt e is = omega (arith, is, run_length s first k n lt e)
 
-pub last_shot : (s : Stimulus) (first k n cycles last : ℕ) (film : List (List ℕ)) → first + k < length s.runs →
-    n ≡ length (run_at s (first + k + 1)).inputs → last ≡ min cycles n → length (run_in (inputs_of s) first k) < length film → last < length film
-last_shot s first k n cycles last film lt e is less = omega (arith, is, run_length s first k n lt e, less)
+pub last_simulated : (s : Stimulus) (first k n cycles last : ℕ) (simulation : List (List ℕ)) → first + k < length s.runs →
+    n ≡ length (run_at s (first + k + 1)).inputs → last ≡ min cycles n → length (run_in (inputs_of s) first k) < length simulation → last < length simulation
+last_simulated s first k n cycles last simulation lt e is less = omega (arith, is, run_length s first k n lt e, less)
 
 pub whole_states : (c : Circuit) (s : Stimulus) (first k n cycles last : ℕ) (old initial after : List (List Bool)) (row : List Bool) →
     first + k < length s.runs → n ≡ length (run_at s (first + k + 1)).inputs → last ≡ min cycles n →
@@ -95,21 +95,21 @@ longer_more s first k n most after lt e is goes = record {
       (cases_eq j k);
 }
 
-pub longest_film : (runs : List Run) (first count most : ℕ) (film : List (List ℕ)) → IsLongest runs first count most → length film ≡ most + 1 →
-    IsLongest runs first count (length film - 1)
-longest_film runs first count most film is e = record { each = λ k lt. omega (arith, e, is.each k lt) }
+pub longest_simulation : (runs : List Run) (first count most : ℕ) (simulation : List (List ℕ)) → IsLongest runs first count most → length simulation ≡ most + 1 →
+    IsLongest runs first count (length simulation - 1)
+longest_simulation runs first count most simulation is e = record { each = λ k lt. omega (arith, e, is.each k lt) }
 
-pub shot_all : (runs : List Run) (first count k : ℕ) (film : List (List ℕ)) → IsLongest runs first count (length film - 1) → 0 < length film → k < count →
-    length (run_in runs first k) < length film
-shot_all runs first count k film is some lt = omega (arith, some, is.each k lt)
+pub simulated_all : (runs : List Run) (first count k : ℕ) (simulation : List (List ℕ)) → IsLongest runs first count (length simulation - 1) → 0 < length simulation → k < count →
+    length (run_in runs first k) < length simulation
+simulated_all runs first count k simulation is some lt = omega (arith, some, is.each k lt)
 
 -- ---- runs that are kept
 
-pub keeps_begin : (c : Circuit) (cycles : ℕ) (runs : List Run) (first : ℕ) (k : CodeKept) → KeepsRuns c cycles runs first k →
+pub keeps_begin : (c : Circuit) (cycles : ℕ) (runs : List Run) (first : ℕ) (k : CodeStateTable) → KeepsRuns c cycles runs first k →
     KeepsRuns c cycles runs (first + 0) k
 keeps_begin c cycles runs first k h = let e : first ≡ first + 0 = omega arith in subst (λ (n : ℕ). KeepsRuns c cycles runs n k) e h
 
-pub keeps_more : (c : Circuit) (cycles : ℕ) (s : Stimulus) (first k : ℕ) (before after : CodeKept) → first + k < length s.runs →
+pub keeps_more : (c : Circuit) (cycles : ℕ) (s : Stimulus) (first k : ℕ) (before after : CodeStateTable) → first + k < length s.runs →
     KeepsRuns c cycles (inputs_of s) (first + k) before →
     states_in after ≡ kept_rows (states_in before) (run_states c cycles (run_in (inputs_of s) first k)) →
     steps_in after ≡ kept_rows (steps_in before) (run_steps c cycles (run_in (inputs_of s) first k)) →
@@ -123,7 +123,7 @@ keeps_more c cycles s first k before after lt h states steps =
       steps = run_more (run_steps c cycles) (inputs_of s) (first + k) [] (steps_in before) (steps_in after) there h.steps steps;
     })
 
-pub keeps_end : (c : Circuit) (cycles : ℕ) (runs : List Run) (first count i : ℕ) (k : CodeKept) → count ≤ i → i ≤ count →
+pub keeps_end : (c : Circuit) (cycles : ℕ) (runs : List Run) (first count i : ℕ) (k : CodeStateTable) → count ≤ i → i ≤ count →
     KeepsRuns c cycles runs (first + i) k → KeepsRuns c cycles runs (first + count) k
 keeps_end c cycles runs first count i k le ge h =
     let e : first + i ≡ first + count = omega (arith, le, ge) in subst (λ (n : ℕ). KeepsRuns c cycles runs n k) e h
@@ -132,20 +132,20 @@ keeps_end c cycles runs first count i k le ge h =
 all_taken : (runs : List Run) (n m : ℕ) → length runs ≤ n → length runs ≤ m → take n runs ≡ take m runs
 all_taken runs n m a b = take_all n runs a ∙ sym (take_all m runs b)
 
-moved : (c : Circuit) (cycles : ℕ) (runs : List Run) (n m : ℕ) (k : CodeKept) → take n runs ≡ take m runs → KeepsRuns c cycles runs n k →
+moved : (c : Circuit) (cycles : ℕ) (runs : List Run) (n m : ℕ) (k : CodeStateTable) → take n runs ≡ take m runs → KeepsRuns c cycles runs n k →
     KeepsRuns c cycles runs m k
 moved c cycles runs n m k e h = record {
   states = h.states ∙ (λ i. kept_rows [] (flat_map (run_states c cycles) (e i)));
   steps = h.steps ∙ (λ i. kept_rows [] (flat_map (run_steps c cycles) (e i)));
 }
 
-pub keeps_all : (c : Circuit) (cycles : ℕ) (s : Stimulus) (first : ℕ) (k : CodeKept) → length s.runs ≤ first → KeepsRuns c cycles (inputs_of s) first k →
+pub keeps_all : (c : Circuit) (cycles : ℕ) (s : Stimulus) (first : ℕ) (k : CodeStateTable) → length s.runs ≤ first → KeepsRuns c cycles (inputs_of s) first k →
     KeepsRuns c cycles (inputs_of s) (first + 64) k
 keeps_all c cycles s first k le h =
     let count : length (inputs_of s) ≡ length s.runs = length-map s.runs (λ (run : Recorded). run.inputs) in
     moved c cycles (inputs_of s) first (first + 64) k (all_taken (inputs_of s) first (first + 64) (omega (arith, le, count)) (omega (arith, le, count))) h
 
-pub keeps_to : (c : Circuit) (cycles : ℕ) (s : Stimulus) (first count : ℕ) (k : CodeKept) → first < length s.runs →
+pub keeps_to : (c : Circuit) (cycles : ℕ) (s : Stimulus) (first count : ℕ) (k : CodeStateTable) → first < length s.runs →
     count ≡ min (length s.runs - first) 64 → KeepsRuns c cycles (inputs_of s) (first + count) k → KeepsRuns c cycles (inputs_of s) (first + 64) k
 keeps_to c cycles s first count k lt e h = by (cases_lt count 64)
   where
@@ -178,7 +178,7 @@ full_more f runs n m kept le full e =
     ∙ (sym (fold-append kept_row [] (flat_map f (take n runs)) (flat_map f rest))
     ∙ ap (kept_rows []) (sym (flat_map-append f (take n runs) rest) ∙ ap (flat_map f) (sym (taken_more runs n m le)))))
 
-pub keeps_full : (c : Circuit) (cycles : ℕ) (runs : List Run) (first : ℕ) (k : CodeKept) (t : Bool) → (t ≡ true → MAX_ROWS ≤ length k.rows) →
+pub keeps_full : (c : Circuit) (cycles : ℕ) (runs : List Run) (first : ℕ) (k : CodeStateTable) (t : Bool) → (t ≡ true → MAX_ROWS ≤ length k.rows) →
     (t ≡ true → MAX_ROWS ≤ length k.steps.items) → t ≡ true → KeepsRuns c cycles runs first k → KeepsRuns c cycles runs (first + 64) k
 keeps_full c cycles runs first k t rows steps is h = record {
   states =
@@ -188,25 +188,25 @@ keeps_full c cycles runs first k t rows steps is h = record {
       (omega (arith, steps is, length-map k.steps.items (step_row k.rows))) h.steps;
 }
 
-pub keeps_none : (c : Circuit) (cycles : ℕ) (runs : List Run) (k : CodeKept) → states_in k ≡ [] → steps_in k ≡ [] → KeepsRuns c cycles runs (0 * 64) k
+pub keeps_none : (c : Circuit) (cycles : ℕ) (runs : List Run) (k : CodeStateTable) → states_in k ≡ [] → steps_in k ≡ [] → KeepsRuns c cycles runs (0 * 64) k
 keeps_none c cycles runs k states steps = record { states = states; steps = steps }
 
-pub group_next : (c : Circuit) (cycles : ℕ) (runs : List Run) (group : ℕ) (k : CodeKept) → KeepsRuns c cycles runs (group * 64 + 64) k →
+pub group_next : (c : Circuit) (cycles : ℕ) (runs : List Run) (group : ℕ) (k : CodeStateTable) → KeepsRuns c cycles runs (group * 64 + 64) k →
     KeepsRuns c cycles runs ((group + 1) * 64) k
 group_next c cycles runs group k h =
     let e : group * 64 + 64 ≡ (group + 1) * 64 = omega arith in subst (λ (n : ℕ). KeepsRuns c cycles runs n k) e h
 
-pub states_all : (c : Circuit) (cycles : ℕ) (s : Stimulus) (n group : ℕ) (k : CodeKept) → n ≡ length s.runs → n / 64 + 1 ≤ group →
+pub states_all : (c : Circuit) (cycles : ℕ) (s : Stimulus) (n group : ℕ) (k : CodeStateTable) → n ≡ length s.runs → n / 64 + 1 ≤ group →
     KeepsRuns c cycles (inputs_of s) (group * 64) k → states_in k ≡ states_looked c cycles (inputs_of s)
 states_all c cycles s n group k e le h =
     let many : length (inputs_of s) ≤ group * 64 = omega (arith, e, le, length-map s.runs (λ (run : Recorded). run.inputs)) in
     h.states ∙ ap (λ (runs : List Run). kept_rows [] (flat_map (run_states c cycles) runs)) (take_all (group * 64) (inputs_of s) many)
 
-pub steps_all : (c : Circuit) (cycles : ℕ) (s : Stimulus) (n group : ℕ) (k : CodeKept) → n ≡ length s.runs → n / 64 + 1 ≤ group →
+pub steps_all : (c : Circuit) (cycles : ℕ) (s : Stimulus) (n group : ℕ) (k : CodeStateTable) → n ≡ length s.runs → n / 64 + 1 ≤ group →
     KeepsRuns c cycles (inputs_of s) (group * 64) k → steps_in k ≡ steps_looked c cycles (inputs_of s)
 steps_all c cycles s n group k e le h =
     let many : length (inputs_of s) ≤ group * 64 = omega (arith, e, le, length-map s.runs (λ (run : Recorded). run.inputs)) in
     h.steps ∙ ap (λ (runs : List Run). kept_rows [] (flat_map (run_steps c cycles) runs)) (take_all (group * 64) (inputs_of s) many)
 
-pub looked_is : (width : ℕ) (k : CodeKept) → IsKept width k → IsLooked width k.rows k.steps.items
+pub looked_is : (width : ℕ) (k : CodeStateTable) → IsKept width k → IsLooked width k.rows k.steps.items
 looked_is width k h = record { wide = h.wide; between = h.steps; few = h.few }

@@ -12,7 +12,7 @@ use Rattle.std.proofs.lemmas.Nat.Bits.{bit_at-lt, bit_at-suc, bit_at-zero, bit_a
 use Rattle.bs_bits.specs.Bits.{bits_eq}
 use Rattle.bs_stim.specs.Packing.{HasPut, IsClear, bit_in}
 use Rattle.bs_lanes_planes.specs.Planes.{bit_place, lane}
-use Rattle.bs_inspect_film.specs.Row.{IsKey, IsRow, row_bits, words_eq}
+use Rattle.bs_inspect_film.specs.PackedBits.{IsKey, IsRow, row_bits, words_eq}
 use Rattle.bs_inspect_film.proofs.RowLemmas.{bits_same}
 
 -- ---- a row that is made bit by bit

@@ -1,7 +1,7 @@
 -- what public contracts rest on
 pub mod Rows
-pub mod Looked
-pub mod Kept
+pub mod SimulatedStates
+pub mod StateTable
 -- what inner functions promise each other
-pub mod Row
-pub mod Film
+pub mod PackedBits
+pub mod Simulation

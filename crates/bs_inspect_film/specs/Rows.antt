@@ -1,7 +1,7 @@
 -- Rows of bits, each once.
 use Rattle.std.specs.Prelude.{nat_le, Bool, List, [], ◌∷◌, ◌++◌, length, fold, if◌then◌else◌}
 use Rattle.bs_scan.specs.Moments.{is_listed}
-use Rattle.bs_inspect_film.specs.declared.kept.TheConstants.{MAX_ROWS}
+use Rattle.bs_inspect_film.specs.declared.state_table.TheConstants.{MAX_ROWS}
 
 -- the rows with one more at the end, unless it is there
 abbrev pub with_row : List (List Bool) → List Bool → List (List Bool)

@@ -1,7 +1,7 @@
 //! A row of bits in packed words.
 ghost use Rattle.std.specs.Prelude.{◌≡◌, ◌<◌, ◌+◌, ◌/◌, ◌^◌, length, replicate, slice_index_or, false, All, IfOk};
 ghost use Rattle.bs_lanes_planes.specs.Planes.{lane as lane_in};
-ghost use Rattle.bs_inspect_film.specs.Row.{IsKey, IsRow, row_bits};
+ghost use Rattle.bs_inspect_film.specs.PackedBits.{IsKey, IsRow, row_bits};
 
 use bs_bits::{Bits, NoMemory};
 use bs_lanes_planes::{lane_bit, put_bit};
@@ -10,14 +10,14 @@ use std::marker::Model;
 
 /// A list of bits, 64 in a word. Contracts see the bits.
 #[derive(Drop)]
-pub struct Row {
+pub struct PackedBits {
     count: usize,
     words: Vec<u64>,
 }
 
-impl Model for Row {
+impl Model for PackedBits {
     ghost use Rattle.std.specs.Prelude.{List, Bool};
-    ghost use Rattle.bs_inspect_film.specs.Row.{IsRow, row_bits};
+    ghost use Rattle.bs_inspect_film.specs.PackedBits.{IsRow, row_bits};
 
     ghost Value = { List Bool };
 
@@ -68,20 +68,20 @@ fn copied(alloc: Global, words: &[u64]) -> Result<Vec<u64>, NoMemory>
     Ok(own)
 }
 
-impl Row {
+impl PackedBits {
     /// The bits that planes of one word have in a lane.
     pub fn of_lane(
         alloc: Global,
         planes: &[u64],
         count: usize,
         lane: usize,
-    ) -> Result<Row, NoMemory>
+    ) -> Result<PackedBits, NoMemory>
         requires lane { lane < 64 }
         requires size { length planes.now ≡ count }
         ensures { IfOk result (λ row. row ≡ lane_in 1 count planes.now lane) }
     {
         let words = lane_words(alloc, planes, count, lane)?;
-        Ok(Row { count, words })
+        Ok(PackedBits { count, words })
     }
 
     /// The number of bits.

@@ -1,5 +1,5 @@
 pub mod SpreadLemmas
-pub mod ToldLemmas
+pub mod MomentCountLemmas
 pub mod SizeLemmas
 pub mod RowLemmas
 pub mod LineLemmas

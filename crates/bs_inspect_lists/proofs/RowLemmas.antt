@@ -20,9 +20,9 @@ use Rattle.bs_scan.specs.declared.fault.ChoiceFault.{ChoiceFault}
 use Rattle.bs_scan.specs.declared.fault.ChoiceFault.TheVariants.{NoMemory}
 use Rattle.bs_inspect_proposal.specs.Proposal.{bit_lines, flop_keys}
 use Rattle.bs_inspect_lists.specs.Rows.{AreBy, IsRow, choice_in, of_one}
-use Rattle.bs_inspect_lists.specs.Told.{AreTold}
-use Rattle.bs_inspect_lists.specs.declared.lists.Told.{Told}
-use Rattle.bs_inspect_lists.specs.declared.rows.Row.{Row}
+use Rattle.bs_inspect_lists.specs.MomentCount.{AreMomentCounts}
+use Rattle.bs_inspect_lists.specs.declared.lists.MomentCount.{MomentCount}
+use Rattle.bs_inspect_lists.specs.declared.rows.SignatureRow.{SignatureRow}
 
 -- ---- a signature
 
@@ -92,18 +92,18 @@ choice_once raw text choice e = by (nat_lt MAX_SIGNATURE_BYTES (length text)) e
 
 -- ---- its lists
 
-pub are_by : (c : Circuit) (runs : List Run) (o : Option Chosen) (choice : Chosen) (lists : List Told) → Some choice ≡ o → AreTold c choice runs lists →
+pub are_by : (c : Circuit) (runs : List Run) (o : Option Chosen) (choice : Chosen) (lists : List MomentCount) → Some choice ≡ o → AreMomentCounts c choice runs lists →
     AreBy c runs o lists
-are_by c runs o choice lists e told = subst (λ (p : Option Chosen). AreBy c runs p lists) e told
+are_by c runs o choice lists e counts = subst (λ (p : Option Chosen). AreBy c runs p lists) e counts
 
-pub none_by : (c : Circuit) (runs : List Run) (o : Option Chosen) (lists : List Told) → None ≡ o → lists ≡ [] → AreBy c runs o lists
+pub none_by : (c : Circuit) (runs : List Run) (o : Option Chosen) (lists : List MomentCount) → None ≡ o → lists ≡ [] → AreBy c runs o lists
 none_by c runs o lists e is = subst (λ (p : Option Chosen). AreBy c runs p lists) e is
 
 pub first_within : (width bits : ℕ) (order flops : List ℕ) → All (λ flop. flop < width) order → flops ≡ take bits order → All (λ flop. flop < width) flops
 first_within width bits order flops within e =
     subst (All (λ (f : ℕ). f < width)) (sym e) (All-take (λ (f : ℕ). f < width) bits order within)
 
-pub is_row : (raw : Parts) (s : Stimulus) (order flops text : List ℕ) (row : Row) → flops ≡ take row.bits order → text ≡ bit_lines (flop_keys raw) flops →
+pub is_row : (raw : Parts) (s : Stimulus) (order flops text : List ℕ) (row : SignatureRow) → flops ≡ take row.bits order → text ≡ bit_lines (flop_keys raw) flops →
     AreBy (circuit_of raw) (inputs_of s) (choice_in raw text) row.lists.items → IsRow raw s order row
 is_row raw s order flops text row first is lists = record {
   lists =
@@ -113,20 +113,20 @@ is_row raw s order flops text row first is lists = record {
 
 -- ---- rows, one after another
 
-pub none_rows : (raw : Parts) (s : Stimulus) (order : List ℕ) (rows : List Row) → rows ≡ [] → All (IsRow raw s order) rows
+pub none_rows : (raw : Parts) (s : Stimulus) (order : List ℕ) (rows : List SignatureRow) → rows ≡ [] → All (IsRow raw s order) rows
 none_rows raw s order rows e = subst (All (IsRow raw s order)) (sym e) (λ k d lt. absurd (omega (arith, lt)))
 
-pub one_row : (raw : Parts) (s : Stimulus) (order : List ℕ) (rows after : List Row) (row : Row) → All (IsRow raw s order) rows → IsRow raw s order row →
+pub one_row : (raw : Parts) (s : Stimulus) (order : List ℕ) (rows after : List SignatureRow) (row : SignatureRow) → All (IsRow raw s order) rows → IsRow raw s order row →
     after ≡ rows ++ row ∷ [] → All (IsRow raw s order) after
 one_row raw s order rows after row all is e =
     subst (All (IsRow raw s order)) (sym e) (All-append (IsRow raw s order) rows (row ∷ []) all (λ k d lt. alone k d lt))
   where
-    alone : (k : ℕ) (d : Row) → k < 1 → IsRow raw s order (get_or (row ∷ []) k d)
+    alone : (k : ℕ) (d : SignatureRow) → k < 1 → IsRow raw s order (get_or (row ∷ []) k d)
     alone zero d lt = is
     alone (suc k) d lt = absurd (omega (arith, lt))
 
-pub bits_more : (sizes : List ℕ) (rows after : List Row) (row : Row) (i d : ℕ) → i < length sizes → map (λ (r : Row). r.bits) rows ≡ take i sizes →
-    row.bits ≡ get_or sizes i d → after ≡ rows ++ row ∷ [] → map (λ (r : Row). r.bits) after ≡ take (i + 1) sizes
+pub bits_more : (sizes : List ℕ) (rows after : List SignatureRow) (row : SignatureRow) (i d : ℕ) → i < length sizes → map (λ (r : SignatureRow). r.bits) rows ≡ take i sizes →
+    row.bits ≡ get_or sizes i d → after ≡ rows ++ row ∷ [] → map (λ (r : SignatureRow). r.bits) after ≡ take (i + 1) sizes
 bits_more sizes rows after row i d lt e is goes =
-    ap (map (λ (r : Row). r.bits)) goes
-    ∙ (map-append (λ (r : Row). r.bits) rows (row ∷ []) ∙ ((λ j. e j ++ is j ∷ []) ∙ sym (take_more sizes i d lt)))
+    ap (map (λ (r : SignatureRow). r.bits)) goes
+    ∙ (map-append (λ (r : SignatureRow). r.bits) rows (row ∷ []) ∙ ((λ j. e j ++ is j ∷ []) ∙ sym (take_more sizes i d lt)))

@@ -16,8 +16,8 @@ use Rattle.bs_inspect_lists.specs.Rows.{AreBy, IsRow}
 use Rattle.bs_inspect_lists.specs.Signature.{TellsSignature}
 use Rattle.bs_inspect_lists.specs.Sizes.{most_of, sizes}
 use Rattle.bs_inspect_lists.specs.Spread.{later_moments}
-use Rattle.bs_inspect_lists.specs.declared.lists.Told.{Told}
-use Rattle.bs_inspect_lists.specs.declared.rows.Row.{Row}
+use Rattle.bs_inspect_lists.specs.declared.lists.MomentCount.{MomentCount}
+use Rattle.bs_inspect_lists.specs.declared.rows.SignatureRow.{SignatureRow}
 use Rattle.bs_inspect_lists.specs.declared.spread.TheConstants.{MAX_MOMENTS}
 
 keys_count : (raw : Parts) → length (flop_keys raw) ≡ length raw.flops
@@ -28,8 +28,8 @@ pub order_within : (raw : Parts) (s : Stimulus) (bits most : ℕ) (order text : 
 order_within raw s bits most order text proposed =
     subst (λ (n : ℕ). All (λ flop. flop < n) order) (keys_count raw) (flops_within _ _ most order proposed.best)
 
-pub sizes_as : (raw : Parts) (width bits : ℕ) (own given : List ℕ) (rows : List Row) → width ≡ length raw.flops → own ≡ sizes width bits → given ≡ own →
-    map (λ (r : Row). r.bits) rows ≡ given → map (λ (r : Row). r.bits) rows ≡ sizes (length raw.flops) bits
+pub sizes_as : (raw : Parts) (width bits : ℕ) (own given : List ℕ) (rows : List SignatureRow) → width ≡ length raw.flops → own ≡ sizes width bits → given ≡ own →
+    map (λ (r : SignatureRow). r.bits) rows ≡ given → map (λ (r : SignatureRow). r.bits) rows ≡ sizes (length raw.flops) bits
 sizes_as raw width bits own given rows wide is same e = e ∙ (same ∙ (is ∙ ap (λ (n : ℕ). sizes n bits) wide))
 
 pub proposed_as : (raw : Parts) (s : Stimulus) (width bits most : ℕ) (order text : List ℕ) → width ≡ length raw.flops → most ≡ most_of width bits →
@@ -37,24 +37,24 @@ pub proposed_as : (raw : Parts) (s : Stimulus) (width bits most : ℕ) (order te
 proposed_as raw s width bits most order text wide is h =
     subst (λ (n : ℕ). Proposes raw s bits n order text) (is ∙ ap (λ (n : ℕ). most_of n bits) wide) h
 
-by_few : (c : Circuit) (runs : List Run) (o : Option Chosen) (lists : List Told) → AreBy c runs o lists → length lists ≤ MAX_MOMENTS
+by_few : (c : Circuit) (runs : List Run) (o : Option Chosen) (lists : List MomentCount) → AreBy c runs o lists → length lists ≤ MAX_MOMENTS
 by_few c runs None lists e = omega (arith, ap length e)
-by_few c runs (Some choice) lists told =
-    let few : length lists ≤ min (length (later_moments runs)) MAX_MOMENTS = told.few in omega (arith, few)
+by_few c runs (Some choice) lists says =
+    let few : length lists ≤ min (length (later_moments runs)) MAX_MOMENTS = says.few in omega (arith, few)
 
-pub rows_few : (raw : Parts) (s : Stimulus) (order : List ℕ) (rows : List Row) → All (IsRow raw s order) rows →
+pub rows_few : (raw : Parts) (s : Stimulus) (order : List ℕ) (rows : List SignatureRow) → All (IsRow raw s order) rows →
     All (λ row. length row.lists.items ≤ MAX_MOMENTS) rows
 rows_few raw s order rows all = λ k d lt. by_few (circuit_of raw) (inputs_of s) _ (get_or rows k d).lists.items (all k d lt).lists
 
-pub tells : (raw : Parts) (s : Stimulus) (bits : ℕ) (order proposal text : List ℕ) (rows : List Row) →
-    Proposes raw s bits (most_of (length raw.flops) bits) order proposal → map (λ (r : Row). r.bits) rows ≡ sizes (length raw.flops) bits →
+pub tells : (raw : Parts) (s : Stimulus) (bits : ℕ) (order proposal text : List ℕ) (rows : List SignatureRow) →
+    Proposes raw s bits (most_of (length raw.flops) bits) order proposal → map (λ (r : SignatureRow). r.bits) rows ≡ sizes (length raw.flops) bits →
     All (IsRow raw s order) rows → text ≡ proposal ++ rows_text rows → TellsSignature raw s bits text
-tells raw s bits order proposal text rows proposed sized all told = record {
+tells raw s bits order proposal text rows proposed sized all says = record {
   proposal = proposal;
   order = order;
   proposed = proposed;
   rows = rows;
   sizes_are = sized;
   each = all;
-  told = told;
+  says = says;
 }

@@ -2,6 +2,6 @@
 pub mod Signature
 pub mod Sizes
 pub mod Rows
-pub mod Told
+pub mod MomentCount
 pub mod Spread
 pub mod Lines

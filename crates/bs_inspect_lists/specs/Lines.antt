@@ -2,30 +2,30 @@
 use Rattle.std.specs.Prelude.{ℕ, ◌+◌, ◌*◌, ◌/◌, ◌%◌, ◌==◌, List, [], ◌∷◌, ◌++◌, length, codes, decimal, if◌then◌else◌}
 use Rattle.std.specs.List.{count_by, flat_map, sum_by}
 use Rattle.bs_bits.specs.Lines.{line}
-use Rattle.bs_inspect_lists.specs.Told.{is_cut, number_of}
-use Rattle.bs_inspect_lists.specs.declared.counting.Count.{Count}
-use Rattle.bs_inspect_lists.specs.declared.counting.Count.TheVariants.{Whole, More, Spent}
-use Rattle.bs_inspect_lists.specs.declared.lists.Told.{Told}
-use Rattle.bs_inspect_lists.specs.declared.rows.Row.{Row}
+use Rattle.bs_inspect_lists.specs.MomentCount.{is_cut, number_of}
+use Rattle.bs_inspect_lists.specs.declared.counting.PredecessorCount.{PredecessorCount}
+use Rattle.bs_inspect_lists.specs.declared.counting.PredecessorCount.TheVariants.{Whole, More, Spent}
+use Rattle.bs_inspect_lists.specs.declared.lists.MomentCount.{MomentCount}
+use Rattle.bs_inspect_lists.specs.declared.rows.SignatureRow.{SignatureRow}
 
 -- what a list counts
-abbrev pub count_words : Count → List ℕ
+abbrev pub count_words : PredecessorCount → List ℕ
 count_words (Whole n) = decimal n
 count_words More = codes "more"
 count_words (Spent n) = codes "spent"
 
 -- a moment with its list
-abbrev pub list_line : Told → List ℕ
-list_line told =
-    line (codes "list " ++ (decimal told.moment.run ++ (codes " " ++ (decimal told.moment.cycle ++ (codes " " ++ count_words told.count)))))
+abbrev pub list_line : MomentCount → List ℕ
+list_line entry =
+    line (codes "list " ++ (decimal entry.moment.run ++ (codes " " ++ (decimal entry.moment.cycle ++ (codes " " ++ count_words entry.count)))))
 
 -- the hundredth parts of the mean, rounded down, and none where there are no lists
-abbrev pub mean_of : List Told → ℕ
-mean_of all = if length all == 0 then 0 else sum_by (λ told. number_of told.count) all * 100 / length all
+abbrev pub mean_of : List MomentCount → ℕ
+mean_of all = if length all == 0 then 0 else sum_by (λ entry. number_of entry.count) all * 100 / length all
 
 -- how many lists were cut
-abbrev pub count_cut : List Told → ℕ
-count_cut all = count_by (λ told. is_cut told.count) all
+abbrev pub count_cut : List MomentCount → ℕ
+count_cut all = count_by (λ entry. is_cut entry.count) all
 
 -- a number of hundredth parts, with two decimals
 abbrev pub decimals : ℕ → List ℕ
@@ -36,18 +36,18 @@ abbrev pub counts_words : ℕ → ℕ → List ℕ
 counts_words bits count = codes "lists " ++ (decimal bits ++ (codes " " ++ (decimal count ++ codes " ")))
 
 -- the same, their mean, and how many were cut
-abbrev pub lists_line : ℕ → List Told → List ℕ
+abbrev pub lists_line : ℕ → List MomentCount → List ℕ
 lists_line bits lists =
     line (counts_words bits (length lists) ++ (decimals (mean_of lists) ++ (codes " " ++ decimal (count_cut lists))))
 
-abbrev pub row_line : Row → List ℕ
+abbrev pub row_line : SignatureRow → List ℕ
 row_line row = lists_line row.bits row.lists.items
 
 -- the row of the proposed signature, with its lists
-abbrev pub first_text : Row → List ℕ
+abbrev pub first_text : SignatureRow → List ℕ
 first_text row = row_line row ++ flat_map list_line row.lists.items
 
 -- the same, and the rows of more bits
-abbrev pub rows_text : List Row → List ℕ
+abbrev pub rows_text : List SignatureRow → List ℕ
 rows_text [] = []
 rows_text (row ∷ rows) = first_text row ++ flat_map row_line rows

@@ -11,9 +11,9 @@ use Rattle.bs_scan.specs.Moments.{Run}
 use Rattle.bs_scan.specs.declared.choice.TheConstants.{MAX_SIGNATURE_BYTES}
 use Rattle.bs_scan.specs.declared.fault.ChoiceFault.{ChoiceFault}
 use Rattle.bs_inspect_proposal.specs.Proposal.{bit_lines, flop_keys}
-use Rattle.bs_inspect_lists.specs.Told.{AreTold}
-use Rattle.bs_inspect_lists.specs.declared.lists.Told.{Told}
-use Rattle.bs_inspect_lists.specs.declared.rows.Row.{Row}
+use Rattle.bs_inspect_lists.specs.MomentCount.{AreMomentCounts}
+use Rattle.bs_inspect_lists.specs.declared.lists.MomentCount.{MomentCount}
+use Rattle.bs_inspect_lists.specs.declared.rows.SignatureRow.{SignatureRow}
 
 -- the signature of one state
 abbrev pub of_one : Result Chosen ChoiceFault → Option Chosen
@@ -25,10 +25,10 @@ abbrev pub choice_in : Parts → List ℕ → Option Chosen
 choice_in raw text = if nat_lt MAX_SIGNATURE_BYTES (length text) then None else of_one (choice_of raw (lines_of text))
 
 -- the lists by a signature, and none where there is none
-abbrev pub AreBy : Circuit → List Run → Option Chosen → List Told → Type 0
+abbrev pub AreBy : Circuit → List Run → Option Chosen → List MomentCount → Type 0
 AreBy c runs None lists = lists ≡ []
-AreBy c runs (Some choice) lists = AreTold c choice runs lists
+AreBy c runs (Some choice) lists = AreMomentCounts c choice runs lists
 
 -- the lists by the signature whose lines name the first flip-flops of an order, as many as the row has bits
-pub record IsRow (raw : Parts) (stimulus : Stimulus) (order : List ℕ) (row : Row) : Type 0 where
+pub record IsRow (raw : Parts) (stimulus : Stimulus) (order : List ℕ) (row : SignatureRow) : Type 0 where
   pub lists : AreBy (circuit_of raw) (inputs_of stimulus) (choice_in raw (bit_lines (flop_keys raw) (take row.bits order))) row.lists.items

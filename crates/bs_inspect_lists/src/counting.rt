@@ -3,7 +3,7 @@ ghost use Rattle.std.specs.Prelude.{◌≡◌, ◌≢◌, ◌<◌, ◌≤◌, �
 ghost use Rattle.std.specs.Option.{option_to_list};
 ghost use Rattle.bs_encode.specs.declared.encoding.TheConstants.{MAX_ACTIVATIONS};
 ghost use Rattle.bs_inspect_lists.specs.declared.counting.TheConstants.{MAX_LISTED};
-ghost use Rattle.bs_inspect_lists.specs.Told.{IsCountOf, counted_as, is_cut, number_of, weight_of};
+ghost use Rattle.bs_inspect_lists.specs.MomentCount.{IsCountOf, counted_as, is_cut, number_of, weight_of};
 
 use bs_bits::{Bits, NoMemory};
 use bs_preimage::{Listing, Preimage};
@@ -19,7 +19,7 @@ pub const MAX_LEMMAS: u64 = 10_000;
 
 /// How many predecessors there are.
 #[derive(Clone, Copy, Debug, PartialEq, Eq)]
-pub enum Count {
+pub enum PredecessorCount {
     /// So many, which is all.
     Whole(u32),
     /// More than `MAX_LISTED`.
@@ -29,25 +29,25 @@ pub enum Count {
 }
 
 /// How many a list has.
-fn count_of(listing: &Listing) -> Count
+fn count_of(listing: &Listing) -> PredecessorCount
     requires { length listing.now.cands ≤ MAX_LISTED + 1 }
     ensures { result ≡ counted_as listing.now.cands listing.now.end }
 {
     match listing.end {
-        ListEnd::Finished(_) => Count::Whole(listing.cands.len() as u32),
-        ListEnd::Candidates => Count::More,
-        ListEnd::Conflicts => Count::Spent(listing.cands.len() as u32),
+        ListEnd::Finished(_) => PredecessorCount::Whole(listing.cands.len() as u32),
+        ListEnd::Candidates => PredecessorCount::More,
+        ListEnd::Conflicts => PredecessorCount::Spent(listing.cands.len() as u32),
     }
 }
 
 /// How many predecessors of a state agree with a signature.
-#[tactic(auto, using(crate::proofs::ToldLemmas::is_count, crate::proofs::ToldLemmas::few_listed))]
+#[tactic(auto, using(crate::proofs::MomentCountLemmas::is_count, crate::proofs::MomentCountLemmas::few_listed))]
 fn count_in(
     alloc: Global,
     preimage: &mut Preimage<'_>,
     present: &Bits,
     stored: &Bits,
-) -> Result<Count, NoMemory>
+) -> Result<PredecessorCount, NoMemory>
     requires state { length present.now ≡ length preimage.old.circuit.flops }
     requires signature { length stored.now ≡ length preimage.old.choice.items }
     requires calls { preimage.old.calls < MAX_ACTIVATIONS }
@@ -69,7 +69,11 @@ fn count_in(
 }
 
 /// How many predecessors of a dump's state agree with what it holds, at a moment behind reset.
-fn count_of_dump(alloc: Global, preimage: &mut Preimage<'_>, dump: &Dump) -> Result<Count, NoMemory>
+fn count_of_dump(
+    alloc: Global,
+    preimage: &mut Preimage<'_>,
+    dump: &Dump,
+) -> Result<PredecessorCount, NoMemory>
     requires held { dump.now.stored ≢ None }
     requires state { length dump.now.state ≡ length preimage.old.circuit.flops }
     requires signature { IfSome dump.now.stored (λ stored. length stored ≡ length preimage.old.choice.items) }
@@ -90,7 +94,7 @@ pub(crate) fn count_dump(
     alloc: Global,
     preimage: &mut Preimage<'_>,
     dump: Dump,
-) -> Result<Count, NoMemory>
+) -> Result<PredecessorCount, NoMemory>
     requires held { dump.stored ≢ None }
     requires state { length dump.state ≡ length preimage.old.circuit.flops }
     requires signature { IfSome dump.stored (λ stored. length stored ≡ length preimage.old.choice.items) }
@@ -104,29 +108,29 @@ pub(crate) fn count_dump(
 }
 
 /// How many are counted: of a list that was cut those that it has.
-pub(crate) fn number_of(count: Count) -> u32
+pub(crate) fn number_of(count: PredecessorCount) -> u32
     ensures { result ≡ number_of count }
 {
     match count {
-        Count::Whole(number) => number,
-        Count::More => MAX_LISTED as u32,
-        Count::Spent(number) => number,
+        PredecessorCount::Whole(number) => number,
+        PredecessorCount::More => MAX_LISTED as u32,
+        PredecessorCount::Spent(number) => number,
     }
 }
 
 /// Whether a list was cut.
-pub(crate) fn is_cut(count: Count) -> bool
+pub(crate) fn is_cut(count: PredecessorCount) -> bool
     ensures { result ≡ is_cut count }
 {
     match count {
-        Count::Whole(_) => false,
-        Count::More => true,
-        Count::Spent(_) => true,
+        PredecessorCount::Whole(_) => false,
+        PredecessorCount::More => true,
+        PredecessorCount::Spent(_) => true,
     }
 }
 
 /// How much of the room a list takes: one that was cut as much as a longest one.
-pub(crate) fn weight_of(count: Count) -> u64
+pub(crate) fn weight_of(count: PredecessorCount) -> u64
     ensures weight { result ≡ weight_of count }
     ensures small { result < 2 ^ 32 }
 {

@@ -2,43 +2,43 @@
 ghost use Rattle.std.specs.Prelude.{◌≡◌, ◌≤◌, ◌*◌, ◌^◌, ◌++◌, length, All, OnOk};
 ghost use Rattle.std.specs.List.{flat_map, sum_by};
 ghost use Rattle.bs_inspect_lists.specs.Lines.{count_cut, count_words, counts_words, decimals, first_text, list_line, lists_line, mean_of, row_line, rows_text};
-ghost use Rattle.bs_inspect_lists.specs.Told.{number_of};
+ghost use Rattle.bs_inspect_lists.specs.MomentCount.{number_of};
 ghost use Rattle.bs_inspect_lists.specs.declared.spread.TheConstants.{MAX_MOMENTS};
 
-use crate::counting::{Count, is_cut, number_of};
-use crate::lists::Told;
-use crate::rows::Row;
+use crate::counting::{PredecessorCount, is_cut, number_of};
+use crate::lists::MomentCount;
+use crate::rows::SignatureRow;
 use bs_bits::{NoMemory, end_line, push_number, push_piece};
 
 /// Appends what a list counts.
-fn push_count(text: &mut Vec<u8>, count: Count) -> Result<(), NoMemory>
+fn push_count(text: &mut Vec<u8>, count: PredecessorCount) -> Result<(), NoMemory>
     ensures { OnOk result (text.new.items ≡ text.old.items ++ count_words count) }
 {
     match count {
-        Count::Whole(number) => push_number(text, number as u64),
-        Count::More => push_piece(text, b"more"),
-        Count::Spent(_) => push_piece(text, b"spent"),
+        PredecessorCount::Whole(number) => push_number(text, number as u64),
+        PredecessorCount::More => push_piece(text, b"more"),
+        PredecessorCount::Spent(_) => push_piece(text, b"spent"),
     }
 }
 
 /// Appends a moment with its list.
-fn push_list(text: &mut Vec<u8>, told: Told) -> Result<(), NoMemory>
-    ensures { OnOk result (text.new.items ≡ text.old.items ++ list_line told) }
+fn push_list(text: &mut Vec<u8>, entry: MomentCount) -> Result<(), NoMemory>
+    ensures { OnOk result (text.new.items ≡ text.old.items ++ list_line entry) }
 {
     push_piece(text, b"list ")?;
-    push_number(text, told.moment.run as u64)?;
+    push_number(text, entry.moment.run as u64)?;
     push_piece(text, b" ")?;
-    push_number(text, told.moment.cycle as u64)?;
+    push_number(text, entry.moment.cycle as u64)?;
     push_piece(text, b" ")?;
-    push_count(text, told.count)?;
+    push_count(text, entry.count)?;
     end_line(text)
 }
 
 /// The sum of what lists count.
 #[tactic(auto, using(crate::proofs::LineLemmas::sum_more))]
-fn sum_of(all: &[Told]) -> u64
+fn sum_of(all: &[MomentCount]) -> u64
     requires { length all.now ≤ MAX_MOMENTS }
-    ensures sum { result ≡ sum_by (λ told. number_of told.count) all.now }
+    ensures sum { result ≡ sum_by (λ entry. number_of entry.count) all.now }
     ensures small { result ≤ length all.now * 2 ^ 32 }
 {
     let mut sum = 0u64;
@@ -49,14 +49,14 @@ fn sum_of(all: &[Told]) -> u64
 }
 
 /// How many lists were cut.
-fn count_cut(all: &[Told]) -> usize
+fn count_cut(all: &[MomentCount]) -> usize
     ensures { result ≡ count_cut all.now }
 {
-    all.iter().filter(|told| is_cut(told.count)).count()
+    all.iter().filter(|entry| is_cut(entry.count)).count()
 }
 
 /// The hundredth parts of the mean.
-fn mean_of(all: &[Told]) -> u64
+fn mean_of(all: &[MomentCount]) -> u64
     requires { length all.now ≤ MAX_MOMENTS }
     ensures { result ≡ mean_of all.now }
 {
@@ -90,7 +90,7 @@ fn push_counts(text: &mut Vec<u8>, bits: usize, count: usize) -> Result<(), NoMe
 }
 
 /// Appends how many bits the signature has, how many lists there are, their mean, and how many were cut.
-fn push_lists(text: &mut Vec<u8>, bits: usize, lists: &[Told]) -> Result<(), NoMemory>
+fn push_lists(text: &mut Vec<u8>, bits: usize, lists: &[MomentCount]) -> Result<(), NoMemory>
     requires { length lists.now ≤ MAX_MOMENTS }
     ensures { OnOk result (text.new.items ≡ text.old.items ++ lists_line bits lists.now) }
 {
@@ -102,7 +102,7 @@ fn push_lists(text: &mut Vec<u8>, bits: usize, lists: &[Told]) -> Result<(), NoM
 }
 
 /// Appends the line of a row.
-fn push_row(text: &mut Vec<u8>, row: &Row) -> Result<(), NoMemory>
+fn push_row(text: &mut Vec<u8>, row: &SignatureRow) -> Result<(), NoMemory>
     requires { length row.now.lists.items ≤ MAX_MOMENTS }
     ensures { OnOk result (text.new.items ≡ text.old.items ++ row_line row.now) }
 {
@@ -111,7 +111,7 @@ fn push_row(text: &mut Vec<u8>, row: &Row) -> Result<(), NoMemory>
 
 /// Appends each moment with its list.
 #[tactic(auto, using(crate::proofs::LineLemmas::list_more))]
-fn push_each(text: &mut Vec<u8>, all: &[Told]) -> Result<(), NoMemory>
+fn push_each(text: &mut Vec<u8>, all: &[MomentCount]) -> Result<(), NoMemory>
     ensures { OnOk result (text.new.items ≡ text.old.items ++ flat_map list_line all.now) }
 {
     'lists: for i in 0..all.len() {
@@ -121,7 +121,7 @@ fn push_each(text: &mut Vec<u8>, all: &[Told]) -> Result<(), NoMemory>
 }
 
 /// Appends the row of the proposed signature, with its lists.
-fn push_first(text: &mut Vec<u8>, row: &Row) -> Result<(), NoMemory>
+fn push_first(text: &mut Vec<u8>, row: &SignatureRow) -> Result<(), NoMemory>
     requires { length row.now.lists.items ≤ MAX_MOMENTS }
     ensures { OnOk result (text.new.items ≡ text.old.items ++ first_text row.now) }
 {
@@ -131,7 +131,7 @@ fn push_first(text: &mut Vec<u8>, row: &Row) -> Result<(), NoMemory>
 
 /// Appends the rows of more bits.
 #[tactic(auto, using(crate::proofs::LineLemmas::row_more, crate::proofs::LineLemmas::row_few))]
-fn push_further(text: &mut Vec<u8>, rows: &[Row]) -> Result<(), NoMemory>
+fn push_further(text: &mut Vec<u8>, rows: &[SignatureRow]) -> Result<(), NoMemory>
     requires { All (λ row. length row.lists.items ≤ MAX_MOMENTS) rows.now }
     ensures { OnOk result (text.new.items ≡ text.old.items ++ flat_map row_line rows.now) }
 {
@@ -143,7 +143,7 @@ fn push_further(text: &mut Vec<u8>, rows: &[Row]) -> Result<(), NoMemory>
 
 /// Appends the row of the proposed signature, with its lists, and the rows of more bits.
 #[tactic(auto, using(crate::proofs::LineLemmas::first_few, crate::proofs::LineLemmas::others_few))]
-pub(crate) fn push_rows(text: &mut Vec<u8>, rows: &[Row]) -> Result<(), NoMemory>
+pub(crate) fn push_rows(text: &mut Vec<u8>, rows: &[SignatureRow]) -> Result<(), NoMemory>
     requires { All (λ row. length row.lists.items ≤ MAX_MOMENTS) rows.now }
     ensures { OnOk result (text.new.items ≡ text.old.items ++ rows_text rows.now) }
 {

@@ -7,10 +7,10 @@ ghost use Rattle.bs_scan.specs.Choice.{depth_of};
 ghost use Rattle.bs_scan.specs.Crash.{recording_of};
 ghost use Rattle.bs_scan.specs.Moments.{IsMoment};
 ghost use Rattle.bs_preimage.specs.Preimage.{fresh};
-ghost use Rattle.bs_inspect_lists.specs.Told.{AreTold, IsTold, room_of};
+ghost use Rattle.bs_inspect_lists.specs.MomentCount.{AreMomentCounts, IsMomentCount, room_of};
 ghost use Rattle.bs_inspect_lists.specs.declared.lists.TheConstants.{MAX_LISTED_BITS};
 
-use crate::counting::{Count, count_dump, weight_of};
+use crate::counting::{PredecessorCount, count_dump, weight_of};
 use crate::spread::{MAX_MOMENTS, count_later, moment_taken};
 use bs_bits::{List, NoMemory};
 use bs_chip::Chip;
@@ -29,14 +29,14 @@ const TRACK_BYTES: usize = 67_108_864;
 
 /// A moment, and how many predecessors its state has that agree with what the register holds there.
 #[derive(Clone, Copy, Debug, PartialEq, Eq)]
-pub struct Told {
+pub struct MomentCount {
     pub moment: Moment,
-    pub count: Count,
+    pub count: PredecessorCount,
 }
 
 /// A moment with its count.
-#[tactic(auto, using(crate::proofs::ToldLemmas::told_as, crate::proofs::ToldLemmas::state_wide, crate::proofs::ToldLemmas::stored_wide, crate::proofs::ToldLemmas::held_there, crate::proofs::ToldLemmas::moment_there))]
-fn told_at(
+#[tactic(auto, using(crate::proofs::MomentCountLemmas::moment_counted_as, crate::proofs::MomentCountLemmas::state_wide, crate::proofs::MomentCountLemmas::stored_wide, crate::proofs::MomentCountLemmas::held_there, crate::proofs::MomentCountLemmas::moment_there))]
+fn count_at(
     alloc: Global,
     chip: &mut Chip<'_>,
     preimage: &mut Preimage<'_>,
@@ -44,7 +44,7 @@ fn told_at(
     choice: &Choice,
     runs: &Runs,
     moment: Moment,
-) -> Result<Told, NoMemory>
+) -> Result<MomentCount, NoMemory>
     requires recording { chip.old.recording ≡ recording_of net.now.raw choice.now runs.now }
     requires circuit { preimage.old.circuit ≡ circuit net.now }
     requires choice { preimage.old.choice ≡ choice.now }
@@ -52,8 +52,8 @@ fn told_at(
     requires depth { depth_of choice.now ≡ 1 }
     requires moment { IsMoment (inputs_of runs.now) moment }
     requires later { 1 ≤ moment.cycle }
-    ensures told { IfOk result (IsTold (circuit net.now) choice.now (inputs_of runs.now)) }
-    ensures moment { IfOk result (λ told. told.moment ≡ moment) }
+    ensures counts { IfOk result (IsMomentCount (circuit net.now) choice.now (inputs_of runs.now)) }
+    ensures moment { IfOk result (λ entry. entry.moment ≡ moment) }
     ensures chip { chip.new ≡ chip.old }
     ensures circuit { preimage.new.circuit ≡ preimage.old.circuit }
     ensures choice { preimage.new.choice ≡ preimage.old.choice }
@@ -64,7 +64,7 @@ fn told_at(
     let _runs = runs;
     let dump = chip.dump_at(alloc, moment.run, moment.cycle)?;
     let count = count_dump(alloc, preimage, dump)?;
-    Ok(Told { moment, count })
+    Ok(MomentCount { moment, count })
 }
 
 /// How many members there is room for in all lists, by the number of flip-flops.
@@ -76,7 +76,7 @@ fn room_of(width: usize) -> u64
 }
 
 /// The moments that are taken, each with its count, while there is room.
-#[tactic(auto, using(crate::proofs::ToldLemmas::none_told, crate::proofs::ToldLemmas::all_are_told, crate::proofs::ToldLemmas::enough_told))]
+#[tactic(auto, using(crate::proofs::MomentCountLemmas::none_counted, crate::proofs::MomentCountLemmas::all_are_counted, crate::proofs::MomentCountLemmas::enough_counted))]
 fn tell_each(
     alloc: Global,
     chip: &mut Chip<'_>,
@@ -84,27 +84,27 @@ fn tell_each(
     net: &Netlist,
     choice: &Choice,
     runs: &Runs,
-) -> Result<Vec<Told>, NoMemory>
+) -> Result<Vec<MomentCount>, NoMemory>
     requires recording { chip.old.recording ≡ recording_of net.now.raw choice.now runs.now }
     requires preimage { preimage.old ≡ fresh (circuit net.now) choice.now }
     requires depth { depth_of choice.now ≡ 1 }
-    ensures { IfOk result (λ told. AreTold (circuit net.now) choice.now (inputs_of runs.now) told.items) }
+    ensures { IfOk result (λ counts. AreMomentCounts (circuit net.now) choice.now (inputs_of runs.now) counts.items) }
 {
     let all = count_later(runs);
     let count = all.min(MAX_MOMENTS);
     let room = room_of(net.width());
     let mut spent = 0u64;
-    let mut told = Vec::new(alloc);
+    let mut counts = Vec::new(alloc);
     'moments: for k in 0..count {
         if spent >= room {
-            return Ok(told);
+            return Ok(counts);
         }
         let moment = moment_taken(runs, all, count, k);
-        let one = told_at(alloc, chip, preimage, net, choice, runs, moment)?;
+        let one = count_at(alloc, chip, preimage, net, choice, runs, moment)?;
         spent += weight_of(one.count);
-        told.push(one)?;
+        counts.push(one)?;
     }
-    Ok(told)
+    Ok(counts)
 }
 
 /// Drops a search.
@@ -118,15 +118,15 @@ fn tell_by(
     net: &Netlist,
     choice: &Choice,
     runs: &Runs,
-) -> Result<Vec<Told>, NoMemory>
+) -> Result<Vec<MomentCount>, NoMemory>
     requires recording { chip.old.recording ≡ recording_of net.now.raw choice.now runs.now }
     requires preimage { preimage ≡ fresh (circuit net.now) choice.now }
     requires depth { depth_of choice.now ≡ 1 }
-    ensures { IfOk result (λ told. AreTold (circuit net.now) choice.now (inputs_of runs.now) told.items) }
+    ensures { IfOk result (λ counts. AreMomentCounts (circuit net.now) choice.now (inputs_of runs.now) counts.items) }
 {
-    let told = tell_each(alloc, chip, &mut preimage, net, choice, runs);
+    let counts = tell_each(alloc, chip, &mut preimage, net, choice, runs);
     drop_search(preimage);
-    told
+    counts
 }
 
 /// Steps all runs, so that a chip keeps their states.
@@ -145,14 +145,14 @@ fn tell_played(
     net: &Netlist,
     choice: &Choice,
     runs: &Runs,
-) -> Result<Vec<Told>, NoMemory>
+) -> Result<Vec<MomentCount>, NoMemory>
     requires recording { chip.old.recording ≡ recording_of net.now.raw choice.now runs.now }
     requires width { choice.now.width ≡ length (circuit net.now).flops }
     requires depth { depth_of choice.now ≡ 1 }
-    ensures { IfOk result (λ told. AreTold (circuit net.now) choice.now (inputs_of runs.now) told.items) }
+    ensures { IfOk result (λ counts. AreMomentCounts (circuit net.now) choice.now (inputs_of runs.now) counts.items) }
 {
     play(alloc, chip)?;
-    let told = tell_by(
+    let counts = tell_by(
         alloc,
         chip,
         Preimage::new(alloc, net, choice)?,
@@ -160,7 +160,7 @@ fn tell_played(
         choice,
         runs,
     )?;
-    Ok(told)
+    Ok(counts)
 }
 
 /// Drops a chip.
@@ -173,32 +173,32 @@ fn tell_on(
     net: &Netlist,
     choice: &Choice,
     runs: &Runs,
-) -> Result<Vec<Told>, NoMemory>
+) -> Result<Vec<MomentCount>, NoMemory>
     requires recording { chip.recording ≡ recording_of net.now.raw choice.now runs.now }
     requires width { choice.now.width ≡ length (circuit net.now).flops }
     requires depth { depth_of choice.now ≡ 1 }
-    ensures { IfOk result (λ told. AreTold (circuit net.now) choice.now (inputs_of runs.now) told.items) }
+    ensures { IfOk result (λ counts. AreMomentCounts (circuit net.now) choice.now (inputs_of runs.now) counts.items) }
 {
-    let told = tell_played(alloc, &mut chip, net, choice, runs);
+    let counts = tell_played(alloc, &mut chip, net, choice, runs);
     drop_chip(chip);
-    told
+    counts
 }
 
 /// At `MAX_MOMENTS` moments of the runs behind reset, or at all where these are fewer: how many predecessors the state has that
-/// agree with the stored signature. No further one is told of where the lists before have `MAX_LISTED_BITS`. The lists share one
+/// agree with the stored signature. No further one is counted where the lists before have `MAX_LISTED_BITS`. The lists share one
 /// search, whose log grows by a block for each member.
 pub fn count_lists(
     alloc: Global,
     net: &Netlist,
     choice: &Choice,
     runs: &Runs,
-) -> Result<Vec<Told>, NoMemory>
+) -> Result<Vec<MomentCount>, NoMemory>
     requires states { choice.now.width ≡ length (circuit net.now).flops }
     requires inputs { runs.now.width ≡ length (circuit net.now).inputs }
     requires depth { depth_of choice.now ≡ 1 }
-    ensures { IfOk result (λ told. AreTold (circuit net.now) choice.now (inputs_of runs.now) told.items) }
+    ensures { IfOk result (λ counts. AreMomentCounts (circuit net.now) choice.now (inputs_of runs.now) counts.items) }
 {
     let chip = Chip::with_bound(alloc, net, choice, runs, TRACK_BYTES)?;
-    let told = tell_on(alloc, chip, net, choice, runs)?;
-    Ok(told)
+    let counts = tell_on(alloc, chip, net, choice, runs)?;
+    Ok(counts)
 }

@@ -6,7 +6,7 @@ ghost use Rattle.bs_scan.specs.Choice.{depth_of};
 ghost use Rattle.bs_scan.specs.declared.fault.ChoiceFault.TheVariants.{NoMemory as Want};
 ghost use Rattle.bs_inspect_lists.specs.Rows.{AreBy, IsRow, choice_in};
 
-use crate::lists::{Told, count_lists};
+use crate::lists::{MomentCount, count_lists};
 use bs_bits::NoMemory;
 use bs_inspect_proposal::{bit_lines, first_flops};
 use bs_net::Netlist;
@@ -16,9 +16,9 @@ use std::alloc::Global;
 
 /// The lists by a signature of so many bits.
 #[derive(Drop)]
-pub struct Row {
+pub struct SignatureRow {
     pub bits: usize,
-    pub lists: Vec<Told>,
+    pub lists: Vec<MomentCount>,
 }
 
 /// Whether memory ran out.
@@ -68,7 +68,7 @@ fn lists_in(
     choice: Choice,
     runs: &Runs,
     text: &[u8],
-) -> Result<Vec<Told>, NoMemory>
+) -> Result<Vec<MomentCount>, NoMemory>
     requires inputs { runs.now.width ≡ length (circuit net.now).inputs }
     requires read { Some choice ≡ choice_in net.now.raw text.now }
     ensures { IfOk result (λ lists. AreBy (circuit net.now) (inputs_of runs.now) (choice_in net.now.raw text.now) lists.items) }
@@ -80,7 +80,12 @@ fn lists_in(
 
 /// The lists by the signature that a text is as a file, and none where it is no such file.
 #[tactic(auto, using(crate::proofs::RowLemmas::none_by))]
-fn lists_by(alloc: Global, net: &Netlist, runs: &Runs, text: &[u8]) -> Result<Vec<Told>, NoMemory>
+fn lists_by(
+    alloc: Global,
+    net: &Netlist,
+    runs: &Runs,
+    text: &[u8],
+) -> Result<Vec<MomentCount>, NoMemory>
     requires inputs { runs.now.width ≡ length (circuit net.now).inputs }
     ensures { IfOk result (λ lists. AreBy (circuit net.now) (inputs_of runs.now) (choice_in net.now.raw text.now) lists.items) }
 {
@@ -98,7 +103,7 @@ fn row_of(
     runs: &Runs,
     order: &[u32],
     bits: usize,
-) -> Result<Row, NoMemory>
+) -> Result<SignatureRow, NoMemory>
     requires inputs { runs.now.width ≡ length (circuit net.now).inputs }
     requires order { All (λ flop. flop < length net.now.raw.flops) order.now }
     ensures bits { IfOk result (λ row. row.bits ≡ bits) }
@@ -106,7 +111,7 @@ fn row_of(
 {
     let text = bit_lines(alloc, net, first_flops(order, bits))?;
     let lists = lists_by(alloc, net, runs, text.as_slice())?;
-    Ok(Row { bits, lists })
+    Ok(SignatureRow { bits, lists })
 }
 
 /// A row for each of these sizes.
@@ -117,7 +122,7 @@ pub(crate) fn rows_of(
     runs: &Runs,
     order: &[u32],
     sizes: &[usize],
-) -> Result<Vec<Row>, NoMemory>
+) -> Result<Vec<SignatureRow>, NoMemory>
     requires inputs { runs.now.width ≡ length (circuit net.now).inputs }
     requires order { All (λ flop. flop < length net.now.raw.flops) order.now }
     ensures bits { IfOk result (λ rows. map (λ row. row.bits) rows.items ≡ sizes.now) }

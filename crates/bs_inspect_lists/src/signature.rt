@@ -9,7 +9,7 @@ ghost use Rattle.bs_inspect_lists.specs.Sizes.{most_of, sizes};
 ghost use Rattle.bs_inspect_lists.specs.declared.spread.TheConstants.{MAX_MOMENTS};
 
 use crate::lines::push_rows;
-use crate::rows::{Row, rows_of};
+use crate::rows::{SignatureRow, rows_of};
 use crate::sizes::{most_of, sizes};
 use bs_bits::NoMemory;
 use bs_inspect_proposal::{Proposal, propose};
@@ -25,7 +25,7 @@ fn rows_in(
     runs: &Runs,
     proposal: &Proposal,
     bits: usize,
-) -> Result<Vec<Row>, NoMemory>
+) -> Result<Vec<SignatureRow>, NoMemory>
     requires inputs { runs.now.width ≡ length (circuit net.now).inputs }
     requires proposed { Proposes net.now.raw runs.now bits (most_of (length net.now.raw.flops) bits) proposal.now.order.items proposal.now.text.items }
     ensures sizes { IfOk result (λ rows. map (λ row. row.bits) rows.items ≡ sizes (length net.now.raw.flops) bits) }
@@ -43,7 +43,7 @@ fn rows_in(
 }
 
 /// A text with rows behind it.
-fn with_rows(mut text: Vec<u8>, rows: &[Row]) -> Result<Vec<u8>, NoMemory>
+fn with_rows(mut text: Vec<u8>, rows: &[SignatureRow]) -> Result<Vec<u8>, NoMemory>
     requires { All (λ row. length row.lists.items ≤ MAX_MOMENTS) rows.now }
     ensures { IfOk result (λ whole. whole.items ≡ text.items ++ rows_text rows.now) }
 {

@@ -6,15 +6,15 @@ use Rattle.std.specs.List.{flat_map}
 use Rattle.std.proofs.lemmas.Grind.{flat_map-append}
 use Rattle.std.proofs.lemmas.List.{drop_more, drop_all, take_more, map-append, append-nil}
 use Rattle.bs_net.specs.Parts.{Parts}
-use Rattle.bs_inspect_netlist.specs.Called.{called_line, called_told, first_uncalled, first_unnamed, is_called, nets_named}
+use Rattle.bs_inspect_netlist.specs.Called.{called_line, called_lines, first_uncalled, first_unnamed, is_called, nets_named}
 
 abbrev bytes : List (Bor (List ℕ)) → List (List ℕ)
 bytes names = map (λ s. s.now) names
 
 -- a line more
 pub lines_more : (r : Parts) (sources : List ℕ) (names : List (Bor (List ℕ))) (i : ℕ) (d : Bor (List ℕ)) (old before after : List ℕ) → i < length names →
-    before ≡ old ++ called_told r sources (map (λ s. s.now) (take i names)) → after ≡ before ++ called_line r sources (get_or names i d).now →
-    after ≡ old ++ called_told r sources (map (λ s. s.now) (take (i + 1) names))
+    before ≡ old ++ called_lines r sources (map (λ s. s.now) (take i names)) → after ≡ before ++ called_line r sources (get_or names i d).now →
+    after ≡ old ++ called_lines r sources (map (λ s. s.now) (take (i + 1) names))
 lines_more r sources names i d old before after lt e f =
     let piece : List ℕ → List ℕ = called_line r sources in
     let name : List ℕ = (get_or names i d).now in

@@ -8,7 +8,7 @@ use Rattle.bs_net_names.specs.Keys.{key_parts}
 use Rattle.bs_net_names.specs.Naming.{is_named}
 use Rattle.bs_inspect_netlist.specs.declared.mark.Measure.TheVariants.{Source}
 use Rattle.bs_inspect_netlist.specs.Marks.{AreMarks, mark_at}
-use Rattle.bs_inspect_netlist.specs.Told.{no_flop}
+use Rattle.bs_inspect_netlist.specs.Lines.{no_flop}
 
 -- a net where a name is its own, or its vector's
 abbrev pub net_named : Parts → List ℕ → ℕ → List ℕ
@@ -34,8 +34,8 @@ abbrev pub called_line : Parts → List ℕ → List ℕ → List ℕ
 called_line r sources name = line (codes "xor" ++ flat_map (called_at r sources (nets_named r name)) (range_with_len 0 (length r.flops)))
 
 -- a line for each name
-abbrev pub called_told : Parts → List ℕ → List (List ℕ) → List ℕ
-called_told r sources names = flat_map (called_line r sources) names
+abbrev pub called_lines : Parts → List ℕ → List (List ℕ) → List ℕ
+called_lines r sources names = flat_map (called_line r sources) names
 
 -- whether there is such a flip-flop
 abbrev pub has_shown : Parts → List ℕ → List ℕ → Bool
@@ -56,7 +56,7 @@ first_unnamed r names = find (λ name. length (nets_named r name) == 0) names
 pub record TellsKeys (r : Parts) (names : List (List ℕ)) (text : List ℕ) : Type 0 where
   pub sources : List ℕ
   pub are : AreMarks Source r sources
-  pub told : text ≡ called_told r sources names
+  pub says : text ≡ called_lines r sources names
 
 -- it is the first of these names for which there is no flip-flop whose value a net with it shows, if there is one
 pub record IsFirstUncalled (r : Parts) (names : List (List ℕ)) (name : Option (List ℕ)) : Type 0 where

@@ -25,6 +25,6 @@ dumped choice states cycle = record {
 }
 
 -- the text of the last of these states: its line alone, or with a signature the whole dump
-abbrev pub dump_told : Option Chosen → List (List Bool) → List ℕ
-dump_told None states = line (codes "state " ++ bits_text (slice_index_or states (length states - 1) []))
-dump_told (Some choice) states = text_of (dumped choice states (length states - 1))
+abbrev pub dump_lines : Option Chosen → List (List Bool) → List ℕ
+dump_lines None states = line (codes "state " ++ bits_text (slice_index_or states (length states - 1) []))
+dump_lines (Some choice) states = text_of (dumped choice states (length states - 1))

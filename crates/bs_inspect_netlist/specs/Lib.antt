@@ -1,5 +1,5 @@
 pub mod Marks
-pub mod Told
+pub mod Lines
 pub mod Sizes
 pub mod Tallies
 pub mod Called

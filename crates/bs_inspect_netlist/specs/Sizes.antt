@@ -83,8 +83,8 @@ abbrev pub most_inputs : List Gate → ℕ
 most_inputs gates = greatest (map (λ g. length g.ins) gates)
 
 -- the flip-flops, and those of each cell
-unfoldable pub flops_told : List Flop → List ℕ
-flops_told flops =
+unfoldable pub flops_lines : List Flop → List ℕ
+flops_lines flops =
     number_line (codes "flops ") (length flops)
     ++ (number_line (codes "dff ") (dff_count flops)
     ++ (number_line (codes "dffs ") (dffs_count flops)
@@ -92,40 +92,40 @@ flops_told flops =
     ++ number_line (codes "dffr ") (dffr_count flops))))
 
 -- the ports and nets
-unfoldable pub ports_told : Parts → List ℕ
-ports_told r =
+unfoldable pub ports_lines : Parts → List ℕ
+ports_lines r =
     number_line (codes "inputs ") (length (circuit_of r).inputs)
     ++ (number_line (codes "outputs ") (length r.outputs)
     ++ number_line (codes "nets ") (length r.names))
 
 -- the gates, and those of each kind
-unfoldable pub tables_told : List Gate → List ℕ
-tables_told gates =
+unfoldable pub tables_lines : List Gate → List ℕ
+tables_lines gates =
     number_line (codes "gates ") (length gates)
     ++ (number_line (codes "and ") (kind_count And gates)
     ++ (number_line (codes "nand ") (kind_count Nand gates)
     ++ (number_line (codes "or ") (kind_count Or gates)
     ++ number_line (codes "nor ") (kind_count Nor gates))))
 
-unfoldable pub parities_told : List Gate → List ℕ
-parities_told gates =
+unfoldable pub parities_lines : List Gate → List ℕ
+parities_lines gates =
     number_line (codes "xor ") (kind_count Xor gates)
     ++ (number_line (codes "xnor ") (kind_count Xnor gates)
     ++ (number_line (codes "buf ") (kind_count Buf gates)
     ++ number_line (codes "not ") (kind_count Not gates)))
 
 -- the depth of the levels, and the greatest fan-in and fan-out
-unfoldable pub depths_told : Parts → List ℕ → List ℕ
-depths_told r levels =
+unfoldable pub depths_lines : Parts → List ℕ → List ℕ
+depths_lines r levels =
     number_line (codes "depth ") (greatest levels)
     ++ (number_line (codes "fanin ") (most_inputs r.gates)
     ++ number_line (codes "fanout ") (most_readers r))
 
-abbrev pub stats_told : Parts → List ℕ → List ℕ
-stats_told r levels = flops_told r.flops ++ (ports_told r ++ (tables_told r.gates ++ (parities_told r.gates ++ depths_told r levels)))
+abbrev pub stats_lines : Parts → List ℕ → List ℕ
+stats_lines r levels = flops_lines r.flops ++ (ports_lines r ++ (tables_lines r.gates ++ (parities_lines r.gates ++ depths_lines r levels)))
 
 -- the text tells the sizes; the depth is the greatest level of a net
 pub record TellsSizes (r : Parts) (text : List ℕ) : Type 0 where
   pub levels : List ℕ
   pub are : AreMarks Level r levels
-  pub told : text ≡ stats_told r levels
+  pub says : text ≡ stats_lines r levels

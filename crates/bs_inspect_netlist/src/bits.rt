@@ -3,7 +3,7 @@ ghost use Rattle.std.specs.Prelude.{◌≡◌, ◌<◌, ◌∷◌, [], ◌++◌,
 ghost use Rattle.bs_bits.specs.Text.{digit_of};
 ghost use Rattle.bs_net.specs.Netlist.{parts_of};
 ghost use Rattle.bs_net.specs.Parts.{key_at};
-ghost use Rattle.bs_inspect_netlist.specs.Told.{TellsFlops, TellsInputs, copies_text, copy_piece, flop_line, flops_told, input_line, inputs_told};
+ghost use Rattle.bs_inspect_netlist.specs.Lines.{TellsFlops, TellsInputs, copies_text, copy_piece, flop_line, flops_lines, input_line, inputs_lines};
 
 use crate::mark::Measure;
 use crate::marking::marks;
@@ -112,7 +112,7 @@ fn push_input(
 #[tactic(auto, using(bs_bits::proofs::RangeLemmas::places_step))]
 fn push_flops(text: &mut Vec<u8>, raw: &Raw, sources: &[usize]) -> Result<(), NoMemory>
     requires { length sources.now ≡ length raw.now.names }
-    ensures { OnOk result (text.new.items ≡ text.old.items ++ flops_told (parts_of raw.now) sources.now) }
+    ensures { OnOk result (text.new.items ≡ text.old.items ++ flops_lines (parts_of raw.now) sources.now) }
 {
     'flops: for i in 0..raw.flops.len() {
         push_flop(text, raw, sources, i, *raw.flops.get(i))?;
@@ -124,7 +124,7 @@ fn push_flops(text: &mut Vec<u8>, raw: &Raw, sources: &[usize]) -> Result<(), No
 #[tactic(auto, using(bs_bits::proofs::RangeLemmas::places_step))]
 fn push_inputs(text: &mut Vec<u8>, net: &Netlist, sources: &[usize]) -> Result<(), NoMemory>
     requires { length sources.now ≡ length net.now.raw.names }
-    ensures { OnOk result (text.new.items ≡ text.old.items ++ inputs_told net.now.raw sources.now) }
+    ensures { OnOk result (text.new.items ≡ text.old.items ++ inputs_lines net.now.raw sources.now) }
 {
     let raw = net.raw();
     let inputs = net.data_inputs();

@@ -4,7 +4,7 @@ ghost use Rattle.std.specs.List.{find, flat_map, list_any, range_with_len};
 ghost use Rattle.bs_net_names.specs.Keys.{key_parts, parts_in};
 ghost use Rattle.bs_net.specs.Netlist.{parts_of};
 ghost use Rattle.bs_net.specs.Parts.{key_at};
-ghost use Rattle.bs_inspect_netlist.specs.Called.{IsFirstUncalled, TellsKeys, called_at, called_key, called_line, called_told, first_uncalled, first_unnamed, has_shown, is_called, is_shown, net_named, nets_named};
+ghost use Rattle.bs_inspect_netlist.specs.Called.{IsFirstUncalled, TellsKeys, called_at, called_key, called_line, called_lines, first_uncalled, first_unnamed, has_shown, is_called, is_shown, net_named, nets_named};
 ghost use Rattle.bs_inspect_netlist.specs.Marks.{mark_at};
 
 use crate::bits::key_at;
@@ -126,7 +126,7 @@ fn push_name_lines(
     sources: &[usize],
     names: &[&str],
 ) -> Result<(), NoMemory>
-    ensures { OnOk result (text.new.items ≡ text.old.items ++ called_told (parts_of raw.now) sources.now (map (λ s. s.now) names.now)) }
+    ensures { OnOk result (text.new.items ≡ text.old.items ++ called_lines (parts_of raw.now) sources.now (map (λ s. s.now) names.now)) }
 {
     'names: for &name in names {
         push_text_line(text, raw, sources, name)?;

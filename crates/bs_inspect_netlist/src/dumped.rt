@@ -4,7 +4,7 @@ ghost use Rattle.bs_scan.specs.Choice.{depth_of};
 ghost use Rattle.bs_scan.specs.Dump.{IsDump};
 ghost use Rattle.bs_scan.specs.DumpText.{dump_text as text_of};
 ghost use Rattle.bs_scan.specs.Signature.{signature};
-ghost use Rattle.bs_inspect_netlist.specs.Dumped.{dump_told, dumped, kept_before, older_before};
+ghost use Rattle.bs_inspect_netlist.specs.Dumped.{dump_lines, dumped, kept_before, older_before};
 
 use bs_bits::{Bits, List, NoMemory, end_line, push_piece};
 use bs_scan::{Choice, Dump};
@@ -114,7 +114,7 @@ pub fn dump_text(
 pub fn last_dump(alloc: Global, choice: &Choice, states: &List<Bits>) -> Result<Vec<u8>, NoMemory>
     requires some { 0 < length states.now }
     requires wide { All (λ s. length s ≡ choice.now.width) states.now }
-    ensures { IfOk result (λ text. text.items ≡ dump_told (Some choice.now) states.now) }
+    ensures { IfOk result (λ text. text.items ≡ dump_lines (Some choice.now) states.now) }
 {
     dump_text(alloc, choice, states, states.len() - 1)
 }
@@ -131,7 +131,7 @@ fn last_of(states: &List<Bits>) -> &Bits
 /// The last of these states, as the line of a dump.
 pub fn last_state(alloc: Global, states: &List<Bits>) -> Result<Vec<u8>, NoMemory>
     requires { 0 < length states.now }
-    ensures { IfOk result (λ text. text.items ≡ dump_told None states.now) }
+    ensures { IfOk result (λ text. text.items ≡ dump_lines None states.now) }
 {
     let mut text = Vec::new(alloc);
     push_piece(&mut text, b"state ")?;

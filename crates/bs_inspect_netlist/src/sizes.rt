@@ -2,7 +2,7 @@
 ghost use Rattle.std.specs.Prelude.{◌≡◌, ◌++◌, length, IfOk, OnOk, count_by, map, fold, max, not};
 ghost use Rattle.bs_net.specs.Netlist.{circuit, parts_of};
 ghost use Rattle.bs_net.specs.Parts.{PartsArePlaced};
-ghost use Rattle.bs_inspect_netlist.specs.Sizes.{TellsSizes, depths_told, dff_count, dffe_count, dffr_count, dffs_count, flops_told, greatest, has_clear, has_enable, is_kind, is_plain, kind_count, fan_outs, most_inputs, number_line, parities_told, ports_told, stats_told, tables_told};
+ghost use Rattle.bs_inspect_netlist.specs.Sizes.{TellsSizes, depths_lines, dff_count, dffe_count, dffr_count, dffs_count, flops_lines, greatest, has_clear, has_enable, is_kind, is_plain, kind_count, fan_outs, most_inputs, number_line, parities_lines, ports_lines, stats_lines, tables_lines};
 
 use crate::mark::Measure;
 use crate::marking::marks;
@@ -110,9 +110,9 @@ fn most_inputs(gates: &[Gate]) -> usize
 }
 
 /// Appends the lines of the flip-flops.
-#[tactic(auto, unfolding(crate::specs::Sizes::flops_told))]
+#[tactic(auto, unfolding(crate::specs::Sizes::flops_lines))]
 fn push_cells(text: &mut Vec<u8>, flops: &[Flop]) -> Result<(), NoMemory>
-    ensures { OnOk result (text.new.items ≡ text.old.items ++ flops_told flops.now) }
+    ensures { OnOk result (text.new.items ≡ text.old.items ++ flops_lines flops.now) }
 {
     push_number_line(text, b"flops ", flops.len() as u64)?;
     push_number_line(text, b"dff ", dff_count(flops) as u64)?;
@@ -122,9 +122,9 @@ fn push_cells(text: &mut Vec<u8>, flops: &[Flop]) -> Result<(), NoMemory>
 }
 
 /// Appends the lines of the ports and nets.
-#[tactic(auto, unfolding(crate::specs::Sizes::ports_told))]
+#[tactic(auto, unfolding(crate::specs::Sizes::ports_lines))]
 fn push_ports(text: &mut Vec<u8>, net: &Netlist) -> Result<(), NoMemory>
-    ensures { OnOk result (text.new.items ≡ text.old.items ++ ports_told net.now.raw) }
+    ensures { OnOk result (text.new.items ≡ text.old.items ++ ports_lines net.now.raw) }
 {
     let raw = net.raw();
     push_number_line(text, b"inputs ", net.data_inputs().len() as u64)?;
@@ -140,9 +140,9 @@ fn push_kind(text: &mut Vec<u8>, word: &[u8], kind: Kind, gates: &[Gate]) -> Res
 }
 
 /// Appends the lines of the `and` and `or` gates.
-#[tactic(auto, unfolding(crate::specs::Sizes::tables_told))]
+#[tactic(auto, unfolding(crate::specs::Sizes::tables_lines))]
 fn push_tables(text: &mut Vec<u8>, gates: &[Gate]) -> Result<(), NoMemory>
-    ensures { OnOk result (text.new.items ≡ text.old.items ++ tables_told gates.now) }
+    ensures { OnOk result (text.new.items ≡ text.old.items ++ tables_lines gates.now) }
 {
     push_number_line(text, b"gates ", gates.len() as u64)?;
     push_kind(text, b"and ", Kind::And, gates)?;
@@ -152,9 +152,9 @@ fn push_tables(text: &mut Vec<u8>, gates: &[Gate]) -> Result<(), NoMemory>
 }
 
 /// Appends the lines of the other gates.
-#[tactic(auto, unfolding(crate::specs::Sizes::parities_told))]
+#[tactic(auto, unfolding(crate::specs::Sizes::parities_lines))]
 fn push_parities(text: &mut Vec<u8>, gates: &[Gate]) -> Result<(), NoMemory>
-    ensures { OnOk result (text.new.items ≡ text.old.items ++ parities_told gates.now) }
+    ensures { OnOk result (text.new.items ≡ text.old.items ++ parities_lines gates.now) }
 {
     push_kind(text, b"xor ", Kind::Xor, gates)?;
     push_kind(text, b"xnor ", Kind::Xnor, gates)?;
@@ -163,7 +163,7 @@ fn push_parities(text: &mut Vec<u8>, gates: &[Gate]) -> Result<(), NoMemory>
 }
 
 /// Appends the lines of the depth and of the greatest fan-in and fan-out.
-#[tactic(auto, unfolding(crate::specs::Sizes::depths_told))]
+#[tactic(auto, unfolding(crate::specs::Sizes::depths_lines))]
 fn push_depths(
     text: &mut Vec<u8>,
     raw: &Raw,
@@ -171,7 +171,7 @@ fn push_depths(
     readers: &[usize],
 ) -> Result<(), NoMemory>
     requires { readers.now ≡ fan_outs (parts_of raw.now) }
-    ensures { OnOk result (text.new.items ≡ text.old.items ++ depths_told (parts_of raw.now) levels.now) }
+    ensures { OnOk result (text.new.items ≡ text.old.items ++ depths_lines (parts_of raw.now) levels.now) }
 {
     push_number_line(text, b"depth ", greatest(levels) as u64)?;
     push_number_line(text, b"fanin ", most_inputs(raw.gates.slice()) as u64)?;
@@ -186,7 +186,7 @@ fn push_stats(
     readers: &[usize],
 ) -> Result<(), NoMemory>
     requires { readers.now ≡ fan_outs net.now.raw }
-    ensures { OnOk result (text.new.items ≡ text.old.items ++ stats_told net.now.raw levels.now) }
+    ensures { OnOk result (text.new.items ≡ text.old.items ++ stats_lines net.now.raw levels.now) }
 {
     let raw = net.raw();
     push_cells(text, raw.flops.slice())?;

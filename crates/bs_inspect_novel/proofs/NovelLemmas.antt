@@ -57,14 +57,14 @@ first_showable c runs number most signals novelties ordered first are moved is =
 pub tells_of : (c : Circuit) (runs : List Run) (number most : ℕ) (signals : List CodeSignal) (novelties ordered first : List Novelty) (text : List ℕ) →
     AreNovelties c runs number (map signal_in signals) (length signals) novelties → IsPermutation novelties ordered → IsSorted novelty_cmp ordered →
     first ≡ take most ordered → text ≡ novelties_text c runs number (map signal_in signals) first → TellsOf c runs number most (map signal_in signals) text
-tells_of c runs number most signals novelties ordered first text are moved sorted is told = record {
+tells_of c runs number most signals novelties ordered first text are moved sorted is says = record {
   novelties = novelties;
   found =
       subst (λ (n : ℕ). AreNovelties c runs number (map signal_in signals) n novelties) (sym (length-map signals signal_in)) are;
   ordered = ordered;
   same = moved;
   in_order = sorted;
-  told = told ∙ ap (novelties_text c runs number (map signal_in signals)) is;
+  says = says ∙ ap (novelties_text c runs number (map signal_in signals)) is;
 }
 
 -- ---- the whole text
@@ -82,8 +82,8 @@ tells_signals raw runs number most keys signals text are e tells = record {
 
 pub tells_alone : (raw : Parts) (s : Stimulus) (number most n : ℕ) (text : List ℕ) → n ≡ length s.runs → n ≤ 1 → text ≡ alone_text →
     TellsNovel raw s number most text
-tells_alone raw s number most n text e le told = record { alone = λ few. told; several = λ many. absurd (omega (arith, e, le, many)) }
+tells_alone raw s number most n text e le says = record { alone = λ few. says; several = λ many. absurd (omega (arith, e, le, many)) }
 
 pub tells_several : (raw : Parts) (s : Stimulus) (number most n : ℕ) (text : List ℕ) → n ≡ length s.runs → 1 < n →
     TellsSignals raw (inputs_of s) number most text → TellsNovel raw s number most text
-tells_several raw s number most n text e lt told = record { alone = λ few. absurd (omega (arith, e, lt, few)); several = λ many. told }
+tells_several raw s number most n text e lt says = record { alone = λ few. absurd (omega (arith, e, lt, few)); several = λ many. says }

@@ -40,12 +40,12 @@ pub line_is : (c : Circuit) (runs : List Run) (number : ℕ) (own : List (List B
     (state : List Bool) (old after : List ℕ) → AreOwn c runs number own → IsShowable runs number (length signals) f →
     signal ≡ get_or signals f.place signal → state ≡ get_or own f.cycle state → after ≡ old ++ state_line f.cycle (signal_in signal) state f.count →
     after ≡ old ++ novelty_line c runs number (map signal_in signals) f
-line_is c runs number own signals f signal state old after are show at e told =
+line_is c runs number own signals f signal state old after are show at e says =
     let there : f.cycle < length own = cycle_there c runs number (length signals) own f are show in
     let value : value_in state (signal_in signal).places ≡ value_at c runs (signal_in signal).places number f.cycle =
     ap (λ (s : List Bool). value_in s (signal_in signal).places) (e ∙ get_or_default own f.cycle state [] there)
     ∙ own_value c runs number own (signal_in signal).places f.cycle are there in
-    told
+    says
     ∙ (ap
     (λ (v : List Bool). old ++ line (decimal f.cycle ++ (codes " " ++ (rtl_text (signal_in signal) ++ (codes " = " ++ (value_text v ++ (codes ", others " ++
     decimal f.count)))))))
@@ -69,14 +69,14 @@ lines_more line_of fs i d old text after lt e goes =
 
 pub text_none : (c : Circuit) (runs : List Run) (number : ℕ) (signals : List Signal) (fs : List Novelty) (empty : Bool) (text : List ℕ) →
     empty ≡ (length fs == 0) → empty ≡ true → text ≡ nothing_text → text ≡ novelties_text c runs number signals fs
-text_none c runs number signals fs empty text e is told =
-    told
+text_none c runs number signals fs empty text e is says =
+    says
     ∙ sym (ap (λ (b : Bool). if b then nothing_text else flat_map (novelty_line c runs number signals) fs) (sym e ∙ is))
 
 pub text_some : (c : Circuit) (runs : List Run) (number : ℕ) (signals : List Signal) (fs : List Novelty) (empty : Bool) (text : List ℕ) →
     empty ≡ (length fs == 0) → empty ≡ false → text ≡ flat_map (novelty_line c runs number signals) fs → text ≡ novelties_text c runs number signals fs
-text_some c runs number signals fs empty text e is told =
-    told
+text_some c runs number signals fs empty text e is says =
+    says
     ∙ sym (ap (λ (b : Bool). if b then nothing_text else flat_map (novelty_line c runs number signals) fs) (sym e ∙ is))
 
 -- all of a list, where more are asked for

@@ -73,7 +73,7 @@ pub record TellsOf (c : Circuit) (runs : List Run) (number most : ℕ) (signals 
   pub ordered : List Novelty
   pub same : IsPermutation novelties ordered
   pub in_order : IsSorted novelty_cmp ordered
-  pub told : text ≡ novelties_text c runs number signals (take most ordered)
+  pub says : text ≡ novelties_text c runs number signals (take most ordered)
 
 -- the same of the signals of a netlist's flip-flops
 pub record TellsSignals (raw : Parts) (runs : List Run) (number most : ℕ) (text : List ℕ) : Type 0 where

@@ -11,10 +11,10 @@ use Rattle.bs_inspect_page.specs.Rows.{group_text}
 use Rattle.bs_inspect_page.proofs.PutLemmas.{four_put, three_put}
 use Rattle.bs_inspect_report.specs.Lemmas.{lemmas_logged}
 use Rattle.bs_inspect_page.specs.Front.{front_text}
-use Rattle.bs_inspect_page.specs.Page.{PageAsked, ShowsOpen, ShowsReport, end_text, flops_heading, input_figure, inputs_heading, page_text, state_figure, trace_front, trace_text}
+use Rattle.bs_inspect_page.specs.Page.{PageOptions, ShowsOpen, ShowsReport, end_text, flops_heading, input_figure, inputs_heading, page_text, state_figure, trace_front, trace_text}
 use Rattle.bs_inspect_page.specs.Steps.{steps_front, steps_part, steps_rows}
 
-pub opens_there : (result : Result (Vec ℕ Global) NoMemory) (raw : Parts) (r : Report) (a : PageAsked) (opens : List (List Bool)) →
+pub opens_there : (result : Result (Vec ℕ Global) NoMemory) (raw : Parts) (r : Report) (a : PageOptions) (opens : List (List Bool)) →
     opens ≡ opens_of r → IfOk result (λ text. ShowsOpen raw r a opens text.items) → IfOk result (λ text. ShowsReport raw r a text.items)
 opens_there result raw r a opens e shows = subst (λ (o : List (List Bool)). IfOk result (λ text. ShowsOpen raw r a o text.items)) e shows
 
@@ -28,7 +28,7 @@ trace_put r opens flops inputs old a b c d e f g h =
     four_put old (trace_front r) (group_text inputs_heading (input_figure r) inputs) (group_text flops_heading (state_figure r opens) flops) end_text
     a b c d e f g h
 
-pub page_put : (q : PageAsked) (raw : Parts) (r : Report) (opens : List (List Bool)) (flops inputs : List Signal) (old a b c : List ℕ) →
+pub page_put : (q : PageOptions) (raw : Parts) (r : Report) (opens : List (List Bool)) (flops inputs : List Signal) (old a b c : List ℕ) →
     a ≡ old ++ front_text raw r q.netlist q.report → b ≡ a ++ steps_part r → c ≡ b ++ trace_text r opens flops inputs →
     c ≡ old ++ page_text q raw r opens flops inputs
 unfolding page_text

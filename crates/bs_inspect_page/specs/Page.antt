@@ -11,16 +11,16 @@ use Rattle.bs_inspect_page.specs.Columns.{columns_text}
 use Rattle.bs_inspect_page.specs.Front.{front_text}
 use Rattle.bs_inspect_page.specs.Opens.{opens_of}
 use Rattle.bs_inspect_page.specs.Steps.{steps_part}
-use Rattle.bs_inspect_page.specs.declared.asked.PageAsked.{PageAsked as CodeAsked}
+use Rattle.bs_inspect_page.specs.declared.options.PageOptions.{PageOptions as CodeAsked}
 
 -- the names of the two files, the names of the signals that are drawn alone, where there are any, and how many are drawn at most
-pub record PageAsked : Type 0 where
+pub record PageOptions : Type 0 where
   pub netlist : List ℕ
   pub report : List ℕ
   pub only : List (List ℕ)
   pub most : ℕ
 
-abbrev pub asked_in : CodeAsked → PageAsked
+abbrev pub asked_in : CodeAsked → PageOptions
 asked_in a = record { netlist = a.netlist.now; report = a.report.now; only = map (λ s. s.now) a.only.now; most = a.most }
 
 -- ---- the signals that are drawn
@@ -33,21 +33,21 @@ abbrev pub input_figure : Report → Figure
 input_figure r = record { moments = r.inputs; opens = [] }
 
 -- one that is asked for; else one whose name somebody gave, where it is open or changes, or where there is but one state
-abbrev pub is_on_page : PageAsked → Figure → Signal → Bool
+abbrev pub is_on_page : PageOptions → Figure → Signal → Bool
 is_on_page a f s = nat_lt 0 (length a.only) || (not (is_nameless s.base) && ((length f.moments == 1) || is_lively f s.places))
 
 -- the first of those that are drawn
-abbrev pub drawn_flops_of : PageAsked → Figure → List Signal → List Signal
+abbrev pub drawn_flops_of : PageOptions → Figure → List Signal → List Signal
 drawn_flops_of a f signals = take a.most (filter (is_on_page a f) signals)
 
 -- the flip-flops that are drawn, with the names of a netlist
-pub record AreDrawnFlops (raw : Parts) (r : Report) (a : PageAsked) (opens : List (List Bool)) (drawn : List Signal) : Type 0 where
+pub record AreDrawnFlops (raw : Parts) (r : Report) (a : PageOptions) (opens : List (List Bool)) (drawn : List Signal) : Type 0 where
   pub signals : List Signal
   pub are : AreSignals a.only (flop_keys raw) signals
   pub kept : drawn ≡ drawn_flops_of a (state_figure r opens) signals
 
 -- the data inputs that are drawn: the first ones
-pub record AreDrawnInputs (raw : Parts) (a : PageAsked) (drawn : List Signal) : Type 0 where
+pub record AreDrawnInputs (raw : Parts) (a : PageOptions) (drawn : List Signal) : Type 0 where
   pub signals : List Signal
   pub are : AreSignals a.only (input_keys raw) signals
   pub kept : drawn ≡ take a.most signals
@@ -74,11 +74,11 @@ trace_text r opens flops inputs =
     trace_front r
     ++ (group_text inputs_heading (input_figure r) inputs ++ (group_text flops_heading (state_figure r opens) flops ++ end_text))
 
-unfoldable pub page_text : PageAsked → Parts → Report → List (List Bool) → (flops inputs : List Signal) → List ℕ
+unfoldable pub page_text : PageOptions → Parts → Report → List (List Bool) → (flops inputs : List Signal) → List ℕ
 page_text a raw r opens flops inputs = front_text raw r a.netlist a.report ++ (steps_part r ++ trace_text r opens flops inputs)
 
 -- the text is the page of a report with the names of a netlist, where these bits are open; where names are given, these signals alone
-pub record ShowsOpen (raw : Parts) (r : Report) (a : PageAsked) (opens : List (List Bool)) (text : List ℕ) : Type 0 where
+pub record ShowsOpen (raw : Parts) (r : Report) (a : PageOptions) (opens : List (List Bool)) (text : List ℕ) : Type 0 where
   pub flops : List Signal
   pub inputs : List Signal
   pub are_flops : AreDrawnFlops raw r a opens flops
@@ -86,5 +86,5 @@ pub record ShowsOpen (raw : Parts) (r : Report) (a : PageAsked) (opens : List (L
   pub shown : text ≡ page_text a raw r opens flops inputs
 
 -- the same where those bits are open at which other candidates of a list differ
-abbrev pub ShowsReport : Parts → Report → PageAsked → List ℕ → Type 0
+abbrev pub ShowsReport : Parts → Report → PageOptions → List ℕ → Type 0
 ShowsReport raw r a text = ShowsOpen raw r a (opens_of r) text

@@ -5,9 +5,9 @@ ghost use Rattle.bs_inspect_page.specs.Cells.{is_lively};
 ghost use Rattle.bs_inspect_page.specs.Figures.{figure_in};
 ghost use Rattle.bs_inspect_page.specs.Page.{asked_in, drawn_flops_of, is_on_page};
 
-use crate::asked::PageAsked;
 use crate::cells::is_lively;
 use crate::figure::Figure;
+use crate::options::PageOptions;
 use bs_inspect_view::is_nameless;
 use bs_net_names::Signal;
 
@@ -19,14 +19,14 @@ fn is_shown(figure: Figure<'_>, places: &[u32]) -> bool
 }
 
 /// Whether a signal is drawn.
-fn is_on_page(asked: &PageAsked<'_>, figure: Figure<'_>, signal: &Signal<'_>) -> bool
+fn is_on_page(asked: &PageOptions<'_>, figure: Figure<'_>, signal: &Signal<'_>) -> bool
     ensures { result ≡ is_on_page (asked_in asked.now) (figure_in figure.entry) (signal_in signal.now) }
 {
     !asked.only.is_empty() || (!is_nameless(signal.base) && is_shown(figure, signal.places.slice()))
 }
 
 /// Leaves the signals that are drawn.
-fn keep_drawn(asked: &PageAsked<'_>, figure: Figure<'_>, signals: &mut Vec<Signal<'_>>)
+fn keep_drawn(asked: &PageOptions<'_>, figure: Figure<'_>, signals: &mut Vec<Signal<'_>>)
     requires { All (λ s. length s.places < 2 ^ 32) signals.old.items }
     ensures are { map signal_in signals.new.items ≡ filter (is_on_page (asked_in asked.now) (figure_in figure.entry)) (map signal_in signals.old.items) }
     ensures few { All (λ s. length s.places < 2 ^ 32) signals.new.items }
@@ -46,7 +46,7 @@ pub(crate) fn keep_first(most: u64, signals: &mut Vec<Signal<'_>>)
 
 /// Leaves the first of the signals that are drawn.
 pub(crate) fn keep_first_drawn(
-    asked: &PageAsked<'_>,
+    asked: &PageOptions<'_>,
     figure: Figure<'_>,
     signals: &mut Vec<Signal<'_>>,
 )

@@ -1,6 +1,6 @@
 //! A report as one page of HTML, without a script and without anything from outside.
 //!
-//! Modules: `asked` (what is asked), `style`, `front` (what stands in front of the tables), `step_table`, `opens` (where other
+//! Modules: `options` (what is asked), `style`, `front` (what stands in front of the tables), `step_table`, `opens` (where other
 //! candidates differ), `columns` (the head of the trace), `drawn` (which signals), `figure` (moments, and the bits that are open in
 //! each), `cells` (where a cell begins and ends), `rows` (the rows of signals), `escape` (a text as HTML shows it), `page`, `law`,
 //! `cell_law`. Used above: `ShowsReport` (`specs/Page`): the text is the page of the report, whose cells are those of the
@@ -8,7 +8,6 @@
 //! browser reads as a mark (`escaped_is_quiet`). A line: its definition and the function of the same name.
 #![tactic(auto)]
 
-mod asked;
 mod cell_law;
 mod cells;
 mod columns;
@@ -18,11 +17,12 @@ mod figure;
 mod front;
 mod law;
 mod opens;
+mod options;
 mod page;
 mod rows;
 mod step_table;
 mod style;
 
-pub use asked::PageAsked;
 pub use law::cells_are_traced;
+pub use options::PageOptions;
 pub use page::page_text;

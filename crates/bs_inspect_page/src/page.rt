@@ -4,12 +4,12 @@ ghost use Rattle.bs_net_names.specs.Signals.{signal_in};
 ghost use Rattle.bs_inspect_page.specs.Rows.{group_text};
 ghost use Rattle.bs_inspect_page.specs.Page.{AreDrawnFlops, AreDrawnInputs, ShowsOpen, ShowsReport, asked_in, end_text, flops_heading, inputs_heading, input_figure, page_text, state_figure, trace_front, trace_text};
 
-use crate::asked::PageAsked;
 use crate::columns::push_columns;
 use crate::drawn::{keep_first, keep_first_drawn};
 use crate::figure::Figure;
 use crate::front::push_front;
 use crate::opens::opens_of;
+use crate::options::PageOptions;
 use crate::rows::push_group;
 use crate::step_table::push_step_table;
 use bs_bits::{Bits, List, NoMemory, push_piece};
@@ -100,7 +100,7 @@ fn drawn_flops<'a>(
     alloc: Global,
     net: &'a Netlist,
     report: &Report,
-    asked: &PageAsked<'_>,
+    asked: &PageOptions<'_>,
     opens: &List<Bits>,
 ) -> Result<Vec<Signal<'a>>, NoMemory>
     ensures are { IfOk result (λ signals. AreDrawnFlops net.now.raw report.now (asked_in asked.now) opens.now (map signal_in signals.items)) }
@@ -119,7 +119,7 @@ fn drawn_flops<'a>(
 fn drawn_inputs<'a>(
     alloc: Global,
     net: &'a Netlist,
-    asked: &PageAsked<'_>,
+    asked: &PageOptions<'_>,
 ) -> Result<Vec<Signal<'a>>, NoMemory>
     ensures are { IfOk result (λ signals. AreDrawnInputs net.now.raw (asked_in asked.now) (map signal_in signals.items)) }
     ensures few { IfOk result (λ signals. All (λ s. length s.places < 2 ^ 32) signals.items) }
@@ -134,7 +134,7 @@ fn push_page(
     text: &mut Vec<u8>,
     net: &Netlist,
     report: &Report,
-    asked: &PageAsked<'_>,
+    asked: &PageOptions<'_>,
     opens: &List<Bits>,
     flops: &[Signal<'_>],
     inputs: &[Signal<'_>],
@@ -154,7 +154,7 @@ fn text_of(
     alloc: Global,
     net: &Netlist,
     report: &Report,
-    asked: &PageAsked<'_>,
+    asked: &PageOptions<'_>,
     opens: &List<Bits>,
     flops: &[Signal<'_>],
     inputs: &[Signal<'_>],
@@ -173,7 +173,7 @@ fn with_inputs(
     alloc: Global,
     net: &Netlist,
     report: &Report,
-    asked: &PageAsked<'_>,
+    asked: &PageOptions<'_>,
     opens: &List<Bits>,
     flops: &[Signal<'_>],
 ) -> Result<Vec<u8>, NoMemory>
@@ -192,7 +192,7 @@ fn with_flops(
     alloc: Global,
     net: &Netlist,
     report: &Report,
-    asked: &PageAsked<'_>,
+    asked: &PageOptions<'_>,
     opens: &List<Bits>,
 ) -> Result<Vec<u8>, NoMemory>
     ensures { IfOk result (λ text. ShowsOpen net.now.raw report.now (asked_in asked.now) opens.now text.items) }
@@ -211,7 +211,7 @@ pub fn page_text(
     alloc: Global,
     net: &Netlist,
     report: &Report,
-    asked: &PageAsked<'_>,
+    asked: &PageOptions<'_>,
 ) -> Result<Vec<u8>, NoMemory>
     ensures { IfOk result (λ text. ShowsReport net.now.raw report.now (asked_in asked.now) text.items) }
 {

@@ -5,10 +5,10 @@ use Rattle.std.proofs.lemmas.List.{take_more, map-append, length-map, length-tak
 use Rattle.bs_scan.specs.Choice.{Chosen}
 use Rattle.bs_scan.specs.Signature.{signature}
 use Rattle.bs_inspect_proposal.specs.Apart.{states_apart, step_signature, steps_apart}
-use Rattle.bs_inspect_film.specs.Kept.{AreSteps, Step, first_rows, step_row}
+use Rattle.bs_inspect_film.specs.StateTable.{AreSteps, Step, first_rows, step_row}
 use Rattle.bs_inspect_proposal.specs.Sharing.{tally_of}
-use Rattle.bs_inspect_film.specs.declared.kept.TheConstants.{MAX_ROWS}
-use Rattle.bs_inspect_proposal.specs.declared.sharing.Tally.{Tally}
+use Rattle.bs_inspect_film.specs.declared.state_table.TheConstants.{MAX_ROWS}
+use Rattle.bs_inspect_proposal.specs.declared.sharing.SharingTally.{SharingTally}
 
 mapped_more : {X : Type 0} (f : X → List Bool) (rows : List X) (own after : List (List Bool)) (i : ℕ) (d : X) (bits : List Bool) → i < length rows →
     own ≡ map f (take i rows) → bits ≡ f (get_or rows i d) → after ≡ own ++ bits ∷ [] → after ≡ map f (take (i + 1) rows)
@@ -55,7 +55,7 @@ own_steps f rows own steps e within =
       to = λ k d lt. omega (arith, count, within.to k d lt);
     }
 
-pub own_states_apart : (choice : Chosen) (rows own : List (List Bool)) (tally : Tally) → own ≡ map (signature choice) rows → tally ≡ tally_of (first_rows own) →
+pub own_states_apart : (choice : Chosen) (rows own : List (List Bool)) (tally : SharingTally) → own ≡ map (signature choice) rows → tally ≡ tally_of (first_rows own) →
     tally ≡ states_apart choice (first_rows rows)
 own_states_apart choice rows own tally e is =
     is ∙ ap tally_of (ap first_rows e ∙ take-map (signature choice) MAX_ROWS rows)
@@ -90,7 +90,7 @@ own_pairs choice rows (s ∷ steps) wide within =
     get_or-map (signature choice) rows s.1 [] [] to ∙ ap (signature choice) (sym (behind_is a b choice.width (wide s.0 [] from))) in
     λ i. (older i ++ newer i) ∷ (own_pairs choice rows steps wide rest i)
 
-pub own_steps_apart : (choice : Chosen) (rows own : List (List Bool)) (steps : List Step) (tally : Tally) → own ≡ map (signature choice) rows →
+pub own_steps_apart : (choice : Chosen) (rows own : List (List Bool)) (steps : List Step) (tally : SharingTally) → own ≡ map (signature choice) rows →
     All (λ s. length s ≡ choice.width) rows → AreSteps rows steps → tally ≡ tally_of (map (step_row own) steps) →
     tally ≡ steps_apart choice (map (step_row rows) steps)
 own_steps_apart choice rows own steps tally e wide within is =

@@ -8,7 +8,7 @@ use Rattle.std.proofs.lemmas.Bool.{eqb-true, eqb-false, leb-true, leb-false}
 use Rattle.std.proofs.lemmas.List.{length-append, length-map, get_or_append_left, take-append-le, take_all}
 use Rattle.std.proofs.lemmas.List.FromFn.{get_or-map-range_with_len, length-range_with_len}
 use Rattle.std.proofs.Math.Seq.{get_or-append_seam}
-use Rattle.bs_inspect_proposal.specs.Begun.{Begun, Grows, IsUnderWay, NoMore, OneMore}
+use Rattle.bs_inspect_proposal.specs.PartialChoice.{PartialChoice, Grows, IsUnderWay, NoMore, OneMore}
 use Rattle.bs_inspect_proposal.specs.Classes.{AreClasses, IsFound, IsLeast, Renumbers, column_of, columns_of, found_with, lesser, shares_of, split_keys, tells_all}
 use Rattle.bs_inspect_proposal.specs.Greedy.{IsBest, IsGreedy, is_chosen, shares_with}
 use Rattle.bs_inspect_proposal.specs.declared.best.Found.{Found}
@@ -173,7 +173,7 @@ best_of width rows columns flops classes found wide same least =
       first = λ f lt new. omega (arith, same found.flop there, same f (omega (arith, lt, there)), least.first f lt new);
     }
 
-module _ (width : ℕ) (rows : List (List Bool)) (steps : ℕ) (old : Begun) (under : IsUnderWay width rows (columns_of width rows) steps old) where
+module _ (width : ℕ) (rows : List (List Bool)) (steps : ℕ) (old : PartialChoice) (under : IsUnderWay width rows (columns_of width rows) steps old) where
   within : (f : ℕ) → f < width → (k : ℕ) → k < length (old.flops ++ f ∷ []) → get_or (old.flops ++ f ∷ []) k 0 < width
   within f there k lt = by (k == length old.flops) refl
     where
@@ -216,7 +216,7 @@ module _ (width : ℕ) (rows : List (List Bool)) (steps : ℕ) (old : Begun) (un
           let here : get_or (old.flops ++ found.flop ∷ []) i 0 ≡ get_or old.flops i 0 = get_or_append_left old.flops (found.flop ∷ []) 0 i before in
           rw front (rw here (under.each i before))
 
-  one_put : (new : Begun) → OneMore (length rows) (columns_of width rows) old new → IsUnderWay width rows (columns_of width rows) (steps + 1) new
+  one_put : (new : PartialChoice) → OneMore (length rows) (columns_of width rows) old new → IsUnderWay width rows (columns_of width rows) (steps + 1) new
   one_put new more =
       let longer : length new.flops ≡ length old.flops + 1 = ap length more.put ∙ length-append old.flops (more.found.flop ∷ []) in
       record {
@@ -235,15 +235,15 @@ module _ (width : ℕ) (rows : List (List Bool)) (steps : ℕ) (old : Begun) (un
           (all more.found.flop (omega (arith, more.least.there, columns_count width rows (columns_of width rows) refl))) more.least.new
           ((length new.flops ≡ steps + 1) ⊎ ((f : ℕ) → f < width → is_chosen new.flops f ≡ true))
 
-  none_put : (new : Begun) → NoMore (columns_of width rows) old new → IsUnderWay width rows (columns_of width rows) (steps + 1) new
-  none_put new no_more = subst (λ (b : Begun). IsUnderWay width rows (columns_of width rows) (steps + 1) b) (sym no_more.same) record {
+  none_put : (new : PartialChoice) → NoMore (columns_of width rows) old new → IsUnderWay width rows (columns_of width rows) (steps + 1) new
+  none_put new no_more = subst (λ (b : PartialChoice). IsUnderWay width rows (columns_of width rows) (steps + 1) b) (sym no_more.same) record {
     classes = under.classes;
     few = omega (arith, under.few);
     full = inr (λ f lt. no_more.all f (omega (arith, lt, columns_count width rows (columns_of width rows) refl)));
     each = under.each;
   }
 
-pub grown : (width : ℕ) (rows columns : List (List Bool)) (steps count : ℕ) (old new : Begun) → columns ≡ columns_of width rows →
+pub grown : (width : ℕ) (rows columns : List (List Bool)) (steps count : ℕ) (old new : PartialChoice) → columns ≡ columns_of width rows →
     count ≡ length rows → IsUnderWay width rows columns steps old → Grows count columns old new → IsUnderWay width rows columns (steps + 1) new
 grown width rows columns steps count old new e wide under grows =
     let P : List (List Bool) → Type 0 = λ (cs : List (List Bool)). IsUnderWay width rows cs steps old → Grows (length rows) cs old new →
@@ -255,7 +255,7 @@ grown width rows columns steps count old new e wide under grows =
     by u (inl more) = one_put width rows steps old u new more
     by u (inr no_more) = none_put width rows steps old u new no_more
 
-pub greedy_whole : (width : ℕ) (rows columns : List (List Bool)) (bits : ℕ) (b : Begun) → IsUnderWay width rows columns bits b →
+pub greedy_whole : (width : ℕ) (rows columns : List (List Bool)) (bits : ℕ) (b : PartialChoice) → IsUnderWay width rows columns bits b →
     IsGreedy width rows bits b.flops
 greedy_whole width rows columns bits b under = record {
   few = under.few;
@@ -273,7 +273,7 @@ classes_put count columns flops classes places own flop column are same at renum
     (subst (λ (ks : List ℕ). Renumbers (split_keys ks column) places) same renumbers))
 
 -- the one that was found is put at the end
-pub one_more : (count : ℕ) (columns : List (List Bool)) (old new : Begun) (found : Found) →
+pub one_more : (count : ℕ) (columns : List (List Bool)) (old new : PartialChoice) (found : Found) →
     IsLeast (shares_of old.classes columns) old.flops (length columns) found → new.flops ≡ old.flops ++ found.flop ∷ [] →
     AreClasses count columns (old.flops ++ found.flop ∷ []) new.classes → Grows count columns old new
 one_more count columns old new found least put classes = inl record {
@@ -284,7 +284,7 @@ one_more count columns old new found least put classes = inl record {
 }
 
 -- the classes where their count is the rows'
-pub classes_here : (width : ℕ) (rows columns : List (List Bool)) (steps : ℕ) (b : Begun) → IsUnderWay width rows columns steps b →
+pub classes_here : (width : ℕ) (rows columns : List (List Bool)) (steps : ℕ) (b : PartialChoice) → IsUnderWay width rows columns steps b →
     AreClasses (length b.classes) columns b.flops b.classes
 classes_here width rows columns steps b under =
     subst (λ (n : ℕ). AreClasses n columns b.flops b.classes) (sym under.classes.wide) under.classes

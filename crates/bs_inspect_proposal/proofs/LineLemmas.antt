@@ -11,8 +11,8 @@ use Rattle.bs_scan.specs.Signature.{signature}
 use Rattle.bs_inspect_proposal.specs.Apart.{states_apart, step_signature, steps_apart}
 use Rattle.bs_inspect_proposal.specs.Proposal.{bit_lines, shares_line, xor_line}
 use Rattle.bs_inspect_proposal.specs.Sharing.{sharing, tally_of}
-use Rattle.bs_inspect_film.specs.declared.kept.TheConstants.{MAX_ROWS}
-use Rattle.bs_inspect_proposal.specs.declared.sharing.Tally.{Tally}
+use Rattle.bs_inspect_film.specs.declared.state_table.TheConstants.{MAX_ROWS}
+use Rattle.bs_inspect_proposal.specs.declared.sharing.SharingTally.{SharingTally}
 
 pieces_more : {X : Type 0} (f : X → List ℕ) (xs : List X) (old before after : List ℕ) (i : ℕ) (d : X) → i < length xs →
     before ≡ old ++ flat_map f (take i xs) → after ≡ before ++ f (get_or xs i d) → after ≡ old ++ flat_map f (take (i + 1) xs)
@@ -39,21 +39,21 @@ all_small : (all : List (List Bool)) → length all ≤ 65536 → sum_by (sharin
 all_small all few =
     sum_by-le (sharing all) 65536 all (λ k d lt. omega (arith, count_by-le-length (bits_eq (get_or all k d)) all, few))
 
-tally_small : (all : List (List Bool)) (tally : Tally) → tally ≡ tally_of all → length all ≤ 65536 → tally.sum < 2 ^ 56
-tally_small all tally e few = omega (arith, ap (λ (t : Tally). t.sum) e, all_small all few, few)
+tally_small : (all : List (List Bool)) (tally : SharingTally) → tally ≡ tally_of all → length all ≤ 65536 → tally.sum < 2 ^ 56
+tally_small all tally e few = omega (arith, ap (λ (t : SharingTally). t.sum) e, all_small all few, few)
 
-pub states_small : (choice : Chosen) (states : List (List Bool)) (tally : Tally) → tally ≡ states_apart choice states → length states ≤ MAX_ROWS →
+pub states_small : (choice : Chosen) (states : List (List Bool)) (tally : SharingTally) → tally ≡ states_apart choice states → length states ≤ MAX_ROWS →
     tally.sum < 2 ^ 56
 states_small choice states tally e few =
     tally_small (map (signature choice) states) tally e (omega (arith, length-map states (signature choice), few))
 
-pub steps_small : (choice : Chosen) (steps : List (List Bool)) (tally : Tally) → tally ≡ steps_apart choice steps → length steps ≤ MAX_ROWS →
+pub steps_small : (choice : Chosen) (steps : List (List Bool)) (tally : SharingTally) → tally ≡ steps_apart choice steps → length steps ≤ MAX_ROWS →
     tally.sum < 2 ^ 56
 steps_small choice steps tally e few =
     tally_small (map (step_signature choice) steps) tally e (omega (arith, length-map steps (step_signature choice), few))
 
 -- two lines of shares
-pub tallies_whole : (old middle new one two : List ℕ) (n k m j : ℕ) (t u v w : Tally) → middle ≡ old ++ shares_line one n t →
+pub tallies_whole : (old middle new one two : List ℕ) (n k m j : ℕ) (t u v w : SharingTally) → middle ≡ old ++ shares_line one n t →
     new ≡ middle ++ shares_line two k u → n ≡ m → t ≡ v → k ≡ j → u ≡ w → new ≡ old ++ (shares_line one m v ++ shares_line two j w)
 tallies_whole old middle new one two n k m j t u v w e f en et ek eu =
     f

@@ -10,9 +10,9 @@ use Rattle.bs_bits.specs.Lines.{line}
 use Rattle.bs_scan.specs.ChoiceText.{chosen}
 use Rattle.bs_inspect_proposal.specs.Greedy.{IsGreedy, compared}
 use Rattle.bs_inspect_proposal.specs.Items.{single}
-use Rattle.bs_inspect_film.specs.Kept.{IsLooked, Step, first_rows, step_row}
-use Rattle.bs_inspect_proposal.specs.Proposal.{IsProposal, bit_line, bits_told, parities_told, parity_items, shares_text, xor_line}
-use Rattle.bs_inspect_film.specs.declared.kept.TheConstants.{MAX_ROWS}
+use Rattle.bs_inspect_film.specs.StateTable.{IsLooked, Step, first_rows, step_row}
+use Rattle.bs_inspect_proposal.specs.Proposal.{IsProposal, bit_line, bits_lines, parities_lines, parity_items, shares_text, xor_line}
+use Rattle.bs_inspect_film.specs.declared.state_table.TheConstants.{MAX_ROWS}
 use Rattle.bs_inspect_proposal.proofs.OrderLemmas.{greedy_first}
 
 pub states_count : (rows : List (List Bool)) (n : ℕ) → n ≡ min (length rows) MAX_ROWS → n ≡ length (first_rows rows)
@@ -56,7 +56,7 @@ whole old a b c one two three e f g =
 
 pub bits_whole : (keys : List (Bor (List ℕ))) (states steps : List (List Bool)) (flops : List ℕ) (items : List (List ℕ)) (old a b c : List ℕ) →
     items ≡ map single flops → a ≡ old ++ line (codes "choice bits") → b ≡ a ++ shares_text (chosen (length keys) 1 items) states steps →
-    c ≡ b ++ flat_map (bit_line (map (λ s. s.now) keys)) flops → c ≡ old ++ bits_told (map (λ s. s.now) keys) states steps flops
+    c ≡ b ++ flat_map (bit_line (map (λ s. s.now) keys)) flops → c ≡ old ++ bits_lines (map (λ s. s.now) keys) states steps flops
 bits_whole keys states steps flops items old a b c is e f g =
     whole old a b c (line (codes "choice bits"))
     (shares_text (chosen (length (map (λ (s : Bor (List ℕ)). s.now) keys)) 1 (map single flops)) states steps)
@@ -66,7 +66,7 @@ bits_whole keys states steps flops items old a b c is e f g =
 pub parities_whole : (keys : List (Bor (List ℕ))) (states steps : List (List Bool)) (bits : ℕ) (items : List (List ℕ)) (old a b c : List ℕ) →
     items ≡ parity_items (length keys) bits → a ≡ old ++ line (codes "choice parities") →
     b ≡ a ++ shares_text (chosen (length keys) 1 items) states steps → c ≡ b ++ flat_map (xor_line (map (λ s. s.now) keys)) items →
-    c ≡ old ++ parities_told (map (λ s. s.now) keys) states steps bits
+    c ≡ old ++ parities_lines (map (λ s. s.now) keys) states steps bits
 parities_whole keys states steps bits items old a b c is e f g =
     let now : List (List ℕ) = map (λ (s : Bor (List ℕ)). s.now) keys in
     let wide : length keys ≡ length now = sym (length-map keys (λ (s : Bor (List ℕ)). s.now)) in
@@ -86,9 +86,9 @@ first_within width rows bits most order flops greedy e = subst (All (λ (f : ℕ
 
 pub proposes : (keys : List (Bor (List ℕ))) (states steps : List (List Bool)) (bits most : ℕ) (order flops text : List ℕ) → bits ≤ most →
     IsGreedy (length keys) (compared states) most order → flops ≡ take bits order →
-    text ≡ bits_told (map (λ s. s.now) keys) states steps flops ++ parities_told (map (λ s. s.now) keys) states steps bits →
+    text ≡ bits_lines (map (λ s. s.now) keys) states steps flops ++ parities_lines (map (λ s. s.now) keys) states steps bits →
     IsProposal (map (λ s. s.now) keys) states steps bits most order text
-proposes keys states steps bits most order flops text le greedy first told =
+proposes keys states steps bits most order flops text le greedy first says =
     let now : List (List ℕ) = map (λ (s : Bor (List ℕ)). s.now) keys in
     let wide : length keys ≡ length now = sym (length-map keys (λ (s : Bor (List ℕ)). s.now)) in
     let whole_order : IsGreedy (length now) (compared states) most order = subst (λ (n : ℕ). IsGreedy n (compared states) most order) wide greedy in
@@ -97,18 +97,18 @@ proposes keys states steps bits most order flops text le greedy first told =
       choices = record {
         flops = flops;
         best = subst (IsGreedy (length now) (compared states) bits) (sym first) (greedy_first (length now) (compared states) bits most order le whole_order);
-        told = told;
+        says = says;
       };
       first = first;
     }
 
 pub renamed : (ks keys : List (List ℕ)) (states steps : List (List Bool)) (bits most : ℕ) (order text : List ℕ) → ks ≡ keys →
     IsProposal ks states steps bits most order text → IsProposal keys states steps bits most order text
-renamed ks keys states steps bits most order text e told = subst (λ (k : List (List ℕ)). IsProposal k states steps bits most order text) e told
+renamed ks keys states steps bits most order text e says = subst (λ (k : List (List ℕ)). IsProposal k states steps bits most order text) e says
 
 pub moved : (keys : List (List ℕ)) (states steps looked_states looked_steps : List (List Bool)) (bits most : ℕ) (order text : List ℕ) →
     states ≡ looked_states → steps ≡ looked_steps → IsProposal keys states steps bits most order text →
     IsProposal keys looked_states looked_steps bits most order text
-moved keys states steps looked_states looked_steps bits most order text f g told =
+moved keys states steps looked_states looked_steps bits most order text f g says =
     subst (λ (s : List (List Bool)). IsProposal keys s looked_steps bits most order text) f
-    (subst (λ (s : List (List Bool)). IsProposal keys states s bits most order text) g told)
+    (subst (λ (s : List (List Bool)). IsProposal keys states s bits most order text) g says)

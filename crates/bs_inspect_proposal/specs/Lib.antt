@@ -8,4 +8,4 @@ pub mod Proposal
 pub mod Keys
 pub mod Places
 pub mod Classes
-pub mod Begun
+pub mod PartialChoice

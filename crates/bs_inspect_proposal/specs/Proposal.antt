@@ -12,8 +12,8 @@ use Rattle.bs_scan.specs.ChoiceText.{chosen}
 use Rattle.bs_inspect_proposal.specs.Apart.{states_apart, steps_apart}
 use Rattle.bs_inspect_proposal.specs.Greedy.{IsGreedy, compared}
 use Rattle.bs_inspect_proposal.specs.Items.{singles}
-use Rattle.bs_inspect_film.specs.Looked.{states_looked, steps_looked}
-use Rattle.bs_inspect_proposal.specs.declared.sharing.Tally.{Tally}
+use Rattle.bs_inspect_film.specs.SimulatedStates.{states_looked, steps_looked}
+use Rattle.bs_inspect_proposal.specs.declared.sharing.SharingTally.{SharingTally}
 
 -- ---- the choices
 
@@ -36,7 +36,7 @@ abbrev pub decimals : ℕ → List ℕ
 decimals n = decimal (n / 100) ++ (codes "." ++ ((48 + n % 100 / 10) ∷ (48 + n % 10) ∷ []))
 
 -- how many rows there are, the greatest share and the mean share
-abbrev pub shares_line : List ℕ → ℕ → Tally → List ℕ
+abbrev pub shares_line : List ℕ → ℕ → SharingTally → List ℕ
 shares_line word rows tally =
     line (word ++ (decimal rows ++ (codes " " ++ (decimal tally.greatest ++ (codes " " ++ decimals (hundredths tally.sum rows))))))
 
@@ -68,13 +68,13 @@ abbrev pub xor_line : List (List ℕ) → List ℕ → List ℕ
 xor_line keys item = line (codes "xor" ++ flat_map (name_words keys) item)
 
 -- the single flip-flops that tell states apart best
-abbrev pub bits_told : List (List ℕ) → List (List Bool) → List (List Bool) → List ℕ → List ℕ
-bits_told keys states steps flops =
+abbrev pub bits_lines : List (List ℕ) → List (List Bool) → List (List Bool) → List ℕ → List ℕ
+bits_lines keys states steps flops =
     line (codes "choice bits") ++ (shares_text (singles (length keys) flops) states steps ++ bit_lines keys flops)
 
 -- the parities of all flip-flops
-abbrev pub parities_told : List (List ℕ) → List (List Bool) → List (List Bool) → ℕ → List ℕ
-parities_told keys states steps bits =
+abbrev pub parities_lines : List (List ℕ) → List (List Bool) → List (List Bool) → ℕ → List ℕ
+parities_lines keys states steps bits =
     line (codes "choice parities")
     ++ (shares_text (chosen (length keys) 1 (parity_items (length keys) bits)) states steps ++ flat_map (xor_line keys) (parity_items (length keys) bits))
 
@@ -83,7 +83,7 @@ parities_told keys states steps bits =
 pub record TellsChoices (keys : List (List ℕ)) (states steps : List (List Bool)) (bits : ℕ) (text : List ℕ) : Type 0 where
   pub flops : List ℕ
   pub best : IsGreedy (length keys) (compared states) bits flops
-  pub told : text ≡ bits_told keys states steps flops ++ parities_told keys states steps bits
+  pub says : text ≡ bits_lines keys states steps flops ++ parities_lines keys states steps bits
 
 -- the same, where the choice goes on: most flip-flops, or all, in the order in which they are chosen
 pub record IsProposal (keys : List (List ℕ)) (states steps : List (List Bool)) (bits most : ℕ) (order text : List ℕ) : Type 0 where

@@ -1,7 +1,7 @@
 //! The flip-flops that tell rows apart best, one after another.
 ghost use Rattle.std.specs.Prelude.{◌≡◌, ◌<◌, ◌≤◌, ◌^◌, ◌+◌, ◌*◌, [], ◌∷◌, ◌++◌, length, map, replicate, All, IfOk, OnOk, slice_index_or};
 ghost use Rattle.bs_net.specs.Circuit.{bit_at};
-ghost use Rattle.bs_inspect_proposal.specs.Begun.{begun_in, Grows};
+ghost use Rattle.bs_inspect_proposal.specs.PartialChoice.{begun_in, Grows};
 ghost use Rattle.bs_inspect_proposal.specs.Classes.{AreClasses, column_of, columns_of, IsLeast, Renumbers, shares_of, split_keys};
 ghost use Rattle.bs_inspect_proposal.specs.Greedy.{compared, IsGreedy, stride};
 ghost use Rattle.bs_inspect_proposal.specs.declared.greedy.TheConstants.{MAX_COMPARED};
@@ -9,7 +9,7 @@ ghost use Rattle.bs_inspect_proposal.specs.declared.greedy.TheConstants.{MAX_COM
 use crate::best::{Found, best};
 use crate::classes::{renumber, split_keys, zeros};
 use bs_bits::{Bits, List, NoMemory};
-use bs_inspect_film::Row;
+use bs_inspect_film::PackedBits;
 use std::alloc::Global;
 
 /// How many rows are compared: where there are more, some are passed over.
@@ -56,7 +56,7 @@ fn split_classes(alloc: Global, classes: &[u32], column: &Bits) -> Result<Vec<u3
 
 /// Flip-flops that are chosen, and the class that they give each row.
 #[derive(Drop)]
-pub(crate) struct Begun {
+pub(crate) struct PartialChoice {
     pub flops: Vec<u32>,
     pub classes: Vec<u32>,
 }
@@ -65,7 +65,7 @@ pub(crate) struct Begun {
 fn put_flop(
     alloc: Global,
     columns: &List<Bits>,
-    begun: &mut Begun,
+    begun: &mut PartialChoice,
     flop: u32,
 ) -> Result<(), NoMemory>
     requires there { flop < length columns.now }
@@ -85,7 +85,7 @@ fn put_flop(
 fn put_found(
     alloc: Global,
     columns: &List<Bits>,
-    begun: &mut Begun,
+    begun: &mut PartialChoice,
     found: Found,
 ) -> Result<(), NoMemory>
     requires columns { All (λ column. length column ≡ length begun.old.classes.items) columns.now }
@@ -99,7 +99,7 @@ fn put_found(
 }
 
 /// Puts the flip-flop at the end that tells the rows apart best, if one is left.
-fn grow(alloc: Global, columns: &List<Bits>, begun: &mut Begun) -> Result<(), NoMemory>
+fn grow(alloc: Global, columns: &List<Bits>, begun: &mut PartialChoice) -> Result<(), NoMemory>
     requires width { length columns.now < 2 ^ 20 }
     requires columns { All (λ column. length column ≡ length begun.old.classes.items) columns.now }
     requires few { length begun.old.classes.items < 2 ^ 20 }
@@ -113,11 +113,11 @@ fn grow(alloc: Global, columns: &List<Bits>, begun: &mut Begun) -> Result<(), No
 }
 
 /// No flip-flops: all rows have one class.
-fn nothing(alloc: Global, count: usize) -> Result<Begun, NoMemory>
+fn nothing(alloc: Global, count: usize) -> Result<PartialChoice, NoMemory>
     ensures flops { IfOk result (λ begun. begun.flops.items ≡ []) }
     ensures classes { IfOk result (λ begun. begun.classes.items ≡ replicate count 0) }
 {
-    Ok(Begun {
+    Ok(PartialChoice {
         flops: Vec::new(alloc),
         classes: zeros(alloc, count)?,
     })
@@ -159,7 +159,7 @@ fn greedy(alloc: Global, width: usize, rows: &[Bits], bits: usize) -> Result<Vec
 
 /// The rows that are compared.
 #[tactic(auto, using(crate::proofs::ClassLemmas::mapped_place, crate::proofs::ClassLemmas::place_within))]
-fn compared(alloc: Global, rows: &[Row]) -> Result<List<Bits>, NoMemory>
+fn compared(alloc: Global, rows: &[PackedBits]) -> Result<List<Bits>, NoMemory>
     ensures { IfOk result (λ own. own ≡ compared rows.now) }
 {
     let stride = rows.len() / (MAX_COMPARED + 1) + 1;
@@ -175,7 +175,7 @@ fn compared(alloc: Global, rows: &[Row]) -> Result<List<Bits>, NoMemory>
 pub(crate) fn best_flops(
     alloc: Global,
     width: usize,
-    states: &[Row],
+    states: &[PackedBits],
     bits: usize,
 ) -> Result<Vec<u32>, NoMemory>
     requires wide { All (λ s. length s ≡ width) states.now }

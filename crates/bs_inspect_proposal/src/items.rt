@@ -4,18 +4,18 @@ ghost use Rattle.std.specs.List.{range_with_len};
 ghost use Rattle.bs_scan.specs.ChoiceText.{chosen};
 ghost use Rattle.bs_scan.specs.Signature.{parity_of, signature};
 ghost use Rattle.bs_inspect_proposal.specs.Items.{AreWithin, single};
-ghost use Rattle.bs_inspect_film.specs.Kept.{AreSteps, first_rows, step_row};
+ghost use Rattle.bs_inspect_film.specs.StateTable.{AreSteps, first_rows, step_row};
 ghost use Rattle.bs_inspect_proposal.specs.Proposal.{every, parity_items};
 ghost use Rattle.bs_inspect_proposal.specs.Sharing.{tally_of};
-ghost use Rattle.bs_inspect_film.specs.declared.kept.TheConstants.{MAX_ROWS};
+ghost use Rattle.bs_inspect_film.specs.declared.state_table.TheConstants.{MAX_ROWS};
 
-use crate::sharing::{Tally, tally_rows};
+use crate::sharing::{SharingTally, tally_rows};
 use bs_bits::{Bits, List, NoMemory};
-use bs_inspect_film::{MAX_ROWS, Row};
+use bs_inspect_film::{MAX_ROWS, PackedBits};
 use std::alloc::Global;
 
 /// The parity of an item's flip-flops in a state.
-fn parity(item: &[u32], state: &Row) -> bool
+fn parity(item: &[u32], state: &PackedBits) -> bool
     requires { All (λ flop. flop < length state.now) item.now }
     ensures { result ≡ parity_of state.now item.now }
 {
@@ -29,7 +29,7 @@ fn signature_of(
     alloc: Global,
     width: usize,
     items: &[List<u32>],
-    state: &Row,
+    state: &PackedBits,
 ) -> Result<Bits, NoMemory>
     requires within { AreWithin width items.now }
     requires wide { length state.now ≡ width }
@@ -48,7 +48,7 @@ pub(crate) fn signatures_of(
     alloc: Global,
     width: usize,
     items: &[List<u32>],
-    states: &[Row],
+    states: &[PackedBits],
 ) -> Result<Vec<Bits>, NoMemory>
     requires within { AreWithin width items.now }
     requires wide { All (λ s. length s ≡ width) states.now }
@@ -62,7 +62,7 @@ pub(crate) fn signatures_of(
 }
 
 /// Two lists of bits behind one another.
-#[tactic(auto, using(bs_inspect_film::proofs::LookedLemmas::joined_more))]
+#[tactic(auto, using(bs_inspect_film::proofs::SimulatedStatesLemmas::joined_more))]
 fn joined(first: &Bits, second: &Bits) -> Result<Bits, NoMemory>
     ensures { IfOk result (λ bits. bits ≡ first.now ++ second.now) }
 {
@@ -98,7 +98,7 @@ fn pairs_of(alloc: Global, own: &[Bits], steps: &[(usize, usize)]) -> Result<Vec
 
 /// How many of the first states share their signature.
 #[tactic(auto, using(crate::proofs::ApartLemmas::few_first))]
-pub(crate) fn share_states(alloc: Global, own: &[Bits]) -> Result<Tally, NoMemory>
+pub(crate) fn share_states(alloc: Global, own: &[Bits]) -> Result<SharingTally, NoMemory>
     ensures { IfOk result (λ tally. tally ≡ tally_of (first_rows own.now)) }
 {
     let tally = tally_rows(alloc, &own[..own.len().min(MAX_ROWS)])?;
@@ -111,7 +111,7 @@ pub(crate) fn share_steps(
     alloc: Global,
     own: &[Bits],
     steps: &[(usize, usize)],
-) -> Result<Tally, NoMemory>
+) -> Result<SharingTally, NoMemory>
     requires within { AreSteps own.now steps.now }
     requires few { length steps.now ≤ MAX_ROWS }
     ensures { IfOk result (λ tally. tally ≡ tally_of (map (step_row own.now) steps.now)) }

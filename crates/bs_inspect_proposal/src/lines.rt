@@ -5,7 +5,7 @@ ghost use Rattle.bs_inspect_proposal.specs.Items.{AreWithin};
 ghost use Rattle.bs_inspect_proposal.specs.Proposal.{bit_line, bit_lines, decimals, flop_keys, hundredths, name_words, shares_line, xor_line};
 
 use crate::keys::flop_keys;
-use crate::sharing::Tally;
+use crate::sharing::SharingTally;
 use bs_bits::{List, NoMemory, end_line, push_number, push_piece};
 use bs_net::Netlist;
 use std::alloc::Global;
@@ -38,7 +38,7 @@ pub(crate) fn push_shares(
     text: &mut Vec<u8>,
     word: &[u8],
     rows: usize,
-    tally: Tally,
+    tally: SharingTally,
 ) -> Result<(), NoMemory>
     requires { tally.sum < 2 ^ 56 }
     ensures { OnOk result (text.new.items ≡ text.old.items ++ shares_line word.now rows tally) }

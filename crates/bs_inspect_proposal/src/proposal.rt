@@ -5,21 +5,21 @@ ghost use Rattle.bs_scan.specs.ChoiceText.{chosen};
 ghost use Rattle.bs_scan.specs.Signature.{signature};
 ghost use Rattle.bs_inspect_proposal.specs.Greedy.{IsGreedy, compared};
 ghost use Rattle.bs_inspect_proposal.specs.Items.{AreWithin, single};
-ghost use Rattle.bs_inspect_film.specs.Kept.{IsLooked, states_of, steps_of};
-ghost use Rattle.bs_inspect_proposal.specs.Proposal.{bits_told, flop_keys, IsProposal, parities_told, parity_items, Proposes, shares_text};
+ghost use Rattle.bs_inspect_film.specs.StateTable.{IsLooked, states_of, steps_of};
+ghost use Rattle.bs_inspect_proposal.specs.Proposal.{bits_lines, flop_keys, IsProposal, parities_lines, parity_items, Proposes, shares_text};
 
 use crate::greedy::best_flops;
 use crate::items::{parity_items, share_states, share_steps, signatures_of, singles};
 use crate::keys::flop_keys;
 use crate::lines::{push_bits, push_shares, push_xors};
 use bs_bits::{Bits, List, NoMemory, push_line};
-use bs_inspect_film::{Looked, MAX_ROWS, Row, look};
+use bs_inspect_film::{MAX_ROWS, PackedBits, SimulatedStates, look};
 use bs_net::Netlist;
 use bs_stim::{MAX_CYCLES, Runs};
 use std::alloc::Global;
 
 /// How many states there are.
-fn count_states(looked: &Looked) -> usize
+fn count_states(looked: &SimulatedStates) -> usize
     ensures { result ≡ length (states_of looked.now) }
 {
     looked.rows.len().min(MAX_ROWS)
@@ -27,14 +27,14 @@ fn count_states(looked: &Looked) -> usize
 
 /// How many steps there are.
 #[tactic(auto, using(crate::proofs::ProposalLemmas::steps_count))]
-fn count_steps(looked: &Looked) -> usize
+fn count_steps(looked: &SimulatedStates) -> usize
     ensures { result ≡ length (steps_of looked.now) }
 {
     looked.steps.len()
 }
 
 /// The states.
-fn states(looked: &Looked) -> &[Row]
+fn states(looked: &SimulatedStates) -> &[PackedBits]
     ensures { result.now ≡ states_of looked.now }
 {
     &looked.rows.slice()[..looked.rows.len().min(MAX_ROWS)]
@@ -45,7 +45,7 @@ fn push_tallies(
     text: &mut Vec<u8>,
     width: usize,
     items: &[List<u32>],
-    looked: &Looked,
+    looked: &SimulatedStates,
     own: &[Bits],
 ) -> Result<(), NoMemory>
     requires looked { IsLooked width looked.now.rows looked.now.steps.items }
@@ -66,7 +66,7 @@ fn push_apart(
     text: &mut Vec<u8>,
     width: usize,
     items: &[List<u32>],
-    looked: &Looked,
+    looked: &SimulatedStates,
 ) -> Result<(), NoMemory>
     requires within { AreWithin width items.now }
     requires looked { IsLooked width looked.now.rows looked.now.steps.items }
@@ -81,7 +81,7 @@ fn push_apart(
 fn push_chosen_bits(
     text: &mut Vec<u8>,
     keys: &[&str],
-    looked: &Looked,
+    looked: &SimulatedStates,
     flops: &[u32],
     items: &[List<u32>],
 ) -> Result<(), NoMemory>
@@ -89,7 +89,7 @@ fn push_chosen_bits(
     requires items { items.now ≡ map single flops.now }
     requires within { AreWithin (length keys.now) items.now }
     requires looked { IsLooked (length keys.now) looked.now.rows looked.now.steps.items }
-    ensures { OnOk result (text.new.items ≡ text.old.items ++ bits_told (map (λ s. s.now) keys.now) (states_of looked.now) (steps_of looked.now) flops.now) }
+    ensures { OnOk result (text.new.items ≡ text.old.items ++ bits_lines (map (λ s. s.now) keys.now) (states_of looked.now) (steps_of looked.now) flops.now) }
 {
     push_line(text, b"choice bits")?;
     push_apart(text, keys.len(), items, looked)?;
@@ -101,12 +101,12 @@ fn push_chosen_bits(
 fn push_choice_of_bits(
     text: &mut Vec<u8>,
     keys: &[&str],
-    looked: &Looked,
+    looked: &SimulatedStates,
     flops: &[u32],
 ) -> Result<(), NoMemory>
     requires within { All (λ flop. flop < length keys.now) flops.now }
     requires looked { IsLooked (length keys.now) looked.now.rows looked.now.steps.items }
-    ensures { OnOk result (text.new.items ≡ text.old.items ++ bits_told (map (λ s. s.now) keys.now) (states_of looked.now) (steps_of looked.now) flops.now) }
+    ensures { OnOk result (text.new.items ≡ text.old.items ++ bits_lines (map (λ s. s.now) keys.now) (states_of looked.now) (steps_of looked.now) flops.now) }
 {
     let items = singles(*text.allocator(), flops)?;
     push_chosen_bits(text, keys, looked, flops, items.slice())
@@ -116,14 +116,14 @@ fn push_choice_of_bits(
 fn push_chosen_parities(
     text: &mut Vec<u8>,
     keys: &[&str],
-    looked: &Looked,
+    looked: &SimulatedStates,
     bits: usize,
     items: &[List<u32>],
 ) -> Result<(), NoMemory>
     requires items { items.now ≡ parity_items (length keys.now) bits }
     requires within { AreWithin (length keys.now) items.now }
     requires looked { IsLooked (length keys.now) looked.now.rows looked.now.steps.items }
-    ensures { OnOk result (text.new.items ≡ text.old.items ++ parities_told (map (λ s. s.now) keys.now) (states_of looked.now) (steps_of looked.now) bits) }
+    ensures { OnOk result (text.new.items ≡ text.old.items ++ parities_lines (map (λ s. s.now) keys.now) (states_of looked.now) (steps_of looked.now) bits) }
 {
     let _bits = bits;
     push_line(text, b"choice parities")?;
@@ -137,13 +137,13 @@ fn push_chosen_parities(
 fn push_choice_of_parities(
     text: &mut Vec<u8>,
     keys: &[&str],
-    looked: &Looked,
+    looked: &SimulatedStates,
     bits: usize,
 ) -> Result<(), NoMemory>
     requires some { 0 < bits }
     requires narrow { length keys.now < 2 ^ 20 }
     requires looked { IsLooked (length keys.now) looked.now.rows looked.now.steps.items }
-    ensures { OnOk result (text.new.items ≡ text.old.items ++ parities_told (map (λ s. s.now) keys.now) (states_of looked.now) (steps_of looked.now) bits) }
+    ensures { OnOk result (text.new.items ≡ text.old.items ++ parities_lines (map (λ s. s.now) keys.now) (states_of looked.now) (steps_of looked.now) bits) }
 {
     let items = parity_items(*text.allocator(), keys.len(), bits)?;
     push_chosen_parities(text, keys, looked, bits, items.slice())
@@ -153,7 +153,7 @@ fn push_choice_of_parities(
 fn text_of(
     alloc: Global,
     keys: &[&str],
-    looked: &Looked,
+    looked: &SimulatedStates,
     flops: &[u32],
     bits: usize,
 ) -> Result<Vec<u8>, NoMemory>
@@ -161,7 +161,7 @@ fn text_of(
     requires narrow { length keys.now < 2 ^ 20 }
     requires within { All (λ flop. flop < length keys.now) flops.now }
     requires looked { IsLooked (length keys.now) looked.now.rows looked.now.steps.items }
-    ensures { IfOk result (λ text. text.items ≡ bits_told (map (λ s. s.now) keys.now) (states_of looked.now) (steps_of looked.now) flops.now ++ parities_told (map (λ s. s.now) keys.now) (states_of looked.now) (steps_of looked.now) bits) }
+    ensures { IfOk result (λ text. text.items ≡ bits_lines (map (λ s. s.now) keys.now) (states_of looked.now) (steps_of looked.now) flops.now ++ parities_lines (map (λ s. s.now) keys.now) (states_of looked.now) (steps_of looked.now) bits) }
 {
     let mut text = Vec::new(alloc);
     push_choice_of_bits(&mut text, keys, looked, flops)?;
@@ -182,7 +182,7 @@ pub fn first_flops(order: &[u32], bits: usize) -> &[u32]
 fn text_with(
     alloc: Global,
     keys: &[&str],
-    looked: &Looked,
+    looked: &SimulatedStates,
     order: &[u32],
     bits: usize,
     most: usize,
@@ -212,7 +212,7 @@ pub struct Proposal {
 fn proposal_in(
     alloc: Global,
     keys: &[&str],
-    looked: &Looked,
+    looked: &SimulatedStates,
     order: Vec<u32>,
     bits: usize,
     most: usize,
@@ -232,7 +232,7 @@ fn proposal_in(
 fn choose(
     alloc: Global,
     keys: &[&str],
-    looked: &Looked,
+    looked: &SimulatedStates,
     bits: usize,
     most: usize,
 ) -> Result<Proposal, NoMemory>
@@ -252,7 +252,7 @@ fn choose(
 fn choose_named(
     alloc: Global,
     net: &Netlist,
-    looked: &Looked,
+    looked: &SimulatedStates,
     bits: usize,
     most: usize,
 ) -> Result<Proposal, NoMemory>

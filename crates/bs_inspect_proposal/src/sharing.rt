@@ -8,9 +8,9 @@ use bs_bits::{Bits, NoMemory};
 use std::alloc::Global;
 use std::collections::HashMap;
 
-/// How well the members of a list are told apart by bits.
+/// How well the members of a list differ by bits.
 #[derive(Clone, Copy, Debug, PartialEq, Eq)]
-pub struct Tally {
+pub struct SharingTally {
     /// The greatest number of members that share their bits.
     pub greatest: u64,
     /// The sum over all members of how many share theirs, each with itself.
@@ -71,12 +71,12 @@ fn tally_by(
     alloc: Global,
     counts: &HashMap<Vec<bool>, u64>,
     rows: &[Bits],
-) -> Result<Tally, NoMemory>
+) -> Result<SharingTally, NoMemory>
     requires few { length rows.now < 2 ^ 32 }
     requires counts { CountsAll counts.now rows.now }
     ensures { IfOk result (λ tally. tally ≡ tally_of rows.now) }
 {
-    let mut tally = Tally {
+    let mut tally = SharingTally {
         greatest: 0,
         sum: 0,
     };
@@ -90,7 +90,7 @@ fn tally_by(
 }
 
 /// The greatest number of members of a list that share their bits, and the sum over all members of how many share theirs.
-pub(crate) fn tally_rows(alloc: Global, rows: &[Bits]) -> Result<Tally, NoMemory>
+pub(crate) fn tally_rows(alloc: Global, rows: &[Bits]) -> Result<SharingTally, NoMemory>
     requires { length rows.now < 2 ^ 32 }
     ensures { IfOk result (λ tally. tally ≡ tally_of rows.now) }
 {

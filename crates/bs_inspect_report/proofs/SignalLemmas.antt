@@ -13,7 +13,7 @@ use Rattle.bs_bits.specs.declared.memory.NoMemory.{NoMemory}
 use Rattle.bs_net_names.specs.declared.signal.Signal.{Signal as CodeSignal}
 use Rattle.bs_net_names.specs.Keys.{key_parts}
 use Rattle.bs_net_names.specs.Signals.{AreSignals, Member, Signal, bits_from, bits_of, is_wanted, lower, members_from, members_of, signal_in, wanted}
-use Rattle.bs_inspect_report.specs.Signal.{bit_at, signal_bits, signal_piece, signals_told}
+use Rattle.bs_inspect_report.specs.Signal.{bit_at, signal_bits, signal_piece, signals_lines}
 
 pub bits_more : (bits : List Bool) (places : List ℕ) (i d : ℕ) (own : List Bool) → i < length places → own ≡ signal_bits bits (take i places) →
     own ++ bit_at bits (get_or places i d) ∷ [] ≡ signal_bits bits (take (i + 1) places)
@@ -22,9 +22,9 @@ bits_more bits places i d own lt e =
     ∙ (sym (map-append (bit_at bits) (take i places) (get_or places i d ∷ [])) ∙ ap (signal_bits bits) (sym (take_more places i d lt)))
 
 pub signals_more : (kind : List ℕ) (cycle : ℕ) (before : Option (List Bool)) (now : List Bool) (signals : List CodeSignal) (i : ℕ) (d : CodeSignal)
-    (old text after : List ℕ) → i < length signals → text ≡ old ++ signals_told kind cycle before now (map signal_in (take i signals)) →
+    (old text after : List ℕ) → i < length signals → text ≡ old ++ signals_lines kind cycle before now (map signal_in (take i signals)) →
     after ≡ text ++ signal_piece kind cycle before now (signal_in (get_or signals i d)) →
-    after ≡ old ++ signals_told kind cycle before now (map signal_in (take (i + 1) signals))
+    after ≡ old ++ signals_lines kind cycle before now (map signal_in (take (i + 1) signals))
 signals_more kind cycle before now signals i d old text after lt e f =
     let piece : Signal → List ℕ = signal_piece kind cycle before now in
     let more : map signal_in (take (i + 1) signals) ≡ map signal_in (take i signals) ++ signal_in (get_or signals i d) ∷ [] =

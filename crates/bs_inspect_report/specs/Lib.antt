@@ -6,4 +6,4 @@ pub mod Steps
 pub mod Trace
 pub mod Table
 pub mod Remarks
-pub mod Told
+pub mod Lines

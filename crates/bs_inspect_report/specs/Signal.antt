@@ -28,5 +28,5 @@ abbrev pub signal_piece : List ℕ → ℕ → Option (List Bool) → List Bool 
 signal_piece kind cycle before now s = if has_changed before now s.places then signal_line kind cycle now s else []
 
 -- the lines of signals that changed
-abbrev pub signals_told : List ℕ → ℕ → Option (List Bool) → List Bool → List Signal → List ℕ
-signals_told kind cycle before now signals = flat_map (signal_piece kind cycle before now) signals
+abbrev pub signals_lines : List ℕ → ℕ → Option (List Bool) → List Bool → List Signal → List ℕ
+signals_lines kind cycle before now signals = flat_map (signal_piece kind cycle before now) signals

@@ -61,9 +61,9 @@ abbrev pub step_at : Report → List ℕ → ℕ → List ℕ
 step_at r lemmas i = step_piece i lemmas (slice_get r.steps i)
 
 -- a line for each step, numbered from 1
-abbrev pub steps_told : Report → List ℕ → List ℕ
-steps_told r lemmas = flat_map (step_at r lemmas) (range_with_len 0 (length r.steps))
+abbrev pub steps_lines : Report → List ℕ → List ℕ
+steps_lines r lemmas = flat_map (step_at r lemmas) (range_with_len 0 (length r.steps))
 
 -- the text tells each step once, in order
 abbrev pub steps_text : Report → List ℕ
-steps_text r = steps_told r (lemmas_logged r.log)
+steps_text r = steps_lines r (lemmas_logged r.log)

@@ -73,7 +73,7 @@ trace_rows r signals = head_row signals ++ flat_map (state_row r signals) (range
 pub record TellsTable (raw : Parts) (r : Report) (only : List (List ℕ)) (text : List ℕ) : Type 0 where
   pub signals : Signals
   pub are : AreTraced raw only signals
-  pub told : text ≡ trace_rows r signals
+  pub says : text ≡ trace_rows r signals
 
 -- ---- the steps
 

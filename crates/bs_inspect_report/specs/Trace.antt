@@ -8,7 +8,7 @@ use Rattle.bs_report.specs.declared.report.HitLine.{HitLine}
 use Rattle.bs_report.specs.declared.report.Report.{Report}
 use Rattle.bs_report.specs.declared.report.Step.{Step}
 use Rattle.bs_inspect_report.specs.Keys.{flop_keys, input_keys}
-use Rattle.bs_inspect_report.specs.Signal.{signals_told}
+use Rattle.bs_inspect_report.specs.Signal.{signals_lines}
 
 abbrev pub hit_words : Option HitLine → List ℕ
 hit_words None = codes " state none"
@@ -34,20 +34,20 @@ pub record Signals : Type 0 where
 
 abbrev pub flops_at : Report → List Signal → Bool → ℕ → Option (List Bool) → List ℕ
 flops_at r flops all i None = []
-flops_at r flops all i (Some state) = signals_told (codes " flop ") i (state_before r all i) state flops
+flops_at r flops all i (Some state) = signals_lines (codes " flop ") i (state_before r all i) state flops
 
 abbrev pub inputs_at : List Signal → ℕ → Option (List Bool) → List ℕ
 inputs_at inputs i None = []
-inputs_at inputs i (Some input) = signals_told (codes " input ") i None input inputs
+inputs_at inputs i (Some input) = signals_lines (codes " input ") i None input inputs
 
 -- a cycle of the trace: where its state comes from, the flip-flops that changed, and the input that leads on from it
-abbrev pub cycle_told : Report → Signals → Bool → ℕ → List ℕ
-cycle_told r signals all i =
+abbrev pub cycle_lines : Report → Signals → Bool → ℕ → List ℕ
+cycle_lines r signals all i =
     line (decimal i ++ origin_words r i)
     ++ (flops_at r signals.flops all i (slice_get r.states i) ++ inputs_at signals.inputs i (slice_get r.inputs i))
 
-abbrev pub trace_told : Report → Signals → Bool → List ℕ
-trace_told r signals all = flat_map (cycle_told r signals all) (range_with_len 0 (length r.states))
+abbrev pub trace_lines : Report → Signals → Bool → List ℕ
+trace_lines r signals all = flat_map (cycle_lines r signals all) (range_with_len 0 (length r.states))
 
 -- the signals of a netlist's flip-flops and of its data inputs; where names are given, these alone
 pub record AreTraced (raw : Parts) (only : List (List ℕ)) (signals : Signals) : Type 0 where
@@ -58,4 +58,4 @@ pub record AreTraced (raw : Parts) (only : List (List ℕ)) (signals : Signals) 
 pub record TellsTrace (raw : Parts) (r : Report) (all : Bool) (only : List (List ℕ)) (text : List ℕ) : Type 0 where
   pub signals : Signals
   pub are : AreTraced raw only signals
-  pub told : text ≡ trace_told r signals all
+  pub says : text ≡ trace_lines r signals all

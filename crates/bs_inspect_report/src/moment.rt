@@ -2,8 +2,8 @@
 ghost use Rattle.std.specs.Prelude.{◌≡◌, ◌<◌, ◌≤◌, ◌+◌, ◌^◌, ◌++◌, length, map, decimal, slice_get, All, OnOk, option_map};
 ghost use Rattle.bs_bits.specs.Lines.{line};
 ghost use Rattle.bs_net_names.specs.Signals.{signal_in};
-ghost use Rattle.bs_inspect_report.specs.Trace.{cycle_told, flops_at, hit_words, inputs_at, origin_words, state_before, step_words};
-ghost use Rattle.bs_inspect_report.specs.Told.{signals_in};
+ghost use Rattle.bs_inspect_report.specs.Trace.{cycle_lines, flops_at, hit_words, inputs_at, origin_words, state_before, step_words};
+ghost use Rattle.bs_inspect_report.specs.Lines.{signals_in};
 
 use crate::named::Signals;
 use crate::signal::push_signals;
@@ -126,7 +126,7 @@ pub(crate) fn push_cycle(
 ) -> Result<(), NoMemory>
     requires there { i < length report.now.states }
     requires small { i + 1 < 2 ^ 64 }
-    ensures { OnOk result (text.new.items ≡ text.old.items ++ cycle_told report.now (signals_in signals.now) all i) }
+    ensures { OnOk result (text.new.items ≡ text.old.items ++ cycle_lines report.now (signals_in signals.now) all i) }
 {
     push_head(text, report, i)?;
     push_flops(text, report, signals.flops.as_slice(), all, i)?;

@@ -4,7 +4,7 @@ ghost use Rattle.std.specs.Bool.{beq};
 ghost use Rattle.std.specs.List.{list_any};
 ghost use Rattle.bs_net_names.specs.Signals.{signal_in};
 ghost use Rattle.bs_net_names.specs.Values.{value_text};
-ghost use Rattle.bs_inspect_report.specs.Signal.{bit_at, has_changed, signal_bits, signal_line, signal_piece, signals_told};
+ghost use Rattle.bs_inspect_report.specs.Signal.{bit_at, has_changed, signal_bits, signal_line, signal_piece, signals_lines};
 
 use bs_bits::{Bits, NoMemory, end_line, push_number, push_piece};
 use bs_net_names::{Signal, push_name, push_value};
@@ -112,7 +112,7 @@ pub(crate) fn push_signals(
     signals: &[Signal<'_>],
 ) -> Result<(), NoMemory>
     requires { All (λ s. length s.places < 2 ^ 32) signals.now }
-    ensures { OnOk result (text.new.items ≡ text.old.items ++ signals_told kind.now cycle (option_map (λ b. b.now) before.entry) now.now (map signal_in signals.now)) }
+    ensures { OnOk result (text.new.items ≡ text.old.items ++ signals_lines kind.now cycle (option_map (λ b. b.now) before.entry) now.now (map signal_in signals.now)) }
 {
     'signals: for signal in signals {
         push_changed(text, kind, cycle, before, now, signal)?;

@@ -3,7 +3,7 @@ ghost use Rattle.std.specs.Prelude.{◌≡◌, ◌<◌, ◌≤◌, ◌+◌, ◌^
 ghost use Rattle.std.specs.Bool.{beq};
 ghost use Rattle.std.specs.List.{list_any, range_with_len};
 ghost use Rattle.bs_inspect_report.specs.Signal.{bit_at};
-ghost use Rattle.bs_inspect_report.specs.Steps.{differing, differs_at, end_words, hit_words, list_word, list_words, one_if, step_at, step_line, steps_text as steps_text_of, steps_told};
+ghost use Rattle.bs_inspect_report.specs.Steps.{differing, differs_at, end_words, hit_words, list_word, list_words, one_if, step_at, step_line, steps_text as steps_text_of, steps_lines};
 
 use crate::lemmas::lemmas_logged;
 use crate::signal::bit_at;
@@ -140,7 +140,7 @@ fn push_at(text: &mut Vec<u8>, report: &Report, lemmas: &[u64], i: usize) -> Res
 /// Appends the lines of the steps.
 #[tactic(auto, using(bs_bits::proofs::RangeLemmas::places_step))]
 fn push_steps(text: &mut Vec<u8>, report: &Report, lemmas: &[u64]) -> Result<(), NoMemory>
-    ensures { OnOk result (text.new.items ≡ text.old.items ++ steps_told report.now lemmas.now) }
+    ensures { OnOk result (text.new.items ≡ text.old.items ++ steps_lines report.now lemmas.now) }
 {
     'steps: for i in 0..report.steps.len() {
         push_at(text, report, lemmas, i)?;

@@ -4,7 +4,7 @@ ghost use Rattle.std.specs.List.{flat_map, range_with_len};
 ghost use Rattle.bs_net_names.specs.Rtl.{rtl_text};
 ghost use Rattle.bs_net_names.specs.Signals.{signal_in};
 ghost use Rattle.bs_inspect_report.specs.Table.{TellsTable, head_row, hit_cells, name_cell, name_cells, origin_cells, state_row, step_cells, trace_rows, value_cell, value_cells};
-ghost use Rattle.bs_inspect_report.specs.Told.{signals_in};
+ghost use Rattle.bs_inspect_report.specs.Lines.{signals_in};
 
 use crate::field::push_field;
 use crate::moment::member;

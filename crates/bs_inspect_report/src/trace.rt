@@ -2,8 +2,8 @@
 ghost use Rattle.std.specs.Prelude.{◌≡◌, ◌<◌, ◌^◌, ◌++◌, length, map, All, IfOk, OnOk};
 ghost use Rattle.bs_net_names.specs.Signals.{AreSignals, signal_in};
 ghost use Rattle.bs_inspect_report.specs.Keys.{flop_keys, input_keys};
-ghost use Rattle.bs_inspect_report.specs.Told.{signals_in};
-ghost use Rattle.bs_inspect_report.specs.Trace.{AreTraced, TellsTrace, trace_told};
+ghost use Rattle.bs_inspect_report.specs.Lines.{signals_in};
+ghost use Rattle.bs_inspect_report.specs.Trace.{AreTraced, TellsTrace, trace_lines};
 
 use crate::keys::{flop_keys, input_keys};
 use crate::moment::push_cycle;
@@ -65,7 +65,7 @@ fn push_trace(
     signals: &Signals<'_>,
     all: bool,
 ) -> Result<(), NoMemory>
-    ensures { OnOk result (text.new.items ≡ text.old.items ++ trace_told report.now (signals_in signals.now) all) }
+    ensures { OnOk result (text.new.items ≡ text.old.items ++ trace_lines report.now (signals_in signals.now) all) }
 {
     'cycles: for i in 0..report.states.len() {
         push_cycle(text, report, signals, all, i)?;
@@ -111,7 +111,7 @@ fn text_of(
     signals: &Signals<'_>,
     all: bool,
 ) -> Result<Vec<u8>, NoMemory>
-    ensures { IfOk result (λ text. text.items ≡ trace_told report.now (signals_in signals.now) all) }
+    ensures { IfOk result (λ text. text.items ≡ trace_lines report.now (signals_in signals.now) all) }
 {
     let mut text = Vec::new(alloc);
     push_trace(&mut text, report, signals, all)?;

@@ -12,7 +12,7 @@ use Rattle.bs_net.specs.declared.net.Flop.{Flop}
 use Rattle.bs_net.specs.Netlist.{circuit_of}
 use Rattle.bs_net.specs.Parts.{Parts, key_at}
 use Rattle.bs_inspect_report.specs.Keys.{flop_keys}
-use Rattle.bs_top_plan.specs.declared.told.Stop.{Stop}
+use Rattle.bs_top_plan.specs.declared.diagnostic.WalkStop.{WalkStop}
 use Rattle.bs_top_files.specs.Refusals.{with_reason}
 use Rattle.bs_inspect_values.specs.declared.fault.MapFault.{MapFault}
 use Rattle.bs_inspect_values.specs.Names.{Entry, entries_from, name_of, names_of}
@@ -33,7 +33,7 @@ clock_past r parts clock same is le = sym (get_or_past r.names clock.0 [] le) �
 abbrev Texts : Type 0
 Texts = List (Bor (List ℕ))
 
-pub flops_wide : (keys slice : Texts) (raw : Parts) (r : Result (List (List Bool)) Stop) → slice ≡ keys → map (λ k. k.now) keys ≡ flop_keys raw →
+pub flops_wide : (keys slice : Texts) (raw : Parts) (r : Result (List (List Bool)) WalkStop) → slice ≡ keys → map (λ k. k.now) keys ≡ flop_keys raw →
     IfOk r (λ states. All (λ s. length s ≡ length slice) states) → IfOk r (λ states. All (λ s. length s ≡ length raw.flops) states)
 flops_wide keys slice raw r same is wide =
     let shown : Bor (List ℕ) → List ℕ = λ (k : Bor (List ℕ)). k.now in
@@ -47,7 +47,7 @@ each_named : (keys names : List (List ℕ)) (r : Result (List Entry) MapFault) �
 each_named keys names (Ok es) e = IfOk-at_ok (λ (ns : List (List ℕ)). length ns ≡ length keys) e (length-map keys (name_of es))
 each_named keys names (Err fault) e = absurd cc
 
-pub names_wide : (keys names slice : Texts) (text : List ℕ) (r : Result (List (List Bool)) Stop) → slice ≡ names →
+pub names_wide : (keys names slice : Texts) (text : List ℕ) (r : Result (List (List Bool)) WalkStop) → slice ≡ names →
     names_read (map (λ k. k.now) keys) text ≡ Ok (map (λ n. n.now) names) →
     IfOk r (λ states. All (λ s. length s ≡ length slice) states) → IfOk r (λ states. All (λ s. length s ≡ length keys) states)
 names_wide keys names slice text r same is wide =

@@ -12,9 +12,9 @@ use Rattle.bs_stim.specs.declared.limits.TheConstants.{MAX_NAME}
 use Rattle.bs_stim.specs.Runs.{Stimulus, IsRecorded}
 use Rattle.bs_stim.specs.StimulusText.{run_text}
 use Rattle.bs_stim.proofs.ReadBackLemmas.{stimuli_read_back}
-use Rattle.bs_inspect_values.specs.declared.run.Run.{Run as CodeRun}
+use Rattle.bs_inspect_values.specs.declared.run.SimulatedRun.{SimulatedRun as CodeSimulatedRun}
 use Rattle.bs_inspect_values.specs.Law.{Files, IsFile, RunsReadBack, runs_of}
-use Rattle.bs_inspect_values.specs.Run.{leaf_of, name_byte, or_vcd, run_in, runs_text, simulated, stem_of}
+use Rattle.bs_inspect_values.specs.SimulatedRun.{leaf_of, name_byte, or_vcd, run_in, runs_text, simulated, stem_of}
 
 -- ---- the name
 
@@ -61,7 +61,7 @@ name_short s =
 
 -- ---- the text
 
-pub runs_more : (text : List ℕ) (runs : List CodeRun) (i : ℕ) (d : CodeRun) → i < length runs → text ≡ runs_text (map run_in (take i runs)) →
+pub runs_more : (text : List ℕ) (runs : List CodeSimulatedRun) (i : ℕ) (d : CodeSimulatedRun) → i < length runs → text ≡ runs_text (map run_in (take i runs)) →
     text ++ run_text (run_in (get_or runs i d)) ≡ runs_text (map run_in (take (i + 1) runs))
 runs_more text runs i d lt e =
     ap (λ (t : List ℕ). t ++ run_text (run_in (get_or runs i d))) e

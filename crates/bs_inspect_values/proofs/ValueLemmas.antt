@@ -5,7 +5,7 @@ use Rattle.std.specs.Prelude.{IfOk, nat_lt, if◌then◌else◌}
 use Rattle.std.specs.declared.alloc.Global.{Global}
 use Rattle.bs_bits.specs.declared.memory.NoMemory.{NoMemory}
 use Rattle.bs_stim.specs.declared.limits.TheConstants.{MAX_CYCLES}
-use Rattle.bs_vcd_header.specs.Header.{Declared}
+use Rattle.bs_vcd_header.specs.Header.{HeaderDeclarations}
 use Rattle.bs_net_names.specs.Keys.{KeyParts, key_parts}
 use Rattle.bs_vcd_header.specs.Scopes.{declared_of, names_of, scopes_of}
 use Rattle.bs_note_files.specs.Notes.{Saying, file_text}
@@ -149,19 +149,19 @@ states_noted_err {T = T} view path keys names scope clock at back text fault q (
 
 -- ---- what is declared
 
-declared_is : (text : List ℕ) (d : Declared) → declared_of text ≡ Ok d → declarations text ≡ d
+declared_is : (text : List ℕ) (d : HeaderDeclarations) → declared_of text ≡ Ok d → declarations text ≡ d
 declared_is text d e = ap declared_or e
 
-pub clock_by_declared : (path text : List ℕ) (scope : Option (List ℕ)) (clock : List ℕ) (d : Declared) (r : Result (Vec ℕ Global) NoMemory) →
+pub clock_by_declared : (path text : List ℕ) (scope : Option (List ℕ)) (clock : List ℕ) (d : HeaderDeclarations) (r : Result (Vec ℕ Global) NoMemory) →
     declared_of text ≡ Ok d → IfOk r (λ n. n.items ≡ clock_said path scope clock d) → IfOk r (λ n. n.items ≡ clock_said path scope clock (declarations text))
 clock_by_declared path text scope clock d r e says =
-    subst (λ (x : Declared). IfOk r (λ n. n.items ≡ clock_said path scope clock x)) (sym (declared_is text d e)) says
+    subst (λ (x : HeaderDeclarations). IfOk r (λ n. n.items ≡ clock_said path scope clock x)) (sym (declared_is text d e)) says
 
-pub input_by_declared : (subject : Subject) (path text key name one other : List ℕ) (scope : Option (List ℕ)) (clock : List ℕ) (d : Declared) (r : Result (Vec ℕ Global) NoMemory) →
+pub input_by_declared : (subject : Subject) (path text key name one other : List ℕ) (scope : Option (List ℕ)) (clock : List ℕ) (d : HeaderDeclarations) (r : Result (Vec ℕ Global) NoMemory) →
     declared_of text ≡ Ok d → key ≡ one → name ≡ other → IfOk r (λ n. n.items ≡ input_said subject path key name scope clock d) →
     IfOk r (λ n. n.items ≡ input_said subject path one other scope clock (declarations text))
 input_by_declared subject path text key name one other scope clock d r e same alike says =
-    subst (λ (x : Declared). IfOk r (λ n. n.items ≡ input_said subject path one other scope clock x)) (sym (declared_is text d e))
+    subst (λ (x : HeaderDeclarations). IfOk r (λ n. n.items ≡ input_said subject path one other scope clock x)) (sym (declared_is text d e))
     (subst (λ (k : List ℕ). IfOk r (λ n. n.items ≡ input_said subject path k other scope clock d)) same
     (subst (λ (m : List ℕ). IfOk r (λ n. n.items ≡ input_said subject path key m scope clock d)) alike says))
 
@@ -173,13 +173,13 @@ Texts = List (Bor (List ℕ))
 abbrev shown : Texts → List (List ℕ)
 shown texts = map (λ t. t.now) texts
 
-pub clock_of_parts : (path clock : List ℕ) (scope given : Option (List ℕ)) (d : Declared) (scopes names paths all : Texts) (note : List ℕ) → given ≡ scope →
+pub clock_of_parts : (path clock : List ℕ) (scope given : Option (List ℕ)) (d : HeaderDeclarations) (scopes names paths all : Texts) (note : List ℕ) → given ≡ scope →
     map (λ t. t.now) scopes ≡ scopes_of d → map (λ t. t.now) names ≡ names_of given d → paths ≡ scopes → all ≡ names →
     note ≡ clock_text path scope clock (map (λ t. t.now) paths) (map (λ t. t.now) all) → note ≡ clock_said path scope clock d
 clock_of_parts path clock scope given d scopes names paths all note same are these some every e =
     e ∙ (λ i. clock_text path scope clock ((ap shown some ∙ are) i) ((ap shown every ∙ (these ∙ ap (λ (o : Option (List ℕ)). names_of o d) same)) i))
 
-pub input_of_parts : (subject : Subject) (path key name clock bytes : List ℕ) (scope given found : Option (List ℕ)) (parts : KeyParts) (d : Declared) (names all : Texts)
+pub input_of_parts : (subject : Subject) (path key name clock bytes : List ℕ) (scope given found : Option (List ℕ)) (parts : KeyParts) (d : HeaderDeclarations) (names all : Texts)
     (note : List ℕ) → bytes ≡ clock → parts ≡ key_parts bytes → given ≡ scope → found ≡ scope_of given parts d → map (λ t. t.now) names ≡ names_of found d →
     all ≡ names → note ≡ input_text subject path key name (map (λ t. t.now) all) → note ≡ input_said subject path key name scope clock d
 input_of_parts subject path key name clock bytes scope given found parts d names all note read is same at these every e =

@@ -4,7 +4,7 @@ use Rattle.bs_bits.specs.Lines.{lines_of}
 use Rattle.bs_stim.specs.declared.limits.TheConstants.{MAX_CYCLES, MAX_RUNS}
 use Rattle.bs_stim.specs.Runs.{Recorded}
 use Rattle.bs_stim.specs.StimulusText.{stimulus_of}
-use Rattle.bs_inspect_values.specs.Run.{runs_text, simulated}
+use Rattle.bs_inspect_values.specs.SimulatedRun.{runs_text, simulated}
 
 -- the lines of a file: few enough, and each has the width
 pub record IsFile (width : ℕ) (path : List ℕ) (lines : List (List Bool)) : Type 0 where

@@ -1,5 +1,5 @@
 pub mod Names
-pub mod Run
+pub mod SimulatedRun
 pub mod Law
 pub mod Simulated
 pub mod Dumped

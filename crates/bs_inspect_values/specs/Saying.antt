@@ -6,7 +6,7 @@ use Rattle.bs_stim.specs.declared.limits.TheConstants.{MAX_CYCLES}
 use Rattle.bs_net_names.specs.Keys.{key_parts}
 use Rattle.bs_vcd_header.specs.declared.fault.VcdFault.{VcdFault}
 use Rattle.bs_vcd_header.specs.declared.fault.VcdFault.TheVariants as vcd
-use Rattle.bs_vcd_header.specs.Header.{Declared, nothing_declared}
+use Rattle.bs_vcd_header.specs.Header.{HeaderDeclarations, nothing_declared}
 use Rattle.bs_vcd_header.specs.Scopes.{declared_of, names_of, scopes_of}
 use Rattle.bs_vcd_header.specs.Sources.{scope_of}
 use Rattle.bs_vcd.specs.declared.cycles.When.{When}
@@ -51,20 +51,20 @@ names_noted subject path keys text = noted_by (map_note_reason subject path text
 
 -- ---- the values of a simulator
 
-abbrev pub declared_or : Result Declared VcdFault → Declared
+abbrev pub declared_or : Result HeaderDeclarations VcdFault → HeaderDeclarations
 declared_or (Ok d) = d
 declared_or (Err fault) = nothing_declared
 
 -- what a text declares
-abbrev pub declarations : List ℕ → Declared
+abbrev pub declarations : List ℕ → HeaderDeclarations
 declarations text = declared_or (declared_of text)
 
 -- a clock that is none
-abbrev pub clock_said : (path : List ℕ) → Option (List ℕ) → List ℕ → Declared → List ℕ
+abbrev pub clock_said : (path : List ℕ) → Option (List ℕ) → List ℕ → HeaderDeclarations → List ℕ
 clock_said path scope clock d = S.clock_text path scope clock (scopes_of d) (names_of scope d)
 
 -- an input, or a flip-flop, that no variable is
-abbrev pub input_said : Subject → (path key name : List ℕ) → Option (List ℕ) → List ℕ → Declared → List ℕ
+abbrev pub input_said : Subject → (path key name : List ℕ) → Option (List ℕ) → List ℕ → HeaderDeclarations → List ℕ
 input_said subject path key name scope clock d = S.input_text subject path key name (names_of (scope_of scope (key_parts clock) d) d)
 
 abbrev pub fault_reason : Subject → (path text : List ℕ) → (keys names : List (List ℕ)) → Option (List ℕ) → List ℕ → VcdFault → Reason NoteCase

@@ -3,7 +3,7 @@ ghost use Rattle.std.specs.Prelude.{◌≡◌, ◌≤◌, ◌<◌, length, map, 
 ghost use Rattle.bs_net.specs.Netlist.{circuit};
 ghost use Rattle.bs_scan.specs.Choice.{depth_of};
 ghost use Rattle.bs_top_plan.specs.declared.limits.TheConstants.{MAX_MAP_BYTES};
-ghost use Rattle.bs_top_plan.specs.Telling.{WalksTold};
+ghost use Rattle.bs_top_plan.specs.Telling.{WalksDiagnosed};
 ghost use Rattle.bs_top_files.specs.NoteCases.{NoteSays};
 ghost use Rattle.bs_top_files.specs.Refusals.{CheckSays};
 ghost use Rattle.bs_inspect_report.specs.Keys.{flop_keys};
@@ -11,16 +11,16 @@ ghost use Rattle.bs_inspect_values.specs.Dumped.{back_of, chosen_step, chosen_st
 ghost use Rattle.bs_inspect_values.specs.Simulated.{clock_key};
 
 use crate::keys::flop_bytes;
-use crate::mapping::names_or_told;
+use crate::mapping::names_or_diagnostic;
 use crate::ready::{Dumped, Signed, Unsigned};
-use crate::values::{Sampling, states_or_told};
+use crate::values::{Sampling, states_or_diagnostic};
 use bs_bits::{Bits, List};
 use bs_inspect_notes::Subject;
 use bs_net::{NetId, Netlist};
 use bs_outside::Shelf;
 use bs_scan::Choice;
 use bs_top_files::{load_netlist, load_signature};
-use bs_top_plan::{File, JobFault, Stop, fetch_file, settle_told};
+use bs_top_plan::{File, JobFault, WalkStop, fetch_file, settle_diagnostic};
 use bs_vcd::When;
 use std::alloc::Global;
 
@@ -59,8 +59,8 @@ fn load_states<'a, S: Shelf>(
     keys: &[&'a [u8]],
     names: &[&'a [u8]],
     taking: Taking<'_>,
-) -> Result<List<Bits>, Stop>
-    ensures walks { WalksTold CheckSays NoteSays S.held S.faults S.leads shelf.old shelf.new
+) -> Result<List<Bits>, WalkStop>
+    ensures walks { WalksDiagnosed CheckSays NoteSays S.held S.faults S.leads shelf.old shelf.new
         (states_of (map (λ k. k.now) keys.now) (map (λ n. n.now) names.now) (taking_in taking.entry))
         (states_looked (map (λ k. k.now) keys.now) (map (λ n. n.now) names.now) (taking_in taking.entry))
         (λ states. states) (λ states. states) result }
@@ -73,9 +73,9 @@ fn load_states<'a, S: Shelf>(
         scope: taking.scope,
     };
     let bytes = fetch_file(alloc, shelf, File::Vcd, taking.vcd)?;
-    settle_told(
+    settle_diagnostic(
         File::Vcd,
-        states_or_told(alloc, &bytes, keys, names, sampling, taking.at, taking.back),
+        states_or_diagnostic(alloc, &bytes, keys, names, sampling, taking.at, taking.back),
     )
 }
 
@@ -87,8 +87,8 @@ fn load_keyed<S: Shelf>(
     shelf: &mut S,
     net: &Netlist,
     taking: Taking<'_>,
-) -> Result<List<Bits>, Stop>
-    ensures walks { WalksTold CheckSays NoteSays S.held S.faults S.leads shelf.old shelf.new
+) -> Result<List<Bits>, WalkStop>
+    ensures walks { WalksDiagnosed CheckSays NoteSays S.held S.faults S.leads shelf.old shelf.new
         (taken_of (flop_keys net.now.raw) None (taking_in taking.entry)) (taken_looked (flop_keys net.now.raw) None (taking_in taking.entry))
         (λ states. states) (λ states. states) result }
     ensures some { IfOk result (λ states. 0 < length states) }
@@ -99,7 +99,7 @@ fn load_keyed<S: Shelf>(
             let keys = keys.as_slice();
             load_states(alloc, shelf, keys, keys, taking)
         }
-        Err(_) => Err(Stop::Plain(JobFault::NoMemory)),
+        Err(_) => Err(WalkStop::Plain(JobFault::NoMemory)),
     }
 }
 
@@ -111,21 +111,21 @@ fn load_by_names<'a, S: Shelf>(
     text: &'a [u8],
     keys: &[&'a [u8]],
     taking: Taking<'_>,
-) -> Result<List<Bits>, Stop>
+) -> Result<List<Bits>, WalkStop>
     requires { length text.now ≤ MAX_MAP_BYTES }
-    ensures walks { WalksTold CheckSays NoteSays S.held S.faults S.leads shelf.old shelf.new
+    ensures walks { WalksDiagnosed CheckSays NoteSays S.held S.faults S.leads shelf.old shelf.new
         (states_step (map (λ k. k.now) keys.now) text.now (taking_in taking.entry))
         (states_step_looked path.now (map (λ k. k.now) keys.now) text.now (taking_in taking.entry))
         (λ states. states) (λ states. states) result }
     ensures some { IfOk result (λ states. 0 < length states) }
     ensures wide { IfOk result (λ states. All (λ s. length s ≡ length keys.now) states) }
 {
-    match names_or_told(alloc, Subject::Flops, path, text, keys) {
+    match names_or_diagnostic(alloc, Subject::Flops, path, text, keys) {
         Ok(names) => {
             let names = names.as_slice();
             load_states(alloc, shelf, keys, names, taking)
         }
-        Err(unread) => settle_told(File::Map, Err(unread)),
+        Err(unread) => settle_diagnostic(File::Map, Err(unread)),
     }
 }
 
@@ -137,9 +137,9 @@ fn load_renamed<S: Shelf>(
     path: &str,
     text: &[u8],
     taking: Taking<'_>,
-) -> Result<List<Bits>, Stop>
+) -> Result<List<Bits>, WalkStop>
     requires { length text.now ≤ MAX_MAP_BYTES }
-    ensures walks { WalksTold CheckSays NoteSays S.held S.faults S.leads shelf.old shelf.new
+    ensures walks { WalksDiagnosed CheckSays NoteSays S.held S.faults S.leads shelf.old shelf.new
         (states_step (flop_keys net.now.raw) text.now (taking_in taking.entry))
         (states_step_looked path.now (flop_keys net.now.raw) text.now (taking_in taking.entry))
         (λ states. states) (λ states. states) result }
@@ -151,7 +151,7 @@ fn load_renamed<S: Shelf>(
             let keys = keys.as_slice();
             load_by_names(alloc, shelf, path, text, keys, taking)
         }
-        Err(_) => Err(Stop::Plain(JobFault::NoMemory)),
+        Err(_) => Err(WalkStop::Plain(JobFault::NoMemory)),
     }
 }
 
@@ -162,8 +162,8 @@ fn load_named<S: Shelf>(
     net: &Netlist,
     file: &str,
     taking: Taking<'_>,
-) -> Result<List<Bits>, Stop>
-    ensures walks { WalksTold CheckSays NoteSays S.held S.faults S.leads shelf.old shelf.new
+) -> Result<List<Bits>, WalkStop>
+    ensures walks { WalksDiagnosed CheckSays NoteSays S.held S.faults S.leads shelf.old shelf.new
         (taken_of (flop_keys net.now.raw) (Some file.now) (taking_in taking.entry)) (taken_looked (flop_keys net.now.raw) (Some file.now) (taking_in taking.entry))
         (λ states. states) (λ states. states) result }
     ensures some { IfOk result (λ states. 0 < length states) }
@@ -180,8 +180,8 @@ fn load_taken<S: Shelf>(
     net: &Netlist,
     names: Option<&str>,
     taking: Taking<'_>,
-) -> Result<List<Bits>, Stop>
-    ensures walks { WalksTold CheckSays NoteSays S.held S.faults S.leads shelf.old shelf.new
+) -> Result<List<Bits>, WalkStop>
+    ensures walks { WalksDiagnosed CheckSays NoteSays S.held S.faults S.leads shelf.old shelf.new
         (taken_of (flop_keys net.now.raw) (option_map (λ s. s.now) names.entry) (taking_in taking.entry))
         (taken_looked (flop_keys net.now.raw) (option_map (λ s. s.now) names.entry) (taking_in taking.entry))
         (λ states. states) (λ states. states) result }
@@ -239,8 +239,8 @@ fn load_plain<S: Shelf>(
     shelf: &mut S,
     files: DumpFiles<'_>,
     net: &Netlist,
-) -> Result<Dumped, Stop>
-    ensures { WalksTold CheckSays NoteSays S.held S.faults S.leads shelf.old shelf.new
+) -> Result<Dumped, WalkStop>
+    ensures { WalksDiagnosed CheckSays NoteSays S.held S.faults S.leads shelf.old shelf.new
         (dump_step (files_in files.entry) net.now.raw None) (dump_step_looked (files_in files.entry) net.now.raw None) dumped_in dumped_in result }
 {
     let taking = taking_of(files, net, 0);
@@ -258,9 +258,9 @@ fn load_signed<S: Shelf>(
     files: DumpFiles<'_>,
     net: &Netlist,
     choice: Choice,
-) -> Result<Dumped, Stop>
+) -> Result<Dumped, WalkStop>
     requires { choice.width ≡ length (circuit net.now).flops }
-    ensures { WalksTold CheckSays NoteSays S.held S.faults S.leads shelf.old shelf.new
+    ensures { WalksDiagnosed CheckSays NoteSays S.held S.faults S.leads shelf.old shelf.new
         (dump_step (files_in files.entry) net.now.raw (Some choice)) (dump_step_looked (files_in files.entry) net.now.raw (Some choice)) dumped_in dumped_in result }
 {
     let taking = taking_of(files, net, choice.depth() as u64);
@@ -280,8 +280,8 @@ fn load_chosen<S: Shelf>(
     files: DumpFiles<'_>,
     net: &Netlist,
     signature: Option<&str>,
-) -> Result<Dumped, Stop>
-    ensures { WalksTold CheckSays NoteSays S.held S.faults S.leads shelf.old shelf.new
+) -> Result<Dumped, WalkStop>
+    ensures { WalksDiagnosed CheckSays NoteSays S.held S.faults S.leads shelf.old shelf.new
         (chosen_step (files_in files.entry) net.now.raw (option_map (λ s. s.now) signature.entry)) (chosen_step_looked (files_in files.entry) net.now.raw (option_map (λ s. s.now) signature.entry)) dumped_in dumped_in result }
 {
     match signature {
@@ -297,8 +297,8 @@ fn load_by_signature<S: Shelf>(
     files: DumpFiles<'_>,
     net: &Netlist,
     file: &str,
-) -> Result<Dumped, Stop>
-    ensures { WalksTold CheckSays NoteSays S.held S.faults S.leads shelf.old shelf.new
+) -> Result<Dumped, WalkStop>
+    ensures { WalksDiagnosed CheckSays NoteSays S.held S.faults S.leads shelf.old shelf.new
         (chosen_step (files_in files.entry) net.now.raw (Some file.now)) (chosen_step_looked (files_in files.entry) net.now.raw (Some file.now)) dumped_in dumped_in result }
 {
     match load_signature(alloc, shelf, file, net) {
@@ -313,8 +313,8 @@ fn load_with<S: Shelf>(
     shelf: &mut S,
     files: DumpFiles<'_>,
     net: Netlist,
-) -> Result<Dumped, Stop>
-    ensures { WalksTold CheckSays NoteSays S.held S.faults S.leads shelf.old shelf.new
+) -> Result<Dumped, WalkStop>
+    ensures { WalksDiagnosed CheckSays NoteSays S.held S.faults S.leads shelf.old shelf.new
         (chosen_step (files_in files.entry) net.raw (files_in files.entry).signature) (chosen_step_looked (files_in files.entry) net.raw (files_in files.entry).signature) dumped_in dumped_in result }
 {
     let dumped = load_chosen(alloc, shelf, files, &net, files.signature);
@@ -327,8 +327,8 @@ pub fn load_dumped<S: Shelf>(
     alloc: Global,
     shelf: &mut S,
     files: DumpFiles<'_>,
-) -> Result<Dumped, Stop>
-    ensures { WalksTold CheckSays NoteSays S.held S.faults S.leads shelf.old shelf.new
+) -> Result<Dumped, WalkStop>
+    ensures { WalksDiagnosed CheckSays NoteSays S.held S.faults S.leads shelf.old shelf.new
         (dumped_of (files_in files.entry)) (dumped_looked (files_in files.entry)) dumped_in dumped_in result }
 {
     match load_netlist(alloc, shelf, files.netlist) {

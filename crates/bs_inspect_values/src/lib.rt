@@ -2,8 +2,8 @@
 //!
 //! Modules: `refusals` (the words of a fault), `entry`, `names` and `fault` (the names that inputs and flip-flops have in a
 //! simulation), `run` (the runs, their names and their text) and `law`, `keys`, `lines` (a note on a line), `mapping` and `values` (a
-//! reader each, `*_or_told`), `ready` (`Simulated`, `Dumped`), `simulated` and `dumping` (the walks). The netlist and the signature are
-//! fetched and read by bs_top_files. Used above: `WalksTold CheckSays NoteSays ..` over the two plans of `specs/Simulated` and
+//! reader each, `*_or_diagnostic`), `ready` (`Simulated`, `Dumped`), `simulated` and `dumping` (the walks). The netlist and the signature are
+//! fetched and read by bs_top_files. Used above: `WalksDiagnosed CheckSays NoteSays ..` over the two plans of `specs/Simulated` and
 //! `specs/Dumped`; `map_in` (`specs/Names`), the names in the order of the keys or the first refused line; `runs_text`, the one
 //! spelling of runs, which is read back.
 #![tactic(auto)]
@@ -29,5 +29,5 @@ pub use law::runs_read_back;
 pub use names::read_names;
 pub use ready::{Dumped, Sampled, Signed, Simulated, Unsigned};
 pub use refusals::{numbered, refusal};
-pub use run::{Run, runs_text};
+pub use run::{SimulatedRun, runs_text};
 pub use simulated::{Clocked, load_simulated};

@@ -5,7 +5,7 @@ ghost use Rattle.bs_note_places.specs.Spots.{IsLineStart};
 ghost use Rattle.bs_top_files.specs.NoteCases.{IsNoteAtLine};
 
 use bs_bits::NoMemory;
-use bs_note_files::{Message, Placed, placed_note};
+use bs_note_files::{FilePlace, Message, placed_note};
 use bs_note_places::line_start;
 use std::alloc::Global;
 
@@ -28,7 +28,7 @@ pub fn line_note(
     ensures { IfOk result (λ note. IsNoteAtLine path.now text.now number (said message.entry) note.items) }
 {
     let start = start_of(text, number);
-    let place = Placed {
+    let place = FilePlace {
         path,
         text,
         at: start,

@@ -1,10 +1,10 @@
-//! The names that inputs or flip-flops have in a simulation, or what is told of their text.
+//! The names that inputs or flip-flops have in a simulation, or the diagnostic of their text.
 ghost use Rattle.std.specs.Prelude.{◌≡◌, ◌==◌, map, IfOk};
 ghost use Rattle.std.specs.List.{list_any};
 ghost use Rattle.bs_note_files.specs.Notes.{said};
 ghost use Rattle.bs_top_plan.specs.declared.walk.Refusal.TheVariants.{NoMemory as Want};
 ghost use Rattle.bs_top_plan.specs.Plan.{Says};
-ghost use Rattle.bs_top_plan.specs.Told.{note_refusal, noted, word_refusal, worded};
+ghost use Rattle.bs_top_plan.specs.Diagnostic.{note_refusal, noted, word_refusal, worded};
 ghost use Rattle.bs_top_plan.specs.Walks.{Reads};
 ghost use Rattle.bs_top_files.specs.NoteCases.{HasNote, IsNoteAtLine, NoteSays};
 ghost use Rattle.bs_top_files.specs.Refusals.{CheckSays, HasWords};
@@ -108,9 +108,9 @@ fn map_note(
     }
 }
 
-/// What is told of a text that gives no names.
+/// The diagnostic of a text that gives no names.
 #[tactic(auto, using(bs_top_files::proofs::NotingLemmas::both_words, bs_top_files::proofs::NotingLemmas::both_note, bs_top_files::proofs::NotingLemmas::both_want))]
-fn map_told(
+fn map_diagnostic(
     alloc: Global,
     subject: Subject,
     path: &str,
@@ -128,8 +128,8 @@ fn map_told(
     both(words, note)
 }
 
-/// The names that inputs or flip-flops with these keys have in a simulation, or what is told of their text.
-pub fn names_or_told<'a>(
+/// The names that inputs or flip-flops with these keys have in a simulation, or the diagnostic of their text.
+pub fn names_or_diagnostic<'a>(
     alloc: Global,
     subject: Subject,
     path: &str,
@@ -141,6 +141,6 @@ pub fn names_or_told<'a>(
 {
     match read_names(alloc, text, keys) {
         Ok(names) => Ok(names),
-        Err(fault) => Err(map_told(alloc, subject, path, text, keys, fault)),
+        Err(fault) => Err(map_diagnostic(alloc, subject, path, text, keys, fault)),
     }
 }

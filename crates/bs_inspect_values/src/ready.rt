@@ -1,7 +1,7 @@
 //! What the files of a request made ready.
 ghost use Rattle.std.specs.Prelude.{◌≡◌, ◌<◌, length, All};
 
-use crate::run::Run;
+use crate::run::SimulatedRun;
 use bs_bits::{Bits, List};
 use bs_net::Netlist;
 use bs_scan::Choice;
@@ -10,7 +10,7 @@ use bs_scan::Choice;
 #[derive(Drop)]
 pub struct Sampled {
     pub data_clock: bool,
-    pub runs: Vec<Run>,
+    pub runs: Vec<SimulatedRun>,
 }
 
 /// A netlist, and simulated runs.

@@ -4,7 +4,7 @@ ghost use Rattle.bs_bits.specs.Lines.{line};
 ghost use Rattle.bs_bits.specs.Text.{bits_text};
 ghost use Rattle.bs_stim.specs.StimulusText.{head_text, inputs_text, run_text};
 ghost use Rattle.bs_stim.specs.declared.limits.TheConstants.{MAX_NAME};
-ghost use Rattle.bs_inspect_values.specs.Run.{leaf_of, name_byte, or_vcd, run_in, run_name, runs_text, simulated, stem_of};
+ghost use Rattle.bs_inspect_values.specs.SimulatedRun.{leaf_of, name_byte, or_vcd, run_in, run_name, runs_text, simulated, stem_of};
 
 use bs_bits::{Bits, List, NoMemory, end_line, push_line, push_number, push_piece};
 use bs_net_names::last_split;
@@ -13,7 +13,7 @@ use std::alloc::Global;
 
 /// A run: the bytes of its name, and the input of each cycle.
 #[derive(Drop)]
-pub struct Run {
+pub struct SimulatedRun {
     pub name: Vec<u8>,
     pub lines: List<Bits>,
 }
@@ -93,17 +93,21 @@ fn run_name(alloc: Global, path: &[u8]) -> Result<Vec<u8>, NoMemory>
 }
 
 /// The run of a file with these inputs.
-pub(crate) fn simulated(alloc: Global, path: &str, lines: List<Bits>) -> Result<Run, NoMemory>
+pub(crate) fn simulated(
+    alloc: Global,
+    path: &str,
+    lines: List<Bits>,
+) -> Result<SimulatedRun, NoMemory>
     ensures { IfOk result (λ run. run_in run ≡ simulated path.now lines) }
 {
     let name = run_name(alloc, path.as_bytes())?;
-    Ok(Run { name, lines })
+    Ok(SimulatedRun { name, lines })
 }
 
 // ---- the text
 
 /// Appends the first line of a run.
-fn push_head(text: &mut Vec<u8>, run: &Run) -> Result<(), NoMemory>
+fn push_head(text: &mut Vec<u8>, run: &SimulatedRun) -> Result<(), NoMemory>
     ensures { OnOk result (text.new.items ≡ text.old.items ++ line (head_text (run_in run.now))) }
 {
     push_piece(text, b"run ")?;
@@ -132,7 +136,7 @@ fn push_inputs(text: &mut Vec<u8>, lines: &[Bits]) -> Result<(), NoMemory>
 }
 
 /// Appends a run.
-fn push_run(text: &mut Vec<u8>, run: &Run) -> Result<(), NoMemory>
+fn push_run(text: &mut Vec<u8>, run: &SimulatedRun) -> Result<(), NoMemory>
     ensures { OnOk result (text.new.items ≡ text.old.items ++ run_text (run_in run.now)) }
 {
     push_head(text, run)?;
@@ -143,7 +147,7 @@ fn push_run(text: &mut Vec<u8>, run: &Run) -> Result<(), NoMemory>
 
 /// The text of runs (docs/FORMATS.md, "Stimulus").
 #[tactic(auto, using(crate::proofs::RunLemmas::runs_more))]
-pub fn runs_text(alloc: Global, runs: &[Run]) -> Result<Vec<u8>, NoMemory>
+pub fn runs_text(alloc: Global, runs: &[SimulatedRun]) -> Result<Vec<u8>, NoMemory>
     ensures { IfOk result (λ text. text.items ≡ runs_text (map run_in runs.now)) }
 {
     let mut text = Vec::new(alloc);

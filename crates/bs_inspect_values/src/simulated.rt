@@ -4,27 +4,27 @@ ghost use Rattle.std.specs.List.{list_any};
 ghost use Rattle.bs_net_names.specs.Keys.{key_parts, parts_in};
 ghost use Rattle.bs_net_names.specs.Rtl.{same_name};
 ghost use Rattle.bs_top_plan.specs.declared.limits.TheConstants.{MAX_MAP_BYTES};
-ghost use Rattle.bs_top_plan.specs.declared.told.Stop.TheVariants.{Plain};
+ghost use Rattle.bs_top_plan.specs.declared.diagnostic.WalkStop.TheVariants.{Plain};
 ghost use Rattle.bs_top_plan.specs.declared.walk.JobFault.TheVariants.{NoMemory as NoRoom};
-ghost use Rattle.bs_top_plan.specs.Telling.{WalksTold};
+ghost use Rattle.bs_top_plan.specs.Telling.{WalksDiagnosed};
 ghost use Rattle.bs_top_files.specs.NoteCases.{NoteSays};
 ghost use Rattle.bs_top_files.specs.Refusals.{CheckSays};
 ghost use Rattle.bs_inspect_report.specs.Keys.{input_keys};
-ghost use Rattle.bs_inspect_values.specs.Run.{is_data, run_in, simulated};
+ghost use Rattle.bs_inspect_values.specs.SimulatedRun.{is_data, run_in, simulated};
 ghost use Rattle.bs_inspect_values.specs.Simulated.{clocked_in, lines_looked, lines_of, run_behind, run_behind_looked, run_looked, run_of, run_step, run_step_looked, runs_behind, runs_behind_looked, sampled_in, sampled_looked, sampled_of, sampled_step, sampled_step_looked, simulated_in, simulated_looked, simulated_of};
 
 use crate::keys::input_bytes;
-use crate::mapping::names_or_told;
+use crate::mapping::names_or_diagnostic;
 use crate::ready::{Sampled, Simulated};
-use crate::run::{Run, simulated};
-use crate::values::{Sampling, lines_or_told};
+use crate::run::{SimulatedRun, simulated};
+use crate::values::{Sampling, lines_or_diagnostic};
 use bs_bits::{Bits, List, NoMemory};
 use bs_inspect_notes::Subject;
 use bs_net::Netlist;
 use bs_net_names::{KeyParts, key_parts, same_name};
 use bs_outside::Shelf;
 use bs_top_files::load_netlist;
-use bs_top_plan::{File, JobFault, Stop, fetch_file, settle_told};
+use bs_top_plan::{File, JobFault, WalkStop, fetch_file, settle_diagnostic};
 use std::alloc::Global;
 
 /// The name of the clock in a simulation, and the path of a scope, where one is asked for.
@@ -47,8 +47,8 @@ fn load_lines<S: Shelf>(
     names: &[&[u8]],
     at: Clocked<'_>,
     vcd: &str,
-) -> Result<List<Bits>, Stop>
-    ensures { WalksTold CheckSays NoteSays S.held S.faults S.leads shelf.old shelf.new
+) -> Result<List<Bits>, WalkStop>
+    ensures { WalksDiagnosed CheckSays NoteSays S.held S.faults S.leads shelf.old shelf.new
         (lines_of (map (λ k. k.now) keys.now) (map (λ n. n.now) names.now) (clocked_in at.entry) vcd.now)
         (lines_looked (map (λ k. k.now) keys.now) (map (λ n. n.now) names.now) (clocked_in at.entry) vcd.now)
         (λ lines. lines) (λ lines. lines) result }
@@ -59,16 +59,16 @@ fn load_lines<S: Shelf>(
         scope: at.scope,
     };
     let bytes = fetch_file(alloc, shelf, File::Vcd, vcd)?;
-    settle_told(
+    settle_diagnostic(
         File::Vcd,
-        lines_or_told(alloc, &bytes, keys, names, sampling),
+        lines_or_diagnostic(alloc, &bytes, keys, names, sampling),
     )
 }
 
 /// Puts the run of a file at the end.
 fn put_run(
     alloc: Global,
-    runs: &mut Vec<Run>,
+    runs: &mut Vec<SimulatedRun>,
     path: &str,
     lines: List<Bits>,
 ) -> Result<(), NoMemory>
@@ -82,16 +82,16 @@ fn put_run(
 /// The same, where memory runs out in the walk.
 fn put_or_stop(
     alloc: Global,
-    runs: &mut Vec<Run>,
+    runs: &mut Vec<SimulatedRun>,
     path: &str,
     lines: List<Bits>,
-) -> Result<(), Stop>
+) -> Result<(), WalkStop>
     ensures done { OnOk result (map run_in runs.new.items ≡ map run_in runs.old.items ++ simulated path.now lines ∷ []) }
     ensures want { IfErr result (λ stop. stop ≡ Plain NoRoom) }
 {
     match put_run(alloc, runs, path, lines) {
         Ok(()) => Ok(()),
-        Err(_) => Err(Stop::Plain(JobFault::NoMemory)),
+        Err(_) => Err(WalkStop::Plain(JobFault::NoMemory)),
     }
 }
 
@@ -102,10 +102,10 @@ fn load_one<S: Shelf>(
     keys: &[&[u8]],
     names: &[&[u8]],
     at: Clocked<'_>,
-    runs: &mut Vec<Run>,
+    runs: &mut Vec<SimulatedRun>,
     vcd: &str,
-) -> Result<(), Stop>
-    ensures { WalksTold CheckSays NoteSays S.held S.faults S.leads shelf.old shelf.new
+) -> Result<(), WalkStop>
+    ensures { WalksDiagnosed CheckSays NoteSays S.held S.faults S.leads shelf.old shelf.new
         (run_behind (map (λ k. k.now) keys.now) (map (λ n. n.now) names.now) (clocked_in at.entry) (map run_in runs.old.items) vcd.now)
         (run_behind_looked (map (λ k. k.now) keys.now) (map (λ n. n.now) names.now) (clocked_in at.entry) (map run_in runs.old.items) vcd.now)
         (λ _. map run_in runs.new.items) (λ _. map run_in runs.new.items) result }
@@ -123,10 +123,10 @@ fn load_behind<S: Shelf>(
     keys: &[&[u8]],
     names: &[&[u8]],
     at: Clocked<'_>,
-    runs: &mut Vec<Run>,
+    runs: &mut Vec<SimulatedRun>,
     vcds: &[&str],
-) -> Result<(), Stop>
-    ensures { WalksTold CheckSays NoteSays S.held S.faults S.leads shelf.old shelf.new
+) -> Result<(), WalkStop>
+    ensures { WalksDiagnosed CheckSays NoteSays S.held S.faults S.leads shelf.old shelf.new
         (runs_behind (map (λ k. k.now) keys.now) (map (λ n. n.now) names.now) (clocked_in at.entry) (map run_in runs.old.items) (map (λ s. s.now) vcds.now))
         (runs_behind_looked (map (λ k. k.now) keys.now) (map (λ n. n.now) names.now) (clocked_in at.entry) (map run_in runs.old.items) (map (λ s. s.now) vcds.now))
         (λ _. map run_in runs.new.items) (λ _. map run_in runs.new.items) result }
@@ -164,8 +164,8 @@ fn load_sampled<'a, S: Shelf>(
     names: &[&'a [u8]],
     at: Clocked<'_>,
     vcds: &[&str],
-) -> Result<Sampled, Stop>
-    ensures { WalksTold CheckSays NoteSays S.held S.faults S.leads shelf.old shelf.new
+) -> Result<Sampled, WalkStop>
+    ensures { WalksDiagnosed CheckSays NoteSays S.held S.faults S.leads shelf.old shelf.new
         (sampled_of (map (λ k. k.now) keys.now) (map (λ n. n.now) names.now) (clocked_in at.entry) (map (λ s. s.now) vcds.now))
         (sampled_looked (map (λ k. k.now) keys.now) (map (λ n. n.now) names.now) (clocked_in at.entry) (map (λ s. s.now) vcds.now))
         sampled_in sampled_in result }
@@ -190,8 +190,8 @@ fn load_keyed<S: Shelf>(
     net: &Netlist,
     at: Clocked<'_>,
     vcds: &[&str],
-) -> Result<Sampled, Stop>
-    ensures { WalksTold CheckSays NoteSays S.held S.faults S.leads shelf.old shelf.new
+) -> Result<Sampled, WalkStop>
+    ensures { WalksDiagnosed CheckSays NoteSays S.held S.faults S.leads shelf.old shelf.new
         (run_of (input_keys net.now.raw) None (clocked_in at.entry) (map (λ s. s.now) vcds.now))
         (run_looked (input_keys net.now.raw) None (clocked_in at.entry) (map (λ s. s.now) vcds.now))
         sampled_in sampled_in result }
@@ -201,7 +201,7 @@ fn load_keyed<S: Shelf>(
             let keys = keys.as_slice();
             load_sampled(alloc, shelf, keys, keys, at, vcds)
         }
-        Err(_) => Err(Stop::Plain(JobFault::NoMemory)),
+        Err(_) => Err(WalkStop::Plain(JobFault::NoMemory)),
     }
 }
 
@@ -214,19 +214,19 @@ fn load_by_names<'a, S: Shelf>(
     keys: &[&'a [u8]],
     at: Clocked<'_>,
     vcds: &[&str],
-) -> Result<Sampled, Stop>
+) -> Result<Sampled, WalkStop>
     requires { length text.now ≤ MAX_MAP_BYTES }
-    ensures { WalksTold CheckSays NoteSays S.held S.faults S.leads shelf.old shelf.new
+    ensures { WalksDiagnosed CheckSays NoteSays S.held S.faults S.leads shelf.old shelf.new
         (sampled_step (map (λ k. k.now) keys.now) text.now (clocked_in at.entry) (map (λ s. s.now) vcds.now))
         (sampled_step_looked path.now (map (λ k. k.now) keys.now) text.now (clocked_in at.entry) (map (λ s. s.now) vcds.now))
         sampled_in sampled_in result }
 {
-    match names_or_told(alloc, Subject::Inputs, path, text, keys) {
+    match names_or_diagnostic(alloc, Subject::Inputs, path, text, keys) {
         Ok(names) => {
             let names = names.as_slice();
             load_sampled(alloc, shelf, keys, names, at, vcds)
         }
-        Err(unread) => settle_told(File::Map, Err(unread)),
+        Err(unread) => settle_diagnostic(File::Map, Err(unread)),
     }
 }
 
@@ -239,9 +239,9 @@ fn load_renamed<S: Shelf>(
     text: &[u8],
     at: Clocked<'_>,
     vcds: &[&str],
-) -> Result<Sampled, Stop>
+) -> Result<Sampled, WalkStop>
     requires { length text.now ≤ MAX_MAP_BYTES }
-    ensures { WalksTold CheckSays NoteSays S.held S.faults S.leads shelf.old shelf.new
+    ensures { WalksDiagnosed CheckSays NoteSays S.held S.faults S.leads shelf.old shelf.new
         (sampled_step (input_keys net.now.raw) text.now (clocked_in at.entry) (map (λ s. s.now) vcds.now))
         (sampled_step_looked path.now (input_keys net.now.raw) text.now (clocked_in at.entry) (map (λ s. s.now) vcds.now))
         sampled_in sampled_in result }
@@ -251,7 +251,7 @@ fn load_renamed<S: Shelf>(
             let keys = keys.as_slice();
             load_by_names(alloc, shelf, path, text, keys, at, vcds)
         }
-        Err(_) => Err(Stop::Plain(JobFault::NoMemory)),
+        Err(_) => Err(WalkStop::Plain(JobFault::NoMemory)),
     }
 }
 
@@ -263,8 +263,8 @@ fn load_named<S: Shelf>(
     file: &str,
     at: Clocked<'_>,
     vcds: &[&str],
-) -> Result<Sampled, Stop>
-    ensures { WalksTold CheckSays NoteSays S.held S.faults S.leads shelf.old shelf.new
+) -> Result<Sampled, WalkStop>
+    ensures { WalksDiagnosed CheckSays NoteSays S.held S.faults S.leads shelf.old shelf.new
         (run_of (input_keys net.now.raw) (Some file.now) (clocked_in at.entry) (map (λ s. s.now) vcds.now))
         (run_looked (input_keys net.now.raw) (Some file.now) (clocked_in at.entry) (map (λ s. s.now) vcds.now))
         sampled_in sampled_in result }
@@ -281,8 +281,8 @@ fn load_run<S: Shelf>(
     names: Option<&str>,
     at: Clocked<'_>,
     vcds: &[&str],
-) -> Result<Sampled, Stop>
-    ensures { WalksTold CheckSays NoteSays S.held S.faults S.leads shelf.old shelf.new
+) -> Result<Sampled, WalkStop>
+    ensures { WalksDiagnosed CheckSays NoteSays S.held S.faults S.leads shelf.old shelf.new
         (run_of (input_keys net.now.raw) (option_map (λ s. s.now) names.entry) (clocked_in at.entry) (map (λ s. s.now) vcds.now))
         (run_looked (input_keys net.now.raw) (option_map (λ s. s.now) names.entry) (clocked_in at.entry) (map (λ s. s.now) vcds.now))
         sampled_in sampled_in result }
@@ -303,8 +303,8 @@ fn load_runs<S: Shelf>(
     names: Option<&str>,
     at: Clocked<'_>,
     vcds: &[&str],
-) -> Result<Simulated, Stop>
-    ensures { WalksTold CheckSays NoteSays S.held S.faults S.leads shelf.old shelf.new
+) -> Result<Simulated, WalkStop>
+    ensures { WalksDiagnosed CheckSays NoteSays S.held S.faults S.leads shelf.old shelf.new
         (run_step net.raw (option_map (λ s. s.now) names.entry) (clocked_in at.entry) (map (λ s. s.now) vcds.now))
         (run_step_looked net.raw (option_map (λ s. s.now) names.entry) (clocked_in at.entry) (map (λ s. s.now) vcds.now))
         simulated_in simulated_in result }
@@ -327,8 +327,8 @@ pub fn load_simulated<S: Shelf>(
     names: Option<&str>,
     at: Clocked<'_>,
     vcds: &[&str],
-) -> Result<Simulated, Stop>
-    ensures { WalksTold CheckSays NoteSays S.held S.faults S.leads shelf.old shelf.new
+) -> Result<Simulated, WalkStop>
+    ensures { WalksDiagnosed CheckSays NoteSays S.held S.faults S.leads shelf.old shelf.new
         (simulated_of netlist.now (option_map (λ s. s.now) names.entry) (clocked_in at.entry) (map (λ s. s.now) vcds.now))
         (simulated_looked netlist.now (option_map (λ s. s.now) names.entry) (clocked_in at.entry) (map (λ s. s.now) vcds.now))
         simulated_in simulated_in result }

@@ -1,4 +1,4 @@
-//! The values of a simulator, or what is told of their text.
+//! The values of a simulator, or the diagnostic of their text.
 ghost use Rattle.std.specs.Prelude.{◌≡◌, ◌<◌, ◌≤◌, length, map, option_map, All, IfOk, Ok as TheOk};
 ghost use Rattle.bs_bits.specs.Reading.{Answers};
 ghost use Rattle.bs_vcd_header.specs.declared.fault.VcdFault.TheVariants.{NoMemory as VcdWant};
@@ -10,7 +10,7 @@ ghost use Rattle.bs_note_files.specs.Notes.{said};
 ghost use Rattle.bs_top_plan.specs.declared.limits.TheConstants.{MAX_VCD_BYTES};
 ghost use Rattle.bs_top_plan.specs.declared.walk.Refusal.TheVariants.{NoMemory as Want};
 ghost use Rattle.bs_top_plan.specs.Plan.{exactly, Says};
-ghost use Rattle.bs_top_plan.specs.Told.{note_refusal, noted, word_refusal, worded};
+ghost use Rattle.bs_top_plan.specs.Diagnostic.{note_refusal, noted, word_refusal, worded};
 ghost use Rattle.bs_top_plan.specs.Walks.{Reads};
 ghost use Rattle.bs_top_files.specs.NoteCases.{HasNote, IsNoteAtLine, NoteSays};
 ghost use Rattle.bs_top_files.specs.Refusals.{CheckSays, HasWords};
@@ -23,13 +23,15 @@ use crate::keys::maybe_bytes;
 use crate::lines::line_note;
 use crate::refusals::{cycles_refusal, key_at, vcd_refusal};
 use bs_bits::{Bits, List, NoMemory};
-use bs_inspect_notes::{Subject, clock_note, cycles_note, ended_note, foreign, input_note, short_note, unknown_note};
+use bs_inspect_notes::{
+    Subject, clock_note, cycles_note, ended_note, foreign, input_note, short_note, unknown_note,
+};
 use bs_net_names::key_parts;
 use bs_note_files::{Message, file_note};
 use bs_stim::MAX_CYCLES;
 use bs_top_plan::{Unread, both};
 use bs_vcd::{When, states, stimulus};
-use bs_vcd_header::{Declared, VcdFault, declared, names_of, scope_of, scopes_of};
+use bs_vcd_header::{HeaderDeclarations, VcdFault, declared, names_of, scope_of, scopes_of};
 use std::alloc::Global;
 
 /// The file of a simulator's values, the name of the clock in it, and the path of a scope, where one is asked for.
@@ -65,7 +67,7 @@ fn word_note(alloc: Global, path: &str, text: &[u8], number: u64) -> Result<Vec<
 fn clock_on(
     alloc: Global,
     sampling: Sampling<'_>,
-    declared: &Declared<'_>,
+    declared: &HeaderDeclarations<'_>,
 ) -> Result<Vec<u8>, NoMemory>
     ensures { IfOk result (λ note. note.items ≡ clock_said sampling.entry.vcd.now (option_map (λ s. s.now) sampling.entry.scope) sampling.entry.clock.now (declared_in declared.now)) }
 {
@@ -107,7 +109,7 @@ fn input_on(
     key: &[u8],
     name: &[u8],
     sampling: Sampling<'_>,
-    declared: &Declared<'_>,
+    declared: &HeaderDeclarations<'_>,
 ) -> Result<Vec<u8>, NoMemory>
     ensures { IfOk result (λ note. note.items ≡ input_said subject sampling.entry.vcd.now key.now name.now (option_map (λ s. s.now) sampling.entry.scope) sampling.entry.clock.now (declared_in declared.now)) }
 {
@@ -207,9 +209,9 @@ fn vcd_note(
 
 // ---- the readers
 
-/// What is told of values that are refused.
+/// The diagnostic of values that are refused.
 #[tactic(auto, using(bs_top_files::proofs::NotingLemmas::both_words, bs_top_files::proofs::NotingLemmas::both_note, bs_top_files::proofs::NotingLemmas::both_want))]
-fn vcd_told(
+fn vcd_diagnostic(
     alloc: Global,
     subject: Subject,
     text: &[u8],
@@ -229,9 +231,9 @@ fn vcd_told(
     both(words, note)
 }
 
-/// What is told of values that have too many edges.
+/// The diagnostic of values that have too many edges.
 #[tactic(auto, using(bs_top_files::proofs::NotingLemmas::both_words, bs_top_files::proofs::NotingLemmas::both_these))]
-fn cycles_told(alloc: Global, path: &str) -> Unread
+fn cycles_diagnostic(alloc: Global, path: &str) -> Unread
     ensures words { HasWords cycles_words (word_refusal result) }
     ensures note { HasNote (exactly (cycles_text path.now)) (note_refusal result) }
 {
@@ -240,14 +242,14 @@ fn cycles_told(alloc: Global, path: &str) -> Unread
     both(words, note)
 }
 
-/// Lines, where there are no more than a run may have, or what is told of them.
+/// Lines, where there are no more than a run may have, or the diagnostic of them.
 #[tactic(auto, using(crate::proofs::ValueLemmas::few_worded, crate::proofs::ValueLemmas::few_said))]
-fn few_or_told(alloc: Global, path: &str, lines: List<Bits>) -> Result<List<Bits>, Unread>
+fn few_or_diagnostic(alloc: Global, path: &str, lines: List<Bits>) -> Result<List<Bits>, Unread>
     ensures words { Reads CheckSays (λ lines. lines) (few_lines (TheOk lines)) (worded result) }
     ensures note { Reads NoteSays (λ lines. lines) (few_noted path.now (TheOk lines)) (noted result) }
 {
     if lines.len() > MAX_CYCLES as usize {
-        return Err(cycles_told(alloc, path));
+        return Err(cycles_diagnostic(alloc, path));
     }
     Ok(lines)
 }
@@ -267,9 +269,9 @@ fn sampled(
     stimulus(alloc, text, scope, clock, names)
 }
 
-/// The inputs just before each rising edge of a clock, by the names of the inputs, which have these keys in the netlist; or what is
-/// told of their text.
-pub fn lines_or_told(
+/// The inputs just before each rising edge of a clock, by the names of the inputs, which have these keys in the netlist; or the
+/// diagnostic of their text.
+pub fn lines_or_diagnostic(
     alloc: Global,
     text: &[u8],
     keys: &[&[u8]],
@@ -281,8 +283,16 @@ pub fn lines_or_told(
     ensures note { Reads NoteSays (λ lines. lines) (lines_noted sampling.entry.vcd.now (map (λ k. k.now) keys.now) (map (λ n. n.now) names.now) (option_map (λ s. s.now) sampling.entry.scope) sampling.entry.clock.now text.now) (noted result) }
 {
     match sampled(alloc, text, names, sampling) {
-        Ok(lines) => few_or_told(alloc, sampling.vcd, lines),
-        Err(fault) => Err(vcd_told(alloc, Subject::Inputs, text, keys, names, sampling, fault)),
+        Ok(lines) => few_or_diagnostic(alloc, sampling.vcd, lines),
+        Err(fault) => Err(vcd_diagnostic(
+            alloc,
+            Subject::Inputs,
+            text,
+            keys,
+            names,
+            sampling,
+            fault,
+        )),
     }
 }
 
@@ -305,9 +315,9 @@ fn taken(
     states(alloc, text, scope, clock, names, at, back)
 }
 
-/// The states of a cycle and of so many before it, by the names of the flip-flops, which have these keys in the netlist; or what is
-/// told of their text.
-pub fn states_or_told(
+/// The states of a cycle and of so many before it, by the names of the flip-flops, which have these keys in the netlist; or the
+/// diagnostic of their text.
+pub fn states_or_diagnostic(
     alloc: Global,
     text: &[u8],
     keys: &[&[u8]],
@@ -324,6 +334,14 @@ pub fn states_or_told(
 {
     match taken(alloc, text, names, sampling, at, back) {
         Ok(states) => Ok(states),
-        Err(fault) => Err(vcd_told(alloc, Subject::Flops, text, keys, names, sampling, fault)),
+        Err(fault) => Err(vcd_diagnostic(
+            alloc,
+            Subject::Flops,
+            text,
+            keys,
+            names,
+            sampling,
+            fault,
+        )),
     }
 }

@@ -7,16 +7,16 @@ use Rattle.bs_net_names.specs.Naming.{plain}
 use Rattle.bs_net_names.specs.Signals.{AreSignals, Signal}
 use Rattle.bs_net_names.specs.Splits.{Halves, first_split}
 use Rattle.bs_inspect_view.specs.Scopes.{leaf_of}
-use Rattle.bs_inspect_view.specs.declared.asked.Asked.{Asked as CodeAsked}
+use Rattle.bs_inspect_view.specs.declared.request.ViewRequest.{ViewRequest as CodeViewRequest}
 
 -- the time of the first moment, whether all nets are drawn, the names of those that are drawn alone, and lines of the head
-pub record Asked : Type 0 where
+pub record ViewRequest : Type 0 where
   pub from : ℕ
   pub all : Bool
   pub only : List (List ℕ)
   pub remarks : List ℕ
 
-abbrev pub asked_in : CodeAsked → Asked
+abbrev pub asked_in : CodeViewRequest → ViewRequest
 asked_in a = record { from = a.from; all = a.all; only = map (λ s. s.now) a.only.now; remarks = a.remarks.now }
 
 -- ---- names that nobody gave
@@ -45,11 +45,11 @@ is_nameless name = is_constant name || (is_internal (plain name) || (is_internal
 
 -- ---- signals
 
-abbrev pub is_drawn : Asked → List ℕ → Bool
+abbrev pub is_drawn : ViewRequest → List ℕ → Bool
 is_drawn asked name = asked.all || (nat_lt 0 (length asked.only) || not (is_nameless name))
 
 -- the signals of a netlist's nets that are drawn
-pub record AreDrawn (raw : Parts) (asked : Asked) (drawn : List Signal) : Type 0 where
+pub record AreDrawn (raw : Parts) (asked : ViewRequest) (drawn : List Signal) : Type 0 where
   pub signals : List Signal
   pub are : AreSignals asked.only raw.names signals
   pub kept : drawn ≡ filter (λ s. is_drawn asked s.base) signals

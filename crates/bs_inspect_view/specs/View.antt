@@ -6,7 +6,7 @@ use Rattle.std.specs.List.{flat_map, list_any, range_with_len}
 use Rattle.bs_bits.specs.Lines.{line}
 use Rattle.bs_net.specs.Parts.{Parts}
 use Rattle.bs_net_names.specs.Signals.{Signal, range_text}
-use Rattle.bs_inspect_view.specs.Drawn.{AreDrawn, Asked}
+use Rattle.bs_inspect_view.specs.Drawn.{AreDrawn, ViewRequest}
 use Rattle.bs_inspect_view.specs.Scopes.{leaf_of, moves, path_of, scopes, word_of}
 use Rattle.bs_wave.specs.declared.value.Value.{Value}
 use Rattle.bs_wave.specs.declared.wave.Wave.{Wave}
@@ -100,18 +100,18 @@ abbrev pub moment_at : List Signal → ℕ → List (List Value) → ℕ → Lis
 moment_at signals from moments t = moment_text signals (from + t) (moment_before moments t) (slice_get moments t)
 
 -- the head, and at each moment the signals whose values are others than at the moment before
-abbrev pub view_told : Asked → List Signal → List (List Value) → List ℕ
-view_told asked signals moments =
+abbrev pub view_lines : ViewRequest → List Signal → List (List Value) → List ℕ
+view_lines asked signals moments =
     declarations asked.remarks signals ++ flat_map (moment_at signals asked.from moments) (range_with_len 0 (length moments))
 
 -- the text of a wave, whose variables are the signals that are drawn: each once, and the bits of a vector as one
-pub record Views (raw : Parts) (asked : Asked) (wave : Wave) (text : List ℕ) : Type 0 where
+pub record Views (raw : Parts) (asked : ViewRequest) (wave : Wave) (text : List ℕ) : Type 0 where
   pub signals : List Signal
   pub are : AreDrawn raw asked signals
-  pub told : text ≡ view_told asked signals wave.moments
+  pub says : text ≡ view_lines asked signals wave.moments
 
 -- the text of the wave of a trace, with what is asked
-pub record IsDrawing (raw : Parts) (asked : Asked) (states inputs : List (List Bool)) (text : List ℕ) : Type 0 where
+pub record IsDrawing (raw : Parts) (asked : ViewRequest) (states inputs : List (List Bool)) (text : List ℕ) : Type 0 where
   pub wave : Wave
   pub of : IsWaveOf raw states inputs wave
   pub views : Views raw asked wave text

@@ -5,8 +5,8 @@ ghost use Rattle.bs_net_names.specs.Signals.{signal_in};
 ghost use Rattle.bs_net_names.specs.Splits.{first_split};
 ghost use Rattle.bs_inspect_view.specs.Drawn.{AreDrawn, asked_in, is_constant, is_counted, is_drawn, is_internal, is_nameless, is_numbered};
 
-use crate::asked::Asked;
 use crate::nets::net_signals;
+use crate::request::ViewRequest;
 use crate::scopes::leaf_of;
 use bs_bits::NoMemory;
 use bs_net::Netlist;
@@ -66,14 +66,14 @@ pub fn is_nameless(name: &[u8]) -> bool
 }
 
 /// Whether a signal with this name is drawn.
-fn is_drawn(asked: &Asked<'_>, name: &[u8]) -> bool
+fn is_drawn(asked: &ViewRequest<'_>, name: &[u8]) -> bool
     ensures { result ≡ is_drawn (asked_in asked.now) name.now }
 {
     asked.all || (!asked.only.is_empty() || !is_nameless(name))
 }
 
 /// Leaves the signals that are drawn.
-fn keep_drawn(asked: &Asked<'_>, signals: &mut Vec<Signal<'_>>)
+fn keep_drawn(asked: &ViewRequest<'_>, signals: &mut Vec<Signal<'_>>)
     ensures { map signal_in signals.new.items ≡ filter (λ s. is_drawn (asked_in asked.now) s.base) (map signal_in signals.old.items) }
 {
     signals.retain(|signal| is_drawn(asked, signal.base));
@@ -83,7 +83,7 @@ fn keep_drawn(asked: &Asked<'_>, signals: &mut Vec<Signal<'_>>)
 pub(crate) fn drawn_signals<'a>(
     alloc: Global,
     net: &'a Netlist,
-    asked: &Asked<'_>,
+    asked: &ViewRequest<'_>,
 ) -> Result<Vec<Signal<'a>>, NoMemory>
     ensures { IfOk result (λ signals. AreDrawn net.now.raw (asked_in asked.now) (map signal_in signals.items)) }
 {

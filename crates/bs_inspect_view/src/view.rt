@@ -3,13 +3,13 @@ ghost use Rattle.std.specs.Prelude.{◌≡◌, ◌++◌, map, OnOk, IfOk};
 ghost use Rattle.bs_net_names.specs.Signals.{signal_in};
 ghost use Rattle.bs_net.specs.Netlist.{circuit};
 ghost use Rattle.bs_inspect_view.specs.Drawn.{asked_in};
-ghost use Rattle.bs_inspect_view.specs.View.{IsDrawing, Views, view_told};
+ghost use Rattle.bs_inspect_view.specs.View.{IsDrawing, Views, view_lines};
 ghost use Rattle.bs_wave.specs.Wave.{IsWayOf};
 
-use crate::asked::Asked;
 use crate::drawn::drawn_signals;
 use crate::head::push_head;
 use crate::moment::push_moments;
+use crate::request::ViewRequest;
 use bs_bits::{Bits, List, NoMemory};
 use bs_net::Netlist;
 use bs_net_names::Signal;
@@ -19,11 +19,11 @@ use std::alloc::Global;
 /// The text of signals over moments, with what is asked.
 fn text_of(
     alloc: Global,
-    asked: &Asked<'_>,
+    asked: &ViewRequest<'_>,
     signals: &[Signal<'_>],
     moments: &List<List<Value>>,
 ) -> Result<Vec<u8>, NoMemory>
-    ensures { IfOk result (λ text. text.items ≡ view_told (asked_in asked.now) (map signal_in signals.now) moments.now) }
+    ensures { IfOk result (λ text. text.items ≡ view_lines (asked_in asked.now) (map signal_in signals.now) moments.now) }
 {
     let mut text = Vec::new(alloc);
     push_head(&mut text, asked.remarks, signals)?;
@@ -35,7 +35,7 @@ fn text_of(
 fn text_over(
     alloc: Global,
     net: &Netlist,
-    asked: &Asked<'_>,
+    asked: &ViewRequest<'_>,
     wave: &Wave,
 ) -> Result<Vec<u8>, NoMemory>
     ensures { IfOk result (λ text. Views net.now.raw (asked_in asked.now) wave.now text.items) }
@@ -54,7 +54,7 @@ pub fn drawing(
     net: &Netlist,
     states: &List<Bits>,
     inputs: &List<Bits>,
-    asked: &Asked<'_>,
+    asked: &ViewRequest<'_>,
 ) -> Result<Vec<u8>, NoMemory>
     requires { IsWayOf (circuit net.now) states.now inputs.now }
     ensures { IfOk result (λ text. IsDrawing net.now.raw (asked_in asked.now) states.now inputs.now text.items) }

@@ -24,7 +24,9 @@ fn failed_assumption_place(assumptions: &[Lit], l: Lit) -> Option<usize>
     ensures { result ≡ position (λ m. same_literal (negation l) m) assumptions.now }
 {
     let failed_assumption = l.negate();
-    assumptions.iter().position(|m| is_same(failed_assumption, *m))
+    assumptions
+        .iter()
+        .position(|m| is_same(failed_assumption, *m))
 }
 
 /// The id of the clause of an assumption that denies a literal.

@@ -1,6 +1,6 @@
 //! What a list asks where it is about to be cut: the search among the recorded moments.
 
-use crate::known::{SearchAnswer, KnownCand, known_for};
+use crate::known::{KnownCand, SearchAnswer, known_for};
 use bs_bits::{Bits, NoMemory};
 use bs_chip::Chip;
 use bs_preimage::Source;

@@ -14,7 +14,7 @@ ghost use Rattle.bs_loop.specs.Recorded.{StandsIn};
 ghost use Rattle.bs_loop.specs.Searched.{IsTurnSearched};
 ghost use Rattle.bs_loop.specs.Turn.{line_of, step_of, HasListedFrom, HasLookedFrom, HasStepped, HasStopped};
 
-use crate::known::{SearchAnswer, Reach, Sight, reach_of, sight_of};
+use crate::known::{Reach, SearchAnswer, Sight, reach_of, sight_of};
 use crate::lookout::Lookout;
 use crate::stop::cause_after;
 use bs_bits::{Bits, List, NoMemory};

@@ -3,8 +3,8 @@ use Rattle.std.specs.Prelude.{ℕ, List, ◌++◌, length, codes, decimal}
 use Rattle.bs_note_places.specs.Quotes.{shown_line}
 use Rattle.bs_note_files.specs.Notes.{pair_text}
 use Rattle.bs_note_files.specs.Sayings.{width_text}
-use Rattle.bs_note_calls.specs.declared.told.Miss.{Miss}
-use Rattle.bs_note_calls.specs.declared.told.Miss.TheVariants as M
+use Rattle.bs_note_calls.specs.declared.miss.Miss.{Miss}
+use Rattle.bs_note_calls.specs.declared.miss.Miss.TheVariants as M
 
 -- a search that has no execution
 abbrev pub miss_text : Miss → List ℕ

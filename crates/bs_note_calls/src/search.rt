@@ -2,7 +2,7 @@
 ghost use Rattle.std.specs.Prelude.{◌≡◌, IfOk};
 ghost use Rattle.bs_note_calls.specs.Searches.{miss_text, room_sentence, room_text, state_sentence, state_text};
 
-use crate::told::Miss;
+use crate::miss::Miss;
 use bs_bits::{NoMemory, push_number, push_piece};
 use bs_note_files::{pair_note, width_sentence};
 use bs_note_places::push_quoted;

@@ -16,7 +16,7 @@ pub struct Message<'a> {
 
 /// A place of a file, by the file's name, its text, and a byte offset that is at most the text's length.
 #[derive(Clone, Copy, Debug)]
-pub struct Placed<'a> {
+pub struct FilePlace<'a> {
     pub path: &'a str,
     pub text: &'a [u8],
     pub at: usize,
@@ -83,7 +83,7 @@ fn note_at(
 /// A note on a place: `note: PATH:LINE:COLUMN: ` and the sentence, the line itself, and a caret under the place with the label.
 pub fn placed_note(
     alloc: Global,
-    place: &Placed<'_>,
+    place: &FilePlace<'_>,
     message: &Message<'_>,
 ) -> Result<Vec<u8>, NoMemory>
     requires { place.now.at ≤ length place.now.text.now }
@@ -115,7 +115,7 @@ pub fn note_on(
     ensures { IfOk result (λ note. IsNoteOn path.now text.now at (said message.entry) note.items) }
 {
     let at = at.min(text.len());
-    let note = placed_note(alloc, &Placed { path, text, at }, &message)?;
+    let note = placed_note(alloc, &FilePlace { path, text, at }, &message)?;
     Ok(note)
 }
 

@@ -24,7 +24,7 @@ mod width;
 pub use check::check_note;
 pub use design::design_note;
 pub use dump::{Widths, dump_note};
-pub use form::{Message, Placed, file_note, pair_note, placed_note, plain_note};
+pub use form::{FilePlace, Message, file_note, pair_note, placed_note, plain_note};
 pub use kind::{mistaken, mistaken_note};
 pub use report::report_note;
 pub use signature::signature_note;

@@ -62,7 +62,13 @@ fn assumed(
     requires state { length encoding.now.states ≡ length asked.now.state.now }
     ensures { IfOk result (λ all. all ≡ probing_for encoding.now activation (asking asked.now.present.now asked.now.stored.now (option_map (λ bits. bits.now) asked.now.older)) asked.now.state.now) }
 {
-    let mut all = encoding.assumptions(alloc, activation, asked.present, asked.stored, asked.older)?;
+    let mut all = encoding.assumptions(
+        alloc,
+        activation,
+        asked.present,
+        asked.stored,
+        asked.older,
+    )?;
     push_signed(&mut all, encoding.states(), asked.state)?;
     Ok(all)
 }

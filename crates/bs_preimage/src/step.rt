@@ -72,7 +72,13 @@ fn seek<S: Source>(
     ensures source { KeepsSource S.stays source.old source.new }
 {
     let activation = solver.begin_step()?;
-    let assumptions = encoding.assumptions(alloc, activation, asked.present, asked.stored, asked.older)?;
+    let assumptions = encoding.assumptions(
+        alloc,
+        activation,
+        asked.present,
+        asked.stored,
+        asked.older,
+    )?;
     let end = find(
         alloc,
         encoding,

@@ -66,7 +66,10 @@ fn start_of(
 {
     let failed_assumptions = first_failed_assumptions(alloc, encoding, reset, implied, state, k)?;
     let solver = solver_over(alloc, encoding, reset, k)?;
-    Ok(Start { solver, failed_assumptions })
+    Ok(Start {
+        solver,
+        failed_assumptions,
+    })
 }
 
 /// The answer where the state is the one at reset.

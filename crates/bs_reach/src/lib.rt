@@ -12,9 +12,9 @@
 #![tactic(auto)]
 
 mod answer;
-mod frames;
 mod count;
 mod failed_assumptions;
+mod frames;
 mod length;
 mod reach;
 mod refuted;
@@ -27,6 +27,6 @@ mod telling;
 mod text;
 mod wider;
 
-pub use frames::bounded;
 pub use count::size;
+pub use frames::bounded;
 pub use reach::{Outcome, Reach};

@@ -66,7 +66,11 @@ pub(crate) fn next_id(last: u64) -> Result<u64, NoMemory>
 }
 
 /// Logs a length that a lemma refutes, and answers the last id that is given then.
-fn log_length(log: &mut Log, last: u64, failed_assumption: FailedAssumption) -> Result<u64, NoMemory>
+fn log_length(
+    log: &mut Log,
+    last: u64,
+    failed_assumption: FailedAssumption,
+) -> Result<u64, NoMemory>
     ensures id { IfOk result (λ id. id ≡ last + 2) }
     ensures lines { IfOk result (λ _. log.new ≡ log.old ++ step_lines (last + 1) failed_assumption) }
 {
@@ -132,7 +136,17 @@ fn add_length(
     match found {
         None => Ok(None),
         Some(failed_assumption) => {
-            let id = log_denied(log, last, failed_assumption, encoding, reset, state, c, k, b)?;
+            let id = log_denied(
+                log,
+                last,
+                failed_assumption,
+                encoding,
+                reset,
+                state,
+                c,
+                k,
+                b,
+            )?;
             Ok(Some(id))
         }
     }

@@ -187,7 +187,12 @@ pub(crate) fn without_states(alloc: Global, outcome: Outcome) -> Verdict
 }
 
 /// What the end of a search tells.
-pub(crate) fn tell(alloc: Global, encoding: &Encoding, end: &End, k: u32) -> Result<Verdict, NoMemory>
+pub(crate) fn tell(
+    alloc: Global,
+    encoding: &Encoding,
+    end: &End,
+    k: u32,
+) -> Result<Verdict, NoMemory>
     requires unrollable { IsUnrollable encoding.now k }
     requires fits { EndFits encoding.now k end.now }
     ensures { IfOk result (Tells encoding.now end.now) }

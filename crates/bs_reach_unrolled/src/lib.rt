@@ -14,5 +14,5 @@ mod links;
 mod unrolling;
 
 pub use law::{netlists_unroll, unrolled_clauses_are_executions};
-pub use limits::{MAX_FRAMES, MAX_FRAME_VARIABLES};
+pub use limits::{MAX_FRAME_VARIABLES, MAX_FRAMES};
 pub use unrolling::{assume_length, unroll};

@@ -9,7 +9,7 @@ use crate::checks::{accepts, goes};
 use bs_bits::{Bits, NoMemory};
 use bs_net::Netlist;
 use bs_reach::{Outcome, Reach, bounded, size};
-use bs_reach_unrolled::{MAX_FRAMES, MAX_FRAME_VARIABLES};
+use bs_reach_unrolled::{MAX_FRAME_VARIABLES, MAX_FRAMES};
 use bs_sim::Sim;
 use std::alloc::Global;
 

@@ -3,7 +3,7 @@ use crate::netlists::netlist;
 use crate::traces::{are_wide, bits_in};
 use bs_bits::{Bits, List, NoMemory};
 use bs_inspect_lists::signature_text;
-use bs_inspect_view::{Asked, drawing};
+use bs_inspect_view::{ViewRequest, drawing};
 use bs_net::Netlist;
 use bs_stim::{MAX_TEXT, Runs};
 use std::alloc::Global;
@@ -56,7 +56,7 @@ fn viewed(
     net: &Netlist,
     states: &List<Bits>,
     inputs: &List<Bits>,
-    asked: &Asked<'_>,
+    asked: &ViewRequest<'_>,
 ) -> Result<Vec<u8>, NoMemory> {
     if states.len() == 0 || states.len() - 1 != inputs.len() {
         return Ok(Vec::new(alloc));
@@ -76,7 +76,7 @@ fn viewed_from(
     net: &Netlist,
     states: &List<Bits>,
     inputs: &str,
-    asked: &Asked<'_>,
+    asked: &ViewRequest<'_>,
 ) -> Result<Vec<u8>, NoMemory> {
     let inputs = bits_in(alloc, inputs)?;
     viewed(alloc, net, states, &inputs, asked)
@@ -88,7 +88,7 @@ fn viewed_of(
     net: &Netlist,
     states: &str,
     inputs: &str,
-    asked: &Asked<'_>,
+    asked: &ViewRequest<'_>,
 ) -> Result<Vec<u8>, NoMemory> {
     let states = bits_in(alloc, states)?;
     viewed_from(alloc, net, &states, inputs, asked)
@@ -100,7 +100,7 @@ pub fn view(
     circuit: &str,
     states: &str,
     inputs: &str,
-    asked: &Asked<'_>,
+    asked: &ViewRequest<'_>,
 ) -> Result<Vec<u8>, NoMemory> {
     match netlist(alloc, circuit.as_bytes()) {
         Some(net) => viewed_of(alloc, &net, states, inputs, asked),

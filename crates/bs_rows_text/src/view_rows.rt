@@ -2,7 +2,7 @@
 
 use crate::proposals::view;
 use bs_bits::NoMemory;
-use bs_inspect_view::Asked;
+use bs_inspect_view::ViewRequest;
 use std::alloc::Global;
 use std::test::Fail;
 
@@ -26,21 +26,21 @@ const SYNTHESIZED: &str = "module s(ck,a); input ck,a; not g(_0_,a); dff f(ck,q,
 const ALL_TEXT: &str =
     "$timescale 1ns $end\n$scope module trace $end\n$var wire 1 ! _0_ $end\n$var wire 1 \" a $end\n$var wire 1 # ck $end\n$var wire 1 $ q $end\n$upscope $end\n$enddefinitions $end\n#0\n0!\n1\"\n0#\n0$\n#1\nx!\nx\"\n";
 
-const NONE: Asked<'static> = Asked {
+const NONE: ViewRequest<'static> = ViewRequest {
     from: 0,
     all: false,
     only: &[],
     remarks: b"",
 };
 
-const LATER: Asked<'static> = Asked {
+const LATER: ViewRequest<'static> = ViewRequest {
     from: 77,
     all: false,
     only: &["ck", "u1.q[1]"],
     remarks: b"$comment 1 state dump $end\n",
 };
 
-const ALL: Asked<'static> = Asked {
+const ALL: ViewRequest<'static> = ViewRequest {
     from: 0,
     all: true,
     only: &[],
@@ -48,7 +48,7 @@ const ALL: Asked<'static> = Asked {
 };
 
 /// Netlists, states and inputs, what is asked, and the waveform.
-static VIEWS: [(&str, &str, &str, Asked<'static>, &str); 4] = [
+static VIEWS: [(&str, &str, &str, ViewRequest<'static>, &str); 4] = [
     (BELOW, "00 10", "1", NONE, BELOW_TEXT),
     (NAMED, "0 0 1", "10 11", NONE, NAMED_TEXT),
     (BELOW, "00 10", "1", LATER, LATER_TEXT),
@@ -58,7 +58,7 @@ static VIEWS: [(&str, &str, &str, Asked<'static>, &str); 4] = [
 /// Whether this is the waveform.
 fn is_viewed(
     alloc: Global,
-    (circuit, states, inputs, asked, text): &(&str, &str, &str, Asked<'_>, &str),
+    (circuit, states, inputs, asked, text): &(&str, &str, &str, ViewRequest<'_>, &str),
 ) -> Result<bool, NoMemory> {
     let own = view(alloc, circuit, states, inputs, asked)?;
     Ok(own.as_slice() == text.as_bytes())

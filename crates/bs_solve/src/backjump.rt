@@ -7,8 +7,8 @@ ghost use Rattle.bs_watch.specs.Scene.{IsWatchable};
 ghost use Rattle.bs_watch.specs.Watch.{Serves};
 ghost use Rattle.bs_solve.specs.Backjump.{IsBackLevel, IsSomeLearntClause, JumpsBack};
 
-use crate::reading::{clause_len, literal_in};
 use crate::database::{Database, join, note};
+use crate::reading::{clause_len, literal_in};
 use bs_arena::{Arena, Ref};
 use bs_clause::{Lit, NoMemory};
 use bs_log::Origin;

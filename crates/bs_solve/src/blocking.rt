@@ -10,8 +10,8 @@ ghost use Rattle.bs_solve.specs.Pausing.{IsGrounded};
 ghost use Rattle.bs_solve.specs.Blocking.{IsBetween, IsRetreat, HasImplied, HasOpened, HasEmptied, HasGoneFor, HasHeld, IsSomeKept};
 ghost use Rattle.bs_solve.specs.declared.blocking.Retreat.TheVariants.{Implied as ImpliedRetreat, Open as OpenRetreat};
 
-use crate::reading::{clause_len, literal_in};
 use crate::database::{Database, join, note};
+use crate::reading::{clause_len, literal_in};
 use crate::value::is_true;
 use bs_arena::{Arena, Ref};
 use bs_clause::{Lit, NoMemory};

@@ -15,8 +15,8 @@ ghost use Rattle.bs_solve.specs.Searching.{IsSomeFirstConflict, IsFailedAssumpti
 ghost use Rattle.bs_watch.specs.Places.{IsImpliedBy, HasNoReason, literals_of};
 ghost use Rattle.bs_watch.specs.Watch.{Serves};
 
-use crate::first_level::{Start, begin_level};
 use crate::database::{Database, add_clause};
+use crate::first_level::{Start, begin_level};
 use crate::learning::{ids_of, learn};
 use crate::value::values;
 use bs_arena::{Arena, Ref};
@@ -94,7 +94,14 @@ pub fn refute(
     let hints = ids_of(alloc, arena, learnt.hints.as_slice())?;
     let id = proof.next_id()?;
     watch.cancel_to(0);
-    add_clause(watch, arena, database, id, learnt.lits.slice(), Origin::Learnt)?;
+    add_clause(
+        watch,
+        arena,
+        database,
+        id,
+        learnt.lits.slice(),
+        Origin::Learnt,
+    )?;
     let id = proof.log_lemma(learnt.lits, hints)?;
     Ok(id)
 }
@@ -305,7 +312,16 @@ pub fn search(
     ensures lemmas { SomeLemmas proof.old proof.new }
 {
     if watch.level() == 0 {
-        begin(alloc, proof, watch, arena, database, marks, assumptions, limit)
+        begin(
+            alloc,
+            proof,
+            watch,
+            arena,
+            database,
+            marks,
+            assumptions,
+            limit,
+        )
     } else {
         resume(alloc, proof, watch, arena, database, marks, limit)
     }

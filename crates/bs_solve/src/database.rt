@@ -43,7 +43,12 @@ pub fn join(watch: &mut Watch, arena: &Arena, shorts: &mut Vec<Ref>, r: Ref) -> 
 }
 
 // One more row.
-fn push_row(rows: &mut Vec<LoggedClause>, id: u64, clause: Ref, is_lemma: bool) -> Result<(), NoMemory>
+fn push_row(
+    rows: &mut Vec<LoggedClause>,
+    id: u64,
+    clause: Ref,
+    is_lemma: bool,
+) -> Result<(), NoMemory>
     ensures { OnOk result (rows.new.items ≡ rows.old.items ++ record { id = id; clause = clause; is_lemma = is_lemma } ∷ []) }
 {
     rows.push(LoggedClause {

@@ -21,7 +21,12 @@ pub struct CountedRows {
 
 /// Takes what is leaving out of the arena, the watch lists and the clause database, of which what stands on the trail for good is not
 /// looked at. It takes no memory.
-pub fn drop_leaving(watch: &mut Watch, arena: &mut Arena, database: &mut Database, leaving: &Leaving)
+pub fn drop_leaving(
+    watch: &mut Watch,
+    arena: &mut Arena,
+    database: &mut Database,
+    leaving: &Leaving,
+)
     requires staying { AreStaying arena.old.clauses database.old.shorts.items watch.old.trail.places leaving.now.ids }
     requires serves { Serves watch.old arena.old.clauses }
     requires held { AreHeld arena.old.clauses database.old.rows.items }
@@ -61,14 +66,26 @@ pub fn compact_where_due(
     arena.holds_clauses();
     let dead = arena.words() - arena.live();
     if dead > arena.live() {
-        compact_all(watch, arena, renaming, &mut database.rows, &mut database.shorts);
+        compact_all(
+            watch,
+            arena,
+            renaming,
+            &mut database.rows,
+            &mut database.shorts,
+        );
         arena.holds_clauses();
     }
 }
 
 /// What is known of the rows once each is of a lemma that names no activation literal. Those before a place are looked at only where it is
 /// not the one up to which they were known.
-pub fn known_after(arena: &Arena, rows: &[LoggedClause], activations: Activations, known: CountedRows, start: usize) -> CountedRows
+pub fn known_after(
+    arena: &Arena,
+    rows: &[LoggedClause],
+    activations: Activations,
+    known: CountedRows,
+    start: usize,
+) -> CountedRows
     requires held { AreHeld arena.now.clauses rows.now }
     requires low { start ≤ length rows.now }
     requires long { start ≡ known.rows → known.long ≡ count_by (is_long_row activations.own activations.steps arena.now.clauses) (take start rows.now) }

@@ -11,9 +11,9 @@ ghost use Rattle.bs_solve.specs.Learning.{IsAtRest};
 ghost use Rattle.bs_solve.specs.Dropping.{marked, AreKnownIn, AreStaying};
 ghost use Rattle.bs_solve.specs.Ending.{HasPrepared, IsSomeSettling, HasSettled};
 
+use crate::database::Database;
 use crate::dropping::{CountedRows, compact_where_due, drop_leaving, known_after};
 use crate::retiring::retire;
-use crate::database::Database;
 use bs_arena::{Arena, Renaming};
 use bs_clause::{Lit, NoMemory};
 use bs_solve_recording::Recording;
@@ -79,5 +79,11 @@ pub fn settle(
     drop_leaving(watch, arena, database, leaving);
     arena.holds_clauses();
     compact_where_due(watch, arena, renaming, database);
-    known_after(arena, database.rows.as_slice(), activations, known, leaving.start)
+    known_after(
+        arena,
+        database.rows.as_slice(),
+        activations,
+        known,
+        leaving.start,
+    )
 }

@@ -12,23 +12,23 @@
 #![tactic(auto)]
 
 mod activity;
+mod backjump;
 mod blocking;
-mod failure;
+mod cdcl;
+mod database;
 mod dropping;
 mod ending;
+mod failure;
 mod first_level;
-mod backjump;
+mod learning;
 mod pausing;
 mod reading;
 mod retiring;
 mod room;
 mod solver;
 mod starting;
-mod database;
-mod learning;
-mod cdcl;
 mod value;
 
-pub use failure::FailedAssumption;
 pub use dropping::CountedRows;
+pub use failure::FailedAssumption;
 pub use solver::Solver;

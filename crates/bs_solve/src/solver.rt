@@ -15,19 +15,21 @@ ghost use Rattle.bs_solve.specs.Failure.{FailsBy, HasDenied};
 ghost use Rattle.bs_solve.specs.Starting.{HoldsStanding};
 
 use crate::blocking::add_between;
-use crate::failure::{FailedAssumption, end_by};
+use crate::cdcl::search;
+use crate::database::Database;
 use crate::dropping::CountedRows;
 use crate::ending::{prepare, settle};
+use crate::failure::{FailedAssumption, end_by};
 use crate::pausing::rest;
 use crate::starting::{filled, grow_to};
-use crate::database::Database;
-use crate::cdcl::search;
 use bs_arena::{Arena, Renaming};
 use bs_bits::List;
 use bs_clause::{Clauses, Lit, Lits, NoMemory, Var};
 use bs_log::Log;
 use bs_solve_analysis::Marks;
-use bs_solve_recording::{Answer, Recording, Stage, begin_solve, finish, guarded, is_begun, stage_after};
+use bs_solve_recording::{
+    Answer, Recording, Stage, begin_solve, finish, guarded, is_begun, stage_after,
+};
 use bs_solve_reduction::Activations;
 use bs_watch::Watch;
 use std::alloc::Global;

@@ -9,8 +9,8 @@ ghost use Rattle.bs_solve_analysis.specs.Marks.{IsClear};
 ghost use Rattle.bs_solve.specs.Database.{HoldsEntries};
 ghost use Rattle.bs_solve.specs.Starting.{KeepsRest};
 
-use crate::room::roomy_watch;
 use crate::database::{Database, add_clause};
+use crate::room::roomy_watch;
 use bs_arena::Arena;
 use bs_clause::{Lits, NoMemory};
 use bs_log::Origin;

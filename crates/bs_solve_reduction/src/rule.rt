@@ -80,7 +80,12 @@ fn is_free_long(arena: &Arena, row: &LoggedClause, activations: Activations) -> 
 }
 
 /// The number of long lemmas without an activation literal from a place on, beside those before it.
-pub fn count_long(arena: &Arena, rows: &[LoggedClause], activations: Activations, from: usize) -> usize
+pub fn count_long(
+    arena: &Arena,
+    rows: &[LoggedClause],
+    activations: Activations,
+    from: usize,
+) -> usize
     requires held { AreHeld arena.now.clauses rows.now }
     requires low { from ≤ length rows.now }
     ensures { result

@@ -26,7 +26,13 @@ pub struct Leaving {
 
 // Whether the row goes, where so many long free lemmas before it were seen, and this many have to
 // go.
-fn has_to_go(arena: &Arena, row: &LoggedClause, activations: Activations, many: usize, seen: &mut usize) -> bool
+fn has_to_go(
+    arena: &Arena,
+    row: &LoggedClause,
+    activations: Activations,
+    many: usize,
+    seen: &mut usize,
+) -> bool
     requires live { is_some (held_at arena.now.clauses row.now.clause) ≡ true }
     requires small { seen.old < 2 ^ 64 - 1 }
     ensures goes { result ≡ not (is_free_row activations.own activations.steps arena.now.clauses row.now

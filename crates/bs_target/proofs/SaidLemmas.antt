@@ -3,11 +3,11 @@ use Rattle.std.proofs.Common.{◌≡◌, ℕ, Bool, true, List, [], length, Opti
 use Rattle.std.specs.Prelude.{IfOk}
 use Rattle.std.specs.declared.alloc.Global.{Global}
 use Rattle.bs_bits.specs.declared.memory.NoMemory.{NoMemory}
-use Rattle.bs_top_plan.specs.declared.told.Unread.{Unread}
+use Rattle.bs_top_plan.specs.declared.diagnostic.Unread.{Unread}
 use Rattle.bs_top_plan.specs.declared.walk.Refusal.{Refusal}
 use Rattle.bs_top_plan.specs.declared.walk.Refusal.TheVariants as Q
 use Rattle.bs_top_plan.specs.Plan.{Reason, exactly}
-use Rattle.bs_top_plan.specs.Told.{both_of, made, note_refusal, refusal_in, word_refusal}
+use Rattle.bs_top_plan.specs.Diagnostic.{both_of, made, note_refusal, refusal_in, word_refusal}
 use Rattle.bs_top_plan.specs.Walks.{Reads}
 use Rattle.bs_top_plan.proofs.TellingLemmas.{word_both}
 use Rattle.bs_top_files.specs.NoteCases.{NoteCase, NoteSays}

@@ -8,7 +8,7 @@ ghost use Rattle.bs_reach_unrolled.specs.declared.limits.TheConstants.{MAX_FRAME
 ghost use Rattle.bs_top_files.specs.Refusals.{CheckSays};
 ghost use Rattle.bs_note_calls.specs.Searches.{room_text};
 ghost use Rattle.bs_top_files.specs.NoteCases.{NoteSays};
-ghost use Rattle.bs_top_plan.specs.Told.{noted, worded};
+ghost use Rattle.bs_top_plan.specs.Diagnostic.{noted, worded};
 ghost use Rattle.bs_target.specs.Target.{fitting, room_in, room_noted, state_in, state_noted};
 
 use bs_bits::{Bits, NoMemory};
@@ -66,9 +66,9 @@ fn check_room(alloc: Global, net: &Netlist, cycles: u64) -> Result<(), Refusal>
     }
 }
 
-/// The state of a word, or what is told of it.
+/// The state of a word, or the diagnostic of it.
 #[tactic(auto, using(crate::proofs::SaidLemmas::state_words, crate::proofs::SaidLemmas::state_fails, crate::proofs::SaidLemmas::state_fits))]
-pub fn state_or_told(alloc: Global, word: &str, net: &Netlist) -> Result<Bits, Unread>
+pub fn state_or_diagnostic(alloc: Global, word: &str, net: &Netlist) -> Result<Bits, Unread>
     ensures words { Reads CheckSays (λ state. state) (state_in net.now.raw word.now) (worded result) }
     ensures note { Reads NoteSays (λ state. state) (state_noted net.now.raw word.now) (noted result) }
     ensures width { IfOk result (λ state. length state ≡ length (circuit net.now).flops) }
@@ -86,9 +86,9 @@ fn large_search_note(alloc: Global, net: &Netlist) -> Result<Vec<u8>, NoMemory>
     room_note(alloc, size(alloc, net)?)
 }
 
-/// Whether a search of so many cycles is small enough, or what is told of it.
+/// Whether a search of so many cycles is small enough, or the diagnostic of it.
 #[tactic(auto, using(crate::proofs::SaidLemmas::room_words, crate::proofs::SaidLemmas::room_fails, crate::proofs::SaidLemmas::room_fits))]
-pub fn room_or_told(alloc: Global, net: &Netlist, cycles: u64) -> Result<(), Unread>
+pub fn room_or_diagnostic(alloc: Global, net: &Netlist, cycles: u64) -> Result<(), Unread>
     ensures words { Reads CheckSays (λ _. true) (room_in net.now.raw cycles) (worded result) }
     ensures note { Reads NoteSays (λ _. true) (room_noted net.now.raw cycles) (noted result) }
     ensures room { IfOk result (λ _. cycles * variables (circuit net.now) [] ≤ MAX_FRAME_VARIABLES) }

@@ -3,17 +3,17 @@ ghost use Rattle.std.specs.Prelude.{◌≡◌, length};
 ghost use Rattle.bs_net.specs.Netlist.{circuit};
 ghost use Rattle.bs_top_files.specs.Refusals.{CheckSays};
 ghost use Rattle.bs_top_files.specs.NoteCases.{NoteSays};
-ghost use Rattle.bs_top_plan.specs.Telling.{WalksTold};
+ghost use Rattle.bs_top_plan.specs.Telling.{WalksDiagnosed};
 ghost use Rattle.bs_target.specs.Target.{sized_looked, sized_step, stated_looked, stated_step, target_looked, target_of};
 ghost use Rattle.bs_target.specs.Shown.{target_in};
 
-use crate::readings::{room_or_told, state_or_told};
+use crate::readings::{room_or_diagnostic, state_or_diagnostic};
 use crate::target::Target;
 use bs_bits::Bits;
 use bs_net::Netlist;
 use bs_outside::Shelf;
 use bs_top_files::load_netlist;
-use bs_top_plan::{File, Stop, settle_told};
+use bs_top_plan::{File, WalkStop, settle_diagnostic};
 use std::alloc::Global;
 
 /// Drops a value, which a walk that stops lets go.
@@ -26,12 +26,12 @@ fn load_sized<S: Shelf>(
     net: Netlist,
     state: Bits,
     cycles: u64,
-) -> Result<Target, Stop>
+) -> Result<Target, WalkStop>
     requires { length state ≡ length (circuit net).flops }
-    ensures { WalksTold CheckSays NoteSays S.held S.faults S.leads _shelf.old _shelf.new
+    ensures { WalksDiagnosed CheckSays NoteSays S.held S.faults S.leads _shelf.old _shelf.new
         (sized_step net.raw state cycles) (sized_looked net.raw state cycles) target_in target_in result }
 {
-    match settle_told(File::Netlist, room_or_told(alloc, &net, cycles)) {
+    match settle_diagnostic(File::Netlist, room_or_diagnostic(alloc, &net, cycles)) {
         Ok(()) => Ok(Target { net, state, cycles }),
         Err(stop) => {
             let_go(net);
@@ -48,11 +48,11 @@ fn load_stated<S: Shelf>(
     net: Netlist,
     state: &str,
     cycles: u64,
-) -> Result<Target, Stop>
-    ensures { WalksTold CheckSays NoteSays S.held S.faults S.leads shelf.old shelf.new
+) -> Result<Target, WalkStop>
+    ensures { WalksDiagnosed CheckSays NoteSays S.held S.faults S.leads shelf.old shelf.new
         (stated_step net.raw state.now cycles) (stated_looked net.raw state.now cycles) target_in target_in result }
 {
-    match settle_told(File::State, state_or_told(alloc, state, &net)) {
+    match settle_diagnostic(File::State, state_or_diagnostic(alloc, state, &net)) {
         Ok(state) => load_sized(alloc, shelf, net, state, cycles),
         Err(stop) => {
             let_go(net);
@@ -68,8 +68,8 @@ pub fn load_target<S: Shelf>(
     netlist: &str,
     state: &str,
     cycles: u64,
-) -> Result<Target, Stop>
-    ensures { WalksTold CheckSays NoteSays S.held S.faults S.leads shelf.old shelf.new
+) -> Result<Target, WalkStop>
+    ensures { WalksDiagnosed CheckSays NoteSays S.held S.faults S.leads shelf.old shelf.new
         (target_of netlist.now state.now cycles) (target_looked netlist.now state.now cycles) target_in target_in result }
 {
     match load_netlist(alloc, shelf, netlist) {

@@ -7,7 +7,7 @@ use Rattle.bs_top.specs.Rejected.{finding_status, finding_text}
 use Rattle.bs_top.specs.Law.{AuditAcceptsWhatRunWrites}
 
 pub audit_accepts : AuditAcceptsWhatRunWrites
-audit_accepts budgets crashed status text run = record {
+audit_accepts budgets crash_files status text run = record {
   report = run.report;
   read = ap (with_reason report_reason) (ap report_in run.written ∙ read_back run.report run.backtrace.readable);
   accepted = λ status answer audits.

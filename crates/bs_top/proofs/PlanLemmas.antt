@@ -9,17 +9,17 @@ use Rattle.bs_top_plan.specs.declared.file.File.{File}
 use Rattle.bs_top_plan.specs.declared.file.File.TheVariants as files
 use Rattle.bs_top_plan.specs.declared.limits.TheConstants.{MAX_REPORT_BYTES}
 use Rattle.bs_top_plan.specs.Files.{limit_of}
-use Rattle.bs_top_plan.specs.Plan.{Tells, Wanted, Reason, exactly, Plan, fetch, refuse, end, ◌>>=◌, Outcome, refused, told_next, told_end}
+use Rattle.bs_top_plan.specs.Plan.{Tells, Wanted, Reason, exactly, Plan, fetch, refuse, end, ◌>>=◌, PlanOutcome, refused, told_next, told_end}
 use Rattle.bs_top_plan.proofs.Plans.{ready_in, refused_in, told_end_then, told_came_from}
 use Rattle.bs_top_words.specs.Job.{RunJob}
-use Rattle.bs_top_files.specs.Entry.{Crashed, crashed_of, Claimed, claimed_of, report_of}
+use Rattle.bs_top_files.specs.Entry.{CrashFiles, crash_files_of, AuditFiles, audit_files_of, report_of}
 use Rattle.bs_top_files.specs.Readings.{report_read}
 use Rattle.bs_top.specs.Work.{to_run, to_audit, run_names, budgets_of}
 use Rattle.bs_top.specs.Law.{IsAcceptedText, audit_of, AuditEnds, AuditFollowsRun}
 use Rattle.bs_top.proofs.LawLemmas.{audit_accepts}
 
 -- a refusal of a part is one of the whole
-next_refused : {R A B : Type 0} (w : Wanted) (t : Option (List ℕ)) (go : List ℕ → Option (Outcome R A)) (on : List ℕ → Option (Outcome R B))
+next_refused : {R A B : Type 0} (w : Wanted) (t : Option (List ℕ)) (go : List ℕ → Option (PlanOutcome R A)) (on : List ℕ → Option (PlanOutcome R B))
     (file : File) (why : Reason R) →
     told_next w t go ≡ Some (refused_in R A file why) →
     ((bytes : List ℕ) → go bytes ≡ Some (refused_in R A file why) → on bytes ≡ Some (refused_in R B file why)) →
@@ -70,35 +70,35 @@ report_long : (told : Tells) (name text : List ℕ) → told name ≡ Some text 
 report_long told name text tells beyond =
     rw (tells, lt-ltb MAX_REPORT_BYTES (length text) beyond) refl
 
-crashed_same : (b c : Budgets) (x y : Crashed) → to_run b x ≡ to_run c y → x ≡ y
-crashed_same b c x y e = cc
+crash_files_same : (b c : Budgets) (x y : CrashFiles) → to_run b x ≡ to_run c y → x ≡ y
+crash_files_same b c x y e = cc
 
 -- what makes the claim of a crash and a report
-abbrev claim : Crashed → Report → Claimed
-claim crashed report = record { crashed = crashed; report = report }
+abbrev claim : CrashFiles → Report → AuditFiles
+claim crash_files report = record { crash_files = crash_files; report = report }
 
-follows : (told : Tells) (run : RunJob) (name : List ℕ) (crashed : Crashed) (text : List ℕ) →
-    told_end told (crashed_of (run_names run) run.dump) ≡ Some (ready_in Case Crashed crashed) →
-    IsAcceptedText crashed text → told name ≡ Some text → AuditEnds told (audit_of run name) crashed text
-follows told run name crashed text came accepted tells = record {
+follows : (told : Tells) (run : RunJob) (name : List ℕ) (crash_files : CrashFiles) (text : List ℕ) →
+    told_end told (crash_files_of (run_names run) run.dump) ≡ Some (ready_in Case CrashFiles crash_files) →
+    IsAcceptedText crash_files text → told name ≡ Some text → AuditEnds told (audit_of run name) crash_files text
+follows told run name crash_files text came accepted tells = record {
   within = λ few. record {
     report = accepted.report;
     comes =
-        told_end_then told (claimed_of (run_names run) run.dump name) (λ (claimed : Claimed). end (to_audit claimed)) (claim crashed accepted.report)
-        (told_end_then told (crashed_of (run_names run) run.dump) (λ (c : Crashed). report_of name >>= (λ (r : Report). end (claim c r))) crashed came
-        ∙ told_end_then told (report_of name) (λ (r : Report). end (claim crashed r)) accepted.report
+        told_end_then told (audit_files_of (run_names run) run.dump name) (λ (audit_files : AuditFiles). end (to_audit audit_files)) (claim crash_files accepted.report)
+        (told_end_then told (crash_files_of (run_names run) run.dump) (λ (c : CrashFiles). report_of name >>= (λ (r : Report). end (claim c r))) crash_files came
+        ∙ told_end_then told (report_of name) (λ (r : Report). end (claim crash_files r)) accepted.report
         (report_end told name text tells few accepted.report accepted.read));
     accepted = accepted.accepted;
   };
   beyond = λ many.
-      told_end_refused told (claimed_of (run_names run) run.dump name) (λ (claimed : Claimed). end (to_audit claimed)) files.Report (exactly (codes "TooLong"))
-      (told_end_then told (crashed_of (run_names run) run.dump) (λ (c : Crashed). report_of name >>= (λ (r : Report). end (claim c r))) crashed came
-      ∙ told_end_refused told (report_of name) (λ (r : Report). end (claim crashed r)) files.Report (exactly (codes "TooLong"))
+      told_end_refused told (audit_files_of (run_names run) run.dump name) (λ (audit_files : AuditFiles). end (to_audit audit_files)) files.Report (exactly (codes "TooLong"))
+      (told_end_then told (crash_files_of (run_names run) run.dump) (λ (c : CrashFiles). report_of name >>= (λ (r : Report). end (claim c r))) crash_files came
+      ∙ told_end_refused told (report_of name) (λ (r : Report). end (claim crash_files r)) files.Report (exactly (codes "TooLong"))
       (report_long told name text tells many));
 }
 
 pub audit_follows : AuditFollowsRun
-audit_follows told run name budgets crashed status text ready_for done tells =
-    let from = told_came_from told (crashed_of (run_names run) run.dump) (λ (c : Crashed). to_run (budgets_of run) c) (to_run budgets crashed) ready_for in
-    let same : from.value ≡ crashed = sym (crashed_same budgets (budgets_of run) crashed from.value from.is) in
-    follows told run name crashed text (from.came ∙ ap (λ c. Some (ready_in Case Crashed c)) same) (audit_accepts budgets crashed status text done) tells
+audit_follows told run name budgets crash_files status text ready_for done tells =
+    let from = told_came_from told (crash_files_of (run_names run) run.dump) (λ (c : CrashFiles). to_run (budgets_of run) c) (to_run budgets crash_files) ready_for in
+    let same : from.value ≡ crash_files = sym (crash_files_same budgets (budgets_of run) crash_files from.value from.is) in
+    follows told run name crash_files text (from.came ∙ ap (λ c. Some (ready_in Case CrashFiles c)) same) (audit_accepts budgets crash_files status text done) tells

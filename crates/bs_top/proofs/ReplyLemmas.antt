@@ -20,10 +20,10 @@ use Rattle.bs_reach.specs.Text.{reach_text}
 use Rattle.bs_wave.specs.declared.wave.Wave.{Wave}
 use Rattle.bs_wave.specs.Wave.{IsWaveOf}
 use Rattle.bs_wave.specs.WaveText.{wave_text}
-use Rattle.bs_top_answer.specs.declared.note.Answer.{Answer}
+use Rattle.bs_top_answer.specs.declared.note.Response.{Response}
 use Rattle.bs_top_answer.specs.Endings.{miss_text_of, rejected_text_if, run_text}
 use Rattle.bs_top_answer.specs.Note.{DueText}
-use Rattle.bs_top_files.specs.Entry.{Crashed, recording_in}
+use Rattle.bs_top_files.specs.Entry.{CrashFiles, recording_in}
 use Rattle.bs_top_plan.specs.declared.status.Status.TheVariants.{Done}
 use Rattle.bs_top.specs.Drawn.{IsDrawn, IsTraceWave}
 use Rattle.bs_top.specs.Finishes.{Answers, Audits, demo_budgets, Draws, Finds, IsBacktrace, reach_status, Reports, stop_status, Summarises}
@@ -31,25 +31,25 @@ use Rattle.bs_top.specs.Rejected.{finding_status, finding_text}
 use Rattle.bs_top.specs.Said.{AuditSaid, DrawSaid, is_rejected, miss_of, ReachSaid, RunSaid}
 use Rattle.bs_top.specs.Summary.{summary_text}
 
-pub reports_told : {crash : Crash} {budgets : Budgets} (report : Report) (r : Result Answer NoMemory) → IsBacktrace crash budgets report →
+pub reports_told : {crash : Crash} {budgets : Budgets} (report : Report) (r : Result Response NoMemory) → IsBacktrace crash budgets report →
     IfOk r (λ a. a.reply.status ≡ stop_status report.stop) → IfOk r (λ a. a.reply.text.items ≡ report_text report) →
     IfOk r (λ a. Reports crash budgets a.reply.status a.reply.text.items)
 reports_told report (Ok a) is status text = record { report = report; backtrace = is; written = text; answered = status }
 reports_told report (Err want) is status text = tt
 
-pub audits_told : {crash : Crash} {report : Report} (part : Option Part) (r : Result Answer NoMemory) → Finds crash report part →
+pub audits_told : {crash : Crash} {report : Report} (part : Option Part) (r : Result Response NoMemory) → Finds crash report part →
     IfOk r (λ a. a.reply.status ≡ finding_status part) → IfOk r (λ a. a.reply.text.items ≡ finding_text part) →
     IfOk r (λ a. Audits crash report a.reply.status a.reply.text.items)
 audits_told part (Ok a) finds status text = record { part = part; finds = finds; answered = status; written = text }
 audits_told part (Err want) finds status text = tt
 
-pub draws_told : {crash : Crash} (raw : Parts) {report : Report} (part : Option Part) (r : Result Answer NoMemory) → Finds crash report part →
+pub draws_told : {crash : Crash} (raw : Parts) {report : Report} (part : Option Part) (r : Result Response NoMemory) → Finds crash report part →
     IfOk r (λ a. a.reply.status ≡ finding_status part) → IfOk r (λ a. IsDrawn raw report part a.reply.text.items) →
     IfOk r (λ a. Draws raw crash report a.reply.status a.reply.text.items)
 draws_told raw part (Ok a) finds status drawn = record { part = part; finds = finds; answered = status; written = drawn }
 draws_told raw part (Err want) finds status drawn = tt
 
-pub answers_told : {c : Circuit} {p : List Bool} {k b : ℕ} (reach : Reach) (r : Result Answer NoMemory) → IsReach c p k b reach →
+pub answers_told : {c : Circuit} {p : List Bool} {k b : ℕ} (reach : Reach) (r : Result Response NoMemory) → IsReach c p k b reach →
     IfOk r (λ a. a.reply.status ≡ reach_status reach.outcome) → IfOk r (λ a. a.reply.text.items ≡ reach_text reach) →
     IfOk r (λ a. Answers c p k b a.reply.status a.reply.text.items)
 answers_told reach (Ok a) is status text = record { reach = reach; right = is; written = text; answered = status }
@@ -67,16 +67,16 @@ summarises_told number report (Err want) is written = tt
 
 -- ---- what is said besides
 
-pub reports_said : (crashed : Crashed) (report : Report) (r : Result Answer NoMemory) (chip : Recording) → chip ≡ recording_in crashed.setup →
+pub reports_said : (crash_files : CrashFiles) (report : Report) (r : Result Response NoMemory) (chip : Recording) → chip ≡ recording_in crash_files.setup →
     IfOk r (λ a. a.reply.text.items ≡ report_text report) →
-    IfOk r (λ a. DueText (run_text chip crashed.dump crashed.setup.runs (length report.steps) report.stop) a.note) →
-    IfOk r (λ a. RunSaid crashed a.reply.text.items a.note)
-reports_said crashed report (Ok a) chip is text says = record {
+    IfOk r (λ a. DueText (run_text chip crash_files.dump crash_files.setup.runs (length report.steps) report.stop) a.note) →
+    IfOk r (λ a. RunSaid crash_files a.reply.text.items a.note)
+reports_said crash_files report (Ok a) chip is text says = record {
   report = report;
   written = text;
-  says = subst (λ (q : Recording). DueText (run_text q crashed.dump crashed.setup.runs (length report.steps) report.stop) a.note) is says;
+  says = subst (λ (q : Recording). DueText (run_text q crash_files.dump crash_files.setup.runs (length report.steps) report.stop) a.note) is says;
 }
-reports_said crashed report (Err want) chip is text says = tt
+reports_said crash_files report (Err want) chip is text says = tt
 
 -- the dump has the width of a chip of its setup, whatever was asked of it
 pub fits_chip : (c : Circuit) (raw : Parts) (choice : Chosen) (runs : Stimulus) (dump : Dump) (before chip : Recording) → DumpFits c choice dump →
@@ -84,17 +84,17 @@ pub fits_chip : (c : Circuit) (raw : Parts) (choice : Chosen) (runs : Stimulus) 
 fits_chip c raw choice runs dump before chip fits same is still =
     fits.state ∙ ap (λ (q : Circuit). length q.flops) same ∙ ap (λ (q : Recording). length q.circuit.flops) (sym (still ∙ is))
 
-pub audits_said : (part : Option Part) (r : Result Answer NoMemory) → IfOk r (λ a. a.reply.text.items ≡ finding_text part) →
+pub audits_said : (part : Option Part) (r : Result Response NoMemory) → IfOk r (λ a. a.reply.text.items ≡ finding_text part) →
     IfOk r (λ a. DueText (rejected_text_if (is_rejected part)) a.note) → IfOk r (λ a. AuditSaid a.reply.text.items a.note)
 audits_said part (Ok a) text says = record { part = part; written = text; says = says }
 audits_said part (Err want) text says = tt
 
-pub draws_said : (raw : Parts) (report : Report) (part : Option Part) (r : Result Answer NoMemory) → IfOk r (λ a. IsDrawn raw report part a.reply.text.items) →
+pub draws_said : (raw : Parts) (report : Report) (part : Option Part) (r : Result Response NoMemory) → IfOk r (λ a. IsDrawn raw report part a.reply.text.items) →
     IfOk r (λ a. DueText (rejected_text_if (is_rejected part)) a.note) → IfOk r (λ a. DrawSaid raw report a.reply.text.items a.note)
 draws_said raw report part (Ok a) text says = record { part = part; written = text; says = says }
 draws_said raw report part (Err want) text says = tt
 
-pub answers_said : (reach : Reach) (r : Result Answer NoMemory) → IfOk r (λ a. a.reply.text.items ≡ reach_text reach) →
+pub answers_said : (reach : Reach) (r : Result Response NoMemory) → IfOk r (λ a. a.reply.text.items ≡ reach_text reach) →
     IfOk r (λ a. DueText (miss_text_of (miss_of reach.outcome)) a.note) → IfOk r (λ a. ReachSaid a.reply.text.items a.note)
 answers_said reach (Ok a) text says = record { reach = reach; written = text; says = says }
 answers_said reach (Err want) text says = tt

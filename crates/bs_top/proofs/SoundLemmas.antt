@@ -24,13 +24,13 @@ use Rattle.bs_top.specs.Finishes.{IsBacktrace, Finds}
 
 -- a good and valid report of a crash
 pub sound_is : (crash : Crash) (r : Report) → IsCrash crash → IsGood crash r → IsValid crash (basis_for crash r) r → IsSoundReport crash r
-sound_is crash r crashed good valid = record {
+sound_is crash r crash_files good valid = record {
   good = good;
   valid = valid;
-  headline = λ moved. executed crash r crashed good moved;
-  progress = λ i earlier later a b finished. progress crash r i earlier later crashed good a b finished;
-  unhit_is_first = λ i step at finished none. unhit_is_first crash r i step crashed good at finished none;
-  reaches_reset = λ first hit all at hits within. finished_reach_reset crash r first hit crashed good all at hits within;
+  headline = λ moved. executed crash r crash_files good moved;
+  progress = λ i earlier later a b finished. progress crash r i earlier later crash_files good a b finished;
+  unhit_is_first = λ i step at finished none. unhit_is_first crash r i step crash_files good at finished none;
+  reaches_reset = λ first hit all at hits within. finished_reach_reset crash r first hit crash_files good all at hits within;
 }
 
 -- the facts of a backtrace of a chip
@@ -45,9 +45,9 @@ pub record IsMade (chip : Recording) (dump : Dump) (budgets : Budgets) (r : Repo
 
 made_alike : (chip : Recording) (dump : Dump) (budgets : Budgets) (r : Report) → IsCrash (crash_of chip dump) → IsMade chip dump budgets r →
     IsBacktrace (crash_of chip dump) budgets r
-made_alike chip dump budgets r crashed made = record {
+made_alike chip dump budgets r crash_files made = record {
   asked = made.asked;
-  sound = sound_is (crash_of chip dump) r crashed made.good made.valid;
+  sound = sound_is (crash_of chip dump) r crash_files made.good made.valid;
   progress = made.progress;
   lean = made.lean;
   bound = made.bound;
@@ -62,17 +62,17 @@ pub backtrace_ok : {E : Type 0} (recorded chip : Recording) (dump : Dump) (budge
     IfOk r (λ report. IsLean (basis_of chip.circuit chip.choice (map present_of report.steps)).problem (history_of report.log)) →
     IfOk r (λ report. HasBound (basis_of chip.circuit chip.choice (map present_of report.steps)).problem report) → IfOk r HasReportText →
     IfOk r (IsBacktrace (crash_of recorded dump) budgets)
-backtrace_ok recorded chip dump budgets (Ok report) is crashed asked good valid back lean bound readable =
-    made_alike recorded dump budgets report crashed
+backtrace_ok recorded chip dump budgets (Ok report) is crash_files asked good valid back lean bound readable =
+    made_alike recorded dump budgets report crash_files
     (subst (λ c. IsMade c dump budgets report) is
     (record { asked = asked; good = good; valid = valid; progress = back; lean = lean; bound = bound; readable = readable }))
-backtrace_ok recorded chip dump budgets (Err want) is crashed asked good valid back lean bound readable = tt
+backtrace_ok recorded chip dump budgets (Err want) is crash_files asked good valid back lean bound readable = tt
 
 -- what an audit finds
 pub finds_ok : {E : Type 0} (crash : Crash) (report : Report) (r : Result Finding E) → IsCrash crash →
     IfOk r (λ finding. part_of finding ≡ first_failing crash (basis_for crash report) report) →
     IfOk r (λ finding. part_of finding ≡ None → IsGood crash report) →
     IfOk r (λ finding. Finds crash report (part_of finding))
-finds_ok crash report (Ok finding) crashed first good =
-    record { first = first; accepted = λ none. sound_is crash report crashed (good none) (sym first ∙ none) }
-finds_ok crash report (Err want) crashed first good = tt
+finds_ok crash report (Ok finding) crash_files first good =
+    record { first = first; accepted = λ none. sound_is crash report crash_files (good none) (sym first ∙ none) }
+finds_ok crash report (Err want) crash_files first good = tt

@@ -21,8 +21,8 @@ use Rattle.bs_stim.specs.Runs.{Stimulus}
 use Rattle.bs_scan.specs.Choice.{Chosen}
 use Rattle.bs_scan.specs.Moments.{Moment}
 use Rattle.bs_gen.specs.Job.{netlist_for, signature_text, stimulus_for}
-use Rattle.bs_top_files.specs.Entry.{Setup, Placed, placed_of, input_width}
-use Rattle.bs_top_files.specs.Looking.{placed_looked}
+use Rattle.bs_top_files.specs.Entry.{Setup, MomentFiles, moment_files_of, input_width}
+use Rattle.bs_top_files.specs.Looking.{moment_files_looked}
 use Rattle.bs_top_files.specs.Noting.{netlist_noted, signature_noted, stimulus_noted, moment_noted}
 use Rattle.bs_top_files.specs.Readings.{netlist_in, signature_in, stimulus_in, moment_in}
 use Rattle.bs_top.specs.declared.budgets.TheConstants.{DEMO_RUN, DEMO_CYCLE}
@@ -53,9 +53,9 @@ held_three files netlist signature stimulus are name =
     else (if bytes_eq (codes "stimulus") name then Some (are.texts.2 i) else None)))
 
 -- a walk over three files and a moment, by what reads each
-abbrev placed_by : {Q : Type 0} → (List ℕ → Result Parts (Reason Q)) → (Parts → List ℕ → Result Chosen (Reason Q)) →
-    (Parts → List ℕ → Result Stimulus (Reason Q)) → (Stimulus → Result Moment (Reason Q)) → Plan Q Placed
-placed_by nets items runs moments =
+abbrev moment_files_by : {Q : Type 0} → (List ℕ → Result Parts (Reason Q)) → (Parts → List ℕ → Result Chosen (Reason Q)) →
+    (Parts → List ℕ → Result Stimulus (Reason Q)) → (Stimulus → Result Moment (Reason Q)) → Plan Q MomentFiles
+moment_files_by nets items runs moments =
     (fetched files.Netlist (codes "netlist") >>= (λ bytes. read_as files.Netlist (nets bytes)))
     >>= (λ raw. (fetched files.Signature (codes "signature") >>= (λ bytes. read_as files.Signature (items raw bytes)))
     >>= (λ choice. (fetched files.Stimulus (codes "stimulus") >>= (λ bytes. read_as files.Stimulus (runs raw bytes)))
@@ -64,7 +64,7 @@ placed_by nets items runs moments =
 
 all_told : {Q : Type 0} (nets : List ℕ → Result Parts (Reason Q)) (items : Parts → List ℕ → Result Chosen (Reason Q))
     (runs : Parts → List ℕ → Result Stimulus (Reason Q)) (moments : Stimulus → Result Moment (Reason Q)) (netlist signature stimulus : List ℕ) →
-    AllTold (told_of netlist signature stimulus) (placed_by nets items runs moments)
+    AllTold (told_of netlist signature stimulus) (moment_files_by nets items runs moments)
 all_told {Q} nets items runs moments netlist signature stimulus =
     told_then told setup_by (λ (setup : Setup). read_as files.Dump (moments setup.runs) >>= (λ (m : Moment). end record { setup = setup; moment = m })) setup
     (λ setup. told_then told (read_as files.Dump (moments setup.runs)) (λ (m : Moment). end record { setup = setup; moment = m })
@@ -108,12 +108,12 @@ all_told {Q} nets items runs moments netlist signature stimulus =
         (run raw) (λ r. tt)))
 
 -- the texts of a generated job are told to each plan over them
-pub told_line : (number : ℕ) → AllTold (demo_told number) (placed_of demo_names DEMO_RUN DEMO_CYCLE)
+pub told_line : (number : ℕ) → AllTold (demo_told number) (moment_files_of demo_names DEMO_RUN DEMO_CYCLE)
 told_line number =
     all_told netlist_in signature_in (λ raw bytes. stimulus_in (input_width raw) bytes) (λ runs. moment_in runs DEMO_RUN DEMO_CYCLE)
     (netlist_for number) signature_text (stimulus_for number)
 
-pub told_note : (number : ℕ) → AllTold (demo_told number) (placed_looked demo_names DEMO_RUN DEMO_CYCLE)
+pub told_note : (number : ℕ) → AllTold (demo_told number) (moment_files_looked demo_names DEMO_RUN DEMO_CYCLE)
 told_note number =
     all_told (λ bytes. netlist_noted (codes "netlist") bytes) (λ raw bytes. signature_noted raw (codes "signature") bytes)
     (λ raw bytes. stimulus_noted (input_width raw) (codes "stimulus") bytes) (λ runs. moment_noted runs DEMO_RUN DEMO_CYCLE)

@@ -11,12 +11,12 @@ use Rattle.bs_net.specs.Parts.{Parts}
 use Rattle.bs_top_plan.specs.declared.file.File.TheVariants as files
 use Rattle.bs_top_plan.specs.declared.status.Status.TheVariants.{Done}
 use Rattle.bs_top_plan.specs.Files.{limit_of}
-use Rattle.bs_top_plan.specs.Plan.{Tells, Wanted, Reason, exactly, Plan, fetch, refuse, end, ◌>>=◌, read_as, Outcome, refused, told_next, told_end}
+use Rattle.bs_top_plan.specs.Plan.{Tells, Wanted, Reason, exactly, Plan, fetch, refuse, end, ◌>>=◌, read_as, PlanOutcome, refused, told_next, told_end}
 use Rattle.bs_top_plan.proofs.Plans.{ready_in, refused_in}
 use Rattle.bs_verilog.specs.Law.{AreNames}
 use Rattle.bs_flat_meaning.proofs.NamedLemmas.{flat_nets_are_named}
-use Rattle.bs_top_files.specs.Entry.{FileNames, Setup, Crashed, Claimed, netlist_of, signature_of, stimulus_of, dump_of, setup_of, crashed_of, report_of}
-use Rattle.bs_top_files.specs.Entry.{claimed_of, drawn_of}
+use Rattle.bs_top_files.specs.Entry.{FileNames, Setup, CrashFiles, AuditFiles, netlist_of, signature_of, stimulus_of, dump_of, setup_of, crash_files_of, report_of}
+use Rattle.bs_top_files.specs.Entry.{audit_files_of, drawn_of}
 use Rattle.bs_top_files.specs.Readings.{checked_of, netlist_in, size_in, text_in}
 use Rattle.bs_top_files.specs.Refusals.{Case, check_reason, text_reason, with_reason}
 use Rattle.bs_top_files.proofs.TextLemmas.{parts_answer}
@@ -56,7 +56,7 @@ anywhere (fetch w next) = λ bytes. anywhere (next bytes)
 ends_after : {R A B : Type 0} (Q : B → Type 0) (plan : Plan R A) (f : A → Plan R B) → ((a : A) → EndsIn Q (f a)) → EndsIn Q (plan >>= f)
 ends_after Q plan f on = ends_then (λ _. ⊤) Q plan f (anywhere plan) (λ a _. on a)
 
-next_ends : {R V : Type 0} (P : Type 0) (w : Wanted) (t : Option (List ℕ)) (go : List ℕ → Option (Outcome R V)) (v : V) →
+next_ends : {R V : Type 0} (P : Type 0) (w : Wanted) (t : Option (List ℕ)) (go : List ℕ → Option (PlanOutcome R V)) (v : V) →
     told_next w t go ≡ Some (ready_in R V v) → ((bytes : List ℕ) → go bytes ≡ Some (ready_in R V v) → P) → P
 next_ends {R} {V} P w None go v h step = absurd (wrong h)
   where
@@ -91,14 +91,14 @@ PartsNamed raw = AreNames raw.names
 abbrev SetupNamed : Setup → Type 0
 SetupNamed setup = PartsNamed setup.raw
 
-abbrev CrashedNamed : Crashed → Type 0
-CrashedNamed crashed = SetupNamed crashed.setup
+abbrev CrashFilesNamed : CrashFiles → Type 0
+CrashFilesNamed crash_files = SetupNamed crash_files.setup
 
-abbrev ClaimedNamed : Claimed → Type 0
-ClaimedNamed claimed = CrashedNamed claimed.crashed
+abbrev AuditFilesNamed : AuditFiles → Type 0
+AuditFilesNamed audit_files = CrashFilesNamed audit_files.crash_files
 
 abbrev WorkNamed : Work → Type 0
-WorkNamed (to_wave claimed) = ClaimedNamed claimed
+WorkNamed (to_wave audit_files) = AuditFilesNamed audit_files
 WorkNamed _ = ⊤
 
 checked_named : {F : Type 0} (reason : F → Reason Case) (r : Result Parts F) → ((raw : Parts) → r ≡ Ok raw → PartsNamed raw) →
@@ -121,28 +121,28 @@ setup_named names =
     (λ choice. stimulus_of raw names.stimulus >>= (λ runs. end record { raw = raw; choice = choice; runs = runs }))
     (λ choice. ends_after SetupNamed (stimulus_of raw names.stimulus) (λ runs. end record { raw = raw; choice = choice; runs = runs }) (λ runs. h)))
 
-crashed_named : (names : FileNames) (dump : List ℕ) → EndsIn CrashedNamed (crashed_of names dump)
-crashed_named names dump =
-    ends_then SetupNamed CrashedNamed (setup_of names) (λ setup. dump_of setup dump >>= (λ dumped. end record { setup = setup; dump = dumped }))
+crash_files_named : (names : FileNames) (dump : List ℕ) → EndsIn CrashFilesNamed (crash_files_of names dump)
+crash_files_named names dump =
+    ends_then SetupNamed CrashFilesNamed (setup_of names) (λ setup. dump_of setup dump >>= (λ dumped. end record { setup = setup; dump = dumped }))
     (setup_named names)
-    (λ setup h. ends_after CrashedNamed (dump_of setup dump) (λ dumped. end record { setup = setup; dump = dumped }) (λ dumped. h))
+    (λ setup h. ends_after CrashFilesNamed (dump_of setup dump) (λ dumped. end record { setup = setup; dump = dumped }) (λ dumped. h))
 
-claimed_named : (names : FileNames) (dump report : List ℕ) → EndsIn ClaimedNamed (claimed_of names dump report)
-claimed_named names dump report =
-    ends_then CrashedNamed ClaimedNamed (crashed_of names dump)
-    (λ crashed. report_of report >>= (λ claimed. end record { crashed = crashed; report = claimed })) (crashed_named names dump)
-    (λ crashed h. ends_after ClaimedNamed (report_of report) (λ claimed. end record { crashed = crashed; report = claimed }) (λ claimed. h))
+audit_files_named : (names : FileNames) (dump report : List ℕ) → EndsIn AuditFilesNamed (audit_files_of names dump report)
+audit_files_named names dump report =
+    ends_then CrashFilesNamed AuditFilesNamed (crash_files_of names dump)
+    (λ crash_files. report_of report >>= (λ audit_files. end record { crash_files = crash_files; report = audit_files })) (crash_files_named names dump)
+    (λ crash_files h. ends_after AuditFilesNamed (report_of report) (λ audit_files. end record { crash_files = crash_files; report = audit_files }) (λ audit_files. h))
 
-drawn_named : (names : FileNames) (dump report : List ℕ) → EndsIn ClaimedNamed (drawn_of names dump report)
+drawn_named : (names : FileNames) (dump report : List ℕ) → EndsIn AuditFilesNamed (drawn_of names dump report)
 drawn_named names dump report =
-    ends_then ClaimedNamed ClaimedNamed (claimed_of names dump report)
-    (λ claimed. read_as files.Report (size_in claimed.crashed.setup.raw claimed.report) >>= (λ fits. end claimed)) (claimed_named names dump report)
-    (λ claimed h. ends_after ClaimedNamed (read_as files.Report (size_in claimed.crashed.setup.raw claimed.report)) (λ fits. end claimed) (λ fits. h))
+    ends_then AuditFilesNamed AuditFilesNamed (audit_files_of names dump report)
+    (λ audit_files. read_as files.Report (size_in audit_files.crash_files.setup.raw audit_files.report) >>= (λ fits. end audit_files)) (audit_files_named names dump report)
+    (λ audit_files h. ends_after AuditFilesNamed (read_as files.Report (size_in audit_files.crash_files.setup.raw audit_files.report)) (λ fits. end audit_files) (λ fits. h))
 
 work_named : (job : AuditJob) → EndsIn WorkNamed (plan_of (WaveWords job))
 work_named job =
-    ends_then ClaimedNamed WorkNamed (drawn_of (audit_names job) job.dump job.report) (λ claimed. end (to_wave claimed))
-    (drawn_named (audit_names job) job.dump job.report) (λ claimed h. h)
+    ends_then AuditFilesNamed WorkNamed (drawn_of (audit_names job) job.dump job.report) (λ audit_files. end (to_wave audit_files))
+    (drawn_named (audit_names job) job.dump job.report) (λ audit_files h. h)
 
 -- ---- waves
 
@@ -178,6 +178,6 @@ drawn_back raw report None text named done drawn =
 drawn_back raw report (Some part) text named done drawn = absurd cc
 
 pub waveforms_read_back : WaveformsReadBack
-waveforms_read_back told job claimed text comes draws =
-    let named : ClaimedNamed claimed = told_ends WorkNamed told (plan_of (WaveWords job)) (to_wave claimed) (work_named job) comes in
-    drawn_back claimed.crashed.setup.raw claimed.report draws.part text named draws.answered draws.written
+waveforms_read_back told job audit_files text comes draws =
+    let named : AuditFilesNamed audit_files = told_ends WorkNamed told (plan_of (WaveWords job)) (to_wave audit_files) (work_named job) comes in
+    drawn_back audit_files.crash_files.setup.raw audit_files.report draws.part text named draws.answered draws.written

@@ -10,7 +10,7 @@ use Rattle.bs_report_good.specs.declared.part.Part.{Part}
 use Rattle.bs_top.specs.Rejected.{finding_status}
 use Rattle.bs_top_plan.specs.declared.status.Status.{Status}
 use Rattle.bs_note_calls.specs.Words.{IsWordsNote}
-use Rattle.bs_top_answer.specs.declared.note.Answer.{Answer}
+use Rattle.bs_top_answer.specs.declared.note.Response.{Response}
 use Rattle.bs_top_answer.specs.Note.{Due}
 use Rattle.bs_top_answer.specs.Prepared.{PreparedNoted}
 use Rattle.bs_top_answer.proofs.AnswerLemmas.{noted_nothing, noted_words}
@@ -44,25 +44,25 @@ reach_work Unreached = refl
 reach_work (Unknown j) = refl
 
 work_status : (work : Work) (status : Status) (text : List ℕ) → replies work status text → is_work_status status ≡ true
-work_status (to_run budgets crashed) status text done = ap is_work_status done.answered ∙ stop_work done.report.stop
-work_status (to_audit claimed) status text done = ap is_work_status done.answered ∙ finding_work done.part
-work_status (to_dump placed) status text done = ap is_work_status done.0 ∙ refl
-work_status (to_demo number placed) status text done = ap is_work_status done.answered ∙ refl
-work_status (to_wave claimed) status text done = ap is_work_status done.answered ∙ finding_work done.part
+work_status (to_run budgets crash_files) status text done = ap is_work_status done.answered ∙ stop_work done.report.stop
+work_status (to_audit audit_files) status text done = ap is_work_status done.answered ∙ finding_work done.part
+work_status (to_dump moment_files) status text done = ap is_work_status done.0 ∙ refl
+work_status (to_demo number moment_files) status text done = ap is_work_status done.answered ∙ refl
+work_status (to_wave audit_files) status text done = ap is_work_status done.answered ∙ finding_work done.part
 work_status (to_reach conflicts target) status text done = ap is_work_status done.answered ∙ reach_work done.reach.outcome
 
 pub is_work : IsWork finishes
 is_work = record { status = λ work status text done. work_status work status text done.reply }
 
 -- an answer whose reply is right, by a netlist that means its design
-pub finished : (work : Work) (r : Result Answer NoMemory) → MeansItsDesign (netlist_of work) →
+pub finished : (work : Work) (r : Result Response NoMemory) → MeansItsDesign (netlist_of work) →
     IfOk r (λ a. replies work a.reply.status a.reply.text.items) → IfOk r (λ a. finishes work a.reply.status a.reply.text.items)
 finished work (Ok answer) means right = record { reply = right; design = means }
 finished work (Err want) means right = tt
 
 -- the answer to a job that the words ask for
 pub prepared_for : {S : Type 0} {held : S → Tells} {faults : S → Counts} {leads : S → FetchCall → S → Type 0} {before now : S}
-    {r : Result Answer NoMemory} (words : List (List ℕ)) (job : Job) (asked : Option Job) → Some job ≡ asked →
+    {r : Result Response NoMemory} (words : List (List ℕ)) (job : Job) (asked : Option Job) → Some job ≡ asked →
     PreparedNoted CheckSays finishes (JobSaid job) held faults leads before now (Some (plan_of job)) r →
     PreparedNoted CheckSays finishes (WordsSaid words asked) held faults leads before now (option_map plan_of asked) r
 prepared_for {held = held} {faults = faults} {leads = leads} {before = before} {now = now} {r = r} words job asked e h =
@@ -70,7 +70,7 @@ prepared_for {held = held} {faults = faults} {leads = leads} {before = before} {
 
 -- the answer to words that are no job
 pub prepared_none : {S : Type 0} {held : S → Tells} {faults : S → Counts} {leads : S → FetchCall → S → Type 0} {before : S} (words : List (List ℕ))
-    (asked : Option Job) (r : Result Answer NoMemory) → None ≡ asked → IfOk r (λ a. RefusesWords a.reply.status a.reply.text.items) →
+    (asked : Option Job) (r : Result Response NoMemory) → None ≡ asked → IfOk r (λ a. RefusesWords a.reply.status a.reply.text.items) →
     IfOk r (λ a. Due (IsWordsNote words) a.note) →
     PreparedNoted CheckSays finishes (WordsSaid words asked) held faults leads before before (option_map plan_of asked) r
 prepared_none {held = held} {faults = faults} {leads = leads} {before = before} words asked r e refuses says =
@@ -79,7 +79,7 @@ prepared_none {held = held} {faults = faults} {leads = leads} {before = before} 
 
 -- words that could not be read
 pub prepared_short : {S : Type 0} {held : S → Tells} {faults : S → Counts} {leads : S → FetchCall → S → Type 0} {before : S} (words : List (List ℕ))
-    (asked : Option Job) (plan : Option (Plan Case Work)) (r : Result Answer NoMemory) → IsErr r →
+    (asked : Option Job) (plan : Option (Plan Case Work)) (r : Result Response NoMemory) → IsErr r →
     PreparedNoted CheckSays finishes (WordsSaid words asked) held faults leads before before plan r
 prepared_short words asked plan (Err want) e = noted_nothing plan
 prepared_short words asked plan (Ok answer) e = absurd (false≢true e)

@@ -4,8 +4,8 @@ use Rattle.std.specs.Str.{bytes_eq}
 use Rattle.bs_gen.specs.Job.{netlist_for, signature_text, stimulus_for}
 use Rattle.bs_top_plan.specs.Plan.{Tells, Plan, with_texts}
 use Rattle.bs_top.specs.declared.budgets.TheConstants.{DEMO_RUN, DEMO_CYCLE}
-use Rattle.bs_top_files.specs.Entry.{FileNames, Placed, placed_of}
-use Rattle.bs_top_files.specs.Looking.{placed_looked}
+use Rattle.bs_top_files.specs.Entry.{FileNames, MomentFiles, moment_files_of}
+use Rattle.bs_top_files.specs.Looking.{moment_files_looked}
 use Rattle.bs_top_files.specs.NoteCases.{NoteCase}
 use Rattle.bs_top_files.specs.Refusals.{Case}
 
@@ -24,9 +24,9 @@ abbrev pub demo_told : ℕ → Tells
 demo_told number = told_of (netlist_for number) signature_text (stimulus_for number)
 
 -- they make a setup ready, and the moment of DEMO_RUN at DEMO_CYCLE
-abbrev pub demo_of : ℕ → Plan Case Placed
-demo_of number = with_texts (demo_told number) (placed_of demo_names DEMO_RUN DEMO_CYCLE)
+abbrev pub demo_of : ℕ → Plan Case MomentFiles
+demo_of number = with_texts (demo_told number) (moment_files_of demo_names DEMO_RUN DEMO_CYCLE)
 
 -- the same as the notes see it
-abbrev pub demo_looked : ℕ → Plan NoteCase Placed
-demo_looked number = with_texts (demo_told number) (placed_looked demo_names DEMO_RUN DEMO_CYCLE)
+abbrev pub demo_looked : ℕ → Plan NoteCase MomentFiles
+demo_looked number = with_texts (demo_told number) (moment_files_looked demo_names DEMO_RUN DEMO_CYCLE)

@@ -107,24 +107,24 @@ pub record Answers (c : Circuit) (p : List Bool) (k b : ℕ) (status : Status) (
 
 -- the reply to work that is done is right
 abbrev pub replies : Work → Status → List ℕ → Type 0
-replies (to_run budgets crashed) status text = Reports (crash_of (recording_in crashed.setup) crashed.dump) budgets status text
-replies (to_audit claimed) status text = Audits (crash_of (recording_in claimed.crashed.setup) claimed.crashed.dump) claimed.report status text
-replies (to_dump placed) status text = (status ≡ S.Done) × (text ≡ dump_text (dump_at (recording_in placed.setup) placed.moment))
-replies (to_demo number placed) status text =
-    Summarises number (crash_of (recording_in placed.setup) (dump_at (recording_in placed.setup) placed.moment)) status text
-replies (to_wave claimed) status text =
-    Draws claimed.crashed.setup.raw (crash_of (recording_in claimed.crashed.setup) claimed.crashed.dump) claimed.report status text
+replies (to_run budgets crash_files) status text = Reports (crash_of (recording_in crash_files.setup) crash_files.dump) budgets status text
+replies (to_audit audit_files) status text = Audits (crash_of (recording_in audit_files.crash_files.setup) audit_files.crash_files.dump) audit_files.report status text
+replies (to_dump moment_files) status text = (status ≡ S.Done) × (text ≡ dump_text (dump_at (recording_in moment_files.setup) moment_files.moment))
+replies (to_demo number moment_files) status text =
+    Summarises number (crash_of (recording_in moment_files.setup) (dump_at (recording_in moment_files.setup) moment_files.moment)) status text
+replies (to_wave audit_files) status text =
+    Draws audit_files.crash_files.setup.raw (crash_of (recording_in audit_files.crash_files.setup) audit_files.crash_files.dump) audit_files.report status text
 replies (to_reach conflicts target) status text = Answers (circuit_of target.raw) target.state target.cycles conflicts status text
 
 -- ---- the netlist by which a reply speaks of a circuit
 
 -- the netlist of the work
 abbrev pub netlist_of : Work → Parts
-netlist_of (to_run budgets crashed) = crashed.setup.raw
-netlist_of (to_audit claimed) = claimed.crashed.setup.raw
-netlist_of (to_dump placed) = placed.setup.raw
-netlist_of (to_demo number placed) = placed.setup.raw
-netlist_of (to_wave claimed) = claimed.crashed.setup.raw
+netlist_of (to_run budgets crash_files) = crash_files.setup.raw
+netlist_of (to_audit audit_files) = audit_files.crash_files.setup.raw
+netlist_of (to_dump moment_files) = moment_files.setup.raw
+netlist_of (to_demo number moment_files) = moment_files.setup.raw
+netlist_of (to_wave audit_files) = audit_files.crash_files.setup.raw
 netlist_of (to_reach conflicts target) = target.raw
 
 -- Where a text has several modules, and is read as this netlist, the netlist is the flat netlist of their design, and means it.

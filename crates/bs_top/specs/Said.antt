@@ -2,8 +2,8 @@
 use Rattle.std.specs.Prelude.{◌≡◌, ℕ, List, [], length, Bool, true, false, Option, Some, None}
 use Rattle.bs_net.specs.Parts.{Parts}
 use Rattle.bs_outside.specs.Calls.{FetchCall}
-use Rattle.bs_note_calls.specs.declared.told.Miss.{Miss}
-use Rattle.bs_note_calls.specs.declared.told.Miss.TheVariants as M
+use Rattle.bs_note_calls.specs.declared.miss.Miss.{Miss}
+use Rattle.bs_note_calls.specs.declared.miss.Miss.TheVariants as M
 use Rattle.bs_note_calls.specs.Words.{IsWordsNote}
 use Rattle.bs_reach.specs.declared.reach.Outcome.{Outcome}
 use Rattle.bs_reach.specs.declared.reach.Outcome.TheVariants.{Reached, Unreached, Unknown}
@@ -19,8 +19,8 @@ use Rattle.bs_top_answer.specs.Endings.{miss_text_of, rejected_text_if, run_text
 use Rattle.bs_top_answer.specs.Note.{Due, DueText}
 use Rattle.bs_top_answer.specs.Paths.{Paths, path_of}
 use Rattle.bs_top_answer.specs.Prepared.{NoteAlong}
-use Rattle.bs_top_files.specs.Entry.{Crashed, recording_in}
-use Rattle.bs_top_files.specs.Looking.{claimed_looked, crashed_looked, drawn_looked, placed_looked}
+use Rattle.bs_top_files.specs.Entry.{CrashFiles, recording_in}
+use Rattle.bs_top_files.specs.Looking.{audit_files_looked, crash_files_looked, drawn_looked, moment_files_looked}
 use Rattle.bs_top_files.specs.NoteCases.{NoteCase, NoteSays}
 use Rattle.bs_top_plan.specs.declared.status.Status.{Status}
 use Rattle.bs_top_plan.specs.Plan.{Plan, end, ◌>>=◌}
@@ -33,20 +33,20 @@ use Rattle.bs_top.specs.Work.{Work, to_run, to_audit, to_dump, to_demo, to_wave,
 -- the plan of a job as the notes see it: the same files and the same work, and the notes on what is refused
 abbrev pub looked_of : Job → Plan NoteCase Work
 looked_of (Run job) = do
-  crashed ← crashed_looked (run_names job) job.dump
-  end (to_run (budgets_of job) crashed)
+  crash_files ← crash_files_looked (run_names job) job.dump
+  end (to_run (budgets_of job) crash_files)
 looked_of (Audit job) = do
-  claimed ← claimed_looked (audit_names job) job.dump job.report
-  end (to_audit claimed)
+  audit_files ← audit_files_looked (audit_names job) job.dump job.report
+  end (to_audit audit_files)
 looked_of (Moment job) = do
-  placed ← placed_looked (dump_names job) job.run job.cycle
-  end (to_dump placed)
+  moment_files ← moment_files_looked (dump_names job) job.run job.cycle
+  end (to_dump moment_files)
 looked_of (Demo number) = do
-  placed ← demo_looked number
-  end (to_demo number placed)
+  moment_files ← demo_looked number
+  end (to_demo number moment_files)
 looked_of (Wave job) = do
-  claimed ← drawn_looked (audit_names job) job.dump job.report
-  end (to_wave claimed)
+  audit_files ← drawn_looked (audit_names job) job.dump job.report
+  end (to_wave audit_files)
 looked_of (Search job) = do
   target ← target_looked job.netlist job.state job.cycles
   end (to_reach job.conflicts target)
@@ -64,10 +64,10 @@ paths_of (Search j) = record { netlist = j.netlist; signature = []; stimulus = [
 
 -- The text is a report's, and the note tells its stop, where it is not at reset; where no candidate of the first step is hit, it tells
 -- what the recorded runs show of the dump.
-pub record RunSaid (crashed : Crashed) (text : List ℕ) (note : Note) : Type 0 where
+pub record RunSaid (crash_files : CrashFiles) (text : List ℕ) (note : Note) : Type 0 where
   pub report : Report
   pub written : text ≡ report_text report
-  pub says : DueText (run_text (recording_in crashed.setup) crashed.dump crashed.setup.runs (length report.steps) report.stop) note
+  pub says : DueText (run_text (recording_in crash_files.setup) crash_files.dump crash_files.setup.runs (length report.steps) report.stop) note
 
 abbrev pub is_rejected : Option Part → Bool
 is_rejected None = false
@@ -98,11 +98,11 @@ pub record ReachSaid (text : List ℕ) (note : Note) : Type 0 where
 
 -- what is said of work, by its text
 abbrev pub WorkSaid : Work → List ℕ → Note → Type 0
-WorkSaid (to_run budgets crashed) text note = RunSaid crashed text note
-WorkSaid (to_audit claimed) text note = AuditSaid text note
-WorkSaid (to_dump placed) text note = note ≡ Silent
-WorkSaid (to_demo number placed) text note = note ≡ Silent
-WorkSaid (to_wave claimed) text note = DrawSaid claimed.crashed.setup.raw claimed.report text note
+WorkSaid (to_run budgets crash_files) text note = RunSaid crash_files text note
+WorkSaid (to_audit audit_files) text note = AuditSaid text note
+WorkSaid (to_dump moment_files) text note = note ≡ Silent
+WorkSaid (to_demo number moment_files) text note = note ≡ Silent
+WorkSaid (to_wave audit_files) text note = DrawSaid audit_files.crash_files.setup.raw audit_files.report text note
 WorkSaid (to_reach conflicts target) text note = ReachSaid text note
 
 -- ---- answers

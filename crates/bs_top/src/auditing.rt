@@ -4,7 +4,7 @@ ghost use Rattle.bs_top_answer.specs.Endings.{rejected_text_if};
 ghost use Rattle.bs_top_answer.specs.Note.{DueText};
 ghost use Rattle.bs_top_answer.specs.Prepared.{PreparedNoted};
 ghost use Rattle.bs_audit.specs.Finding.{part_of};
-ghost use Rattle.bs_top_files.specs.Ready.{claimed_in};
+ghost use Rattle.bs_top_files.specs.Ready.{audit_files_in};
 ghost use Rattle.bs_top_files.specs.Refusals.{CheckSays};
 ghost use Rattle.bs_top_words.specs.Job.{Audit as AuditWords};
 ghost use Rattle.bs_top.specs.Work.{plan_of, to_audit};
@@ -22,8 +22,8 @@ use bs_bits::{end_line, push_number, push_piece};
 use bs_log::Why;
 use bs_outside::{NoMemory, Shelf};
 use bs_report_good::Part;
-use bs_top_answer::{Answer, Note, rejected_said, stop_answer};
-use bs_top_files::{Claimed, FileNames, load_claimed};
+use bs_top_answer::{Note, Response, rejected_said, stop_answer};
+use bs_top_files::{AuditFiles, FileNames, load_audit_files};
 use bs_top_plan::{Reply, Status};
 use bs_top_words::AuditJob;
 use std::alloc::Global;
@@ -121,11 +121,11 @@ pub fn finding_status(finding: Finding) -> Status
 }
 
 /// What an audit finds of a report.
-pub fn find(alloc: Global, claimed: &Claimed) -> Result<Finding, NoMemory>
-    ensures { IfOk result (λ finding. Finds (crash_of (recording_in (claimed_in claimed.now).crashed.setup) claimed.now.crashed.dump) claimed.now.report (part_of finding)) }
+pub fn find(alloc: Global, audit_files: &AuditFiles) -> Result<Finding, NoMemory>
+    ensures { IfOk result (λ finding. Finds (crash_of (recording_in (audit_files_in audit_files.now).crash_files.setup) audit_files.now.crash_files.dump) audit_files.now.report (part_of finding)) }
 {
-    let crashed = &claimed.crashed;
-    let setup = &crashed.setup;
+    let crash_files = &audit_files.crash_files;
+    let setup = &crash_files.setup;
     let _order = setup.net.order();
     let _count = setup.runs.count();
     let _depth = setup.choice.depth();
@@ -134,8 +134,8 @@ pub fn find(alloc: Global, claimed: &Claimed) -> Result<Finding, NoMemory>
         &setup.net,
         &setup.choice,
         &setup.runs,
-        &crashed.dump,
-        &claimed.report,
+        &crash_files.dump,
+        &audit_files.report,
     )
 }
 
@@ -157,7 +157,7 @@ fn is_rejected(finding: Finding) -> bool
 }
 
 /// The answer for what an audit finds.
-fn finding_answer(alloc: Global, finding: Finding) -> Result<Answer, NoMemory>
+fn finding_answer(alloc: Global, finding: Finding) -> Result<Response, NoMemory>
     ensures status { IfOk result (λ answer. answer.reply.status ≡ finding_status (part_of finding)) }
     ensures text { IfOk result (λ answer. answer.reply.text.items ≡ finding_text (part_of finding)) }
     ensures note { IfOk result (λ answer. DueText (rejected_text_if (is_rejected (part_of finding))) answer.note) }
@@ -165,35 +165,39 @@ fn finding_answer(alloc: Global, finding: Finding) -> Result<Answer, NoMemory>
     let text = finding_text(alloc, finding)?;
     let note = finding_said(alloc, finding);
     let status = finding_status(finding);
-    Ok(Answer {
+    Ok(Response {
         reply: Reply { status, text },
         note,
     })
 }
 
 /// The answer for a report that stays.
-fn audit_answer(alloc: Global, claimed: &Claimed) -> Result<Answer, NoMemory>
-    ensures done { IfOk result (λ answer. finishes (to_audit (claimed_in claimed.now)) answer.reply.status answer.reply.text.items) }
-    ensures said { IfOk result (λ answer. WorkSaid (to_audit (claimed_in claimed.now)) answer.reply.text.items answer.note) }
+fn audit_answer(alloc: Global, audit_files: &AuditFiles) -> Result<Response, NoMemory>
+    ensures done { IfOk result (λ answer. finishes (to_audit (audit_files_in audit_files.now)) answer.reply.status answer.reply.text.items) }
+    ensures said { IfOk result (λ answer. WorkSaid (to_audit (audit_files_in audit_files.now)) answer.reply.text.items answer.note) }
 {
-    means_design(&claimed.crashed.setup.net);
-    match find(alloc, claimed) {
+    means_design(&audit_files.crash_files.setup.net);
+    match find(alloc, audit_files) {
         Ok(finding) => finding_answer(alloc, finding),
         Err(want) => Err(want),
     }
 }
 
 /// The answer for a report.
-fn found(alloc: Global, claimed: Claimed) -> Result<Answer, NoMemory>
-    ensures done { IfOk result (λ answer. finishes (to_audit (claimed_in claimed)) answer.reply.status answer.reply.text.items) }
-    ensures said { IfOk result (λ answer. WorkSaid (to_audit (claimed_in claimed)) answer.reply.text.items answer.note) }
+fn found(alloc: Global, audit_files: AuditFiles) -> Result<Response, NoMemory>
+    ensures done { IfOk result (λ answer. finishes (to_audit (audit_files_in audit_files)) answer.reply.status answer.reply.text.items) }
+    ensures said { IfOk result (λ answer. WorkSaid (to_audit (audit_files_in audit_files)) answer.reply.text.items answer.note) }
 {
-    let answer = audit_answer(alloc, &claimed);
+    let answer = audit_answer(alloc, &audit_files);
     answer
 }
 
 /// The answer of the command.
-pub fn audit<S: Shelf>(alloc: Global, shelf: &mut S, job: &AuditJob<'_>) -> Result<Answer, NoMemory>
+pub fn audit<S: Shelf>(
+    alloc: Global,
+    shelf: &mut S,
+    job: &AuditJob<'_>,
+) -> Result<Response, NoMemory>
     ensures { PreparedNoted CheckSays finishes (JobSaid (AuditWords (audit_job job.now))) S.held S.faults S.leads shelf.old shelf.new
         (Some (plan_of (AuditWords (audit_job job.now)))) result }
 {
@@ -202,8 +206,8 @@ pub fn audit<S: Shelf>(alloc: Global, shelf: &mut S, job: &AuditJob<'_>) -> Resu
         signature: job.signature,
         stimulus: job.stimulus,
     };
-    match load_claimed(alloc, shelf, &names, job.dump, job.report) {
-        Ok(claimed) => found(alloc, claimed),
+    match load_audit_files(alloc, shelf, &names, job.dump, job.report) {
+        Ok(audit_files) => found(alloc, audit_files),
         Err(stop) => stop_answer(alloc, &audit_paths(job), shelf.reason(), stop),
     }
 }

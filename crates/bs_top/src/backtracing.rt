@@ -4,7 +4,7 @@ ghost use Rattle.bs_top_answer.specs.Endings.{run_text};
 ghost use Rattle.bs_top_answer.specs.Note.{DueText};
 ghost use Rattle.bs_top_answer.specs.Prepared.{PreparedNoted};
 ghost use Rattle.bs_loop.specs.Budget.{IsBudget};
-ghost use Rattle.bs_top_files.specs.Ready.{crashed_in, setup_in};
+ghost use Rattle.bs_top_files.specs.Ready.{crash_files_in, setup_in};
 ghost use Rattle.bs_top_files.specs.Refusals.{CheckSays};
 ghost use Rattle.bs_top_words.specs.Job.{Run as RunWords};
 ghost use Rattle.bs_top.specs.Work.{budgets_of, plan_of, to_run};
@@ -24,8 +24,8 @@ use bs_outside::{NoMemory, Shelf};
 use bs_preimage::Preimage;
 use bs_report::{Budgets, Report, Stop};
 use bs_scan::Dump;
-use bs_top_answer::{Answer, run_said, stop_answer};
-use bs_top_files::{Crashed, FileNames, Setup, load_crashed};
+use bs_top_answer::{Response, run_said, stop_answer};
+use bs_top_files::{CrashFiles, FileNames, Setup, load_crash_files};
 use bs_top_plan::{Reply, Status};
 use bs_top_words::RunJob;
 use std::alloc::Global;
@@ -122,41 +122,41 @@ fn report_answer(
     alloc: Global,
     chip: &mut Chip<'_>,
     report: &Report,
-    crashed: &Crashed,
-) -> Result<Answer, NoMemory>
+    crash_files: &CrashFiles,
+) -> Result<Response, NoMemory>
     requires trace { length report.now.states ≡ length report.now.inputs + 1 }
-    requires dump { length crashed.now.dump.state ≡ length chip.old.recording.circuit.flops }
+    requires dump { length crash_files.now.dump.state ≡ length chip.old.recording.circuit.flops }
     ensures status { IfOk result (λ answer. answer.reply.status ≡ stop_status report.now.stop) }
     ensures text { IfOk result (λ answer. answer.reply.text.items ≡ report_text report.now) }
-    ensures note { IfOk result (λ answer. DueText (run_text chip.old.recording crashed.now.dump crashed.now.setup.runs (length report.now.steps) report.now.stop) answer.note) }
+    ensures note { IfOk result (λ answer. DueText (run_text chip.old.recording crash_files.now.dump crash_files.now.setup.runs (length report.now.steps) report.now.stop) answer.note) }
 {
     let reply = written(alloc, report)?;
     let steps = report.steps.len() as u64;
     let note = run_said(
         alloc,
         chip,
-        &crashed.dump,
-        &crashed.setup.runs,
+        &crash_files.dump,
+        &crash_files.setup.runs,
         steps,
         report.stop,
     );
-    Ok(Answer { reply, note })
+    Ok(Response { reply, note })
 }
 
 /// The same for a report that nobody needs behind it.
-fn told(
+fn answer_of(
     alloc: Global,
     chip: &mut Chip<'_>,
     report: Report,
-    crashed: &Crashed,
-) -> Result<Answer, NoMemory>
+    crash_files: &CrashFiles,
+) -> Result<Response, NoMemory>
     requires trace { length report.states ≡ length report.inputs + 1 }
-    requires dump { length crashed.now.dump.state ≡ length chip.old.recording.circuit.flops }
+    requires dump { length crash_files.now.dump.state ≡ length chip.old.recording.circuit.flops }
     ensures status { IfOk result (λ answer. answer.reply.status ≡ stop_status report.stop) }
     ensures text { IfOk result (λ answer. answer.reply.text.items ≡ report_text report) }
-    ensures note { IfOk result (λ answer. DueText (run_text chip.old.recording crashed.now.dump crashed.now.setup.runs (length report.steps) report.stop) answer.note) }
+    ensures note { IfOk result (λ answer. DueText (run_text chip.old.recording crash_files.now.dump crash_files.now.setup.runs (length report.steps) report.stop) answer.note) }
 {
-    let answer = report_answer(alloc, chip, &report, crashed);
+    let answer = report_answer(alloc, chip, &report, crash_files);
     answer
 }
 
@@ -165,16 +165,16 @@ fn told(
 fn chip_answer(
     alloc: Global,
     chip: &mut Chip<'_>,
-    crashed: &Crashed,
+    crash_files: &CrashFiles,
     budgets: &Budgets,
-) -> Result<Answer, NoMemory>
-    requires chip { chip.old.recording ≡ recording_in (setup_in crashed.now.setup) }
+) -> Result<Response, NoMemory>
+    requires chip { chip.old.recording ≡ recording_in (setup_in crash_files.now.setup) }
     requires budgets { IsBudget budgets.now }
-    ensures done { IfOk result (λ answer. replies (to_run budgets.now (crashed_in crashed.now)) answer.reply.status answer.reply.text.items) }
-    ensures said { IfOk result (λ answer. WorkSaid (to_run budgets.now (crashed_in crashed.now)) answer.reply.text.items answer.note) }
+    ensures done { IfOk result (λ answer. replies (to_run budgets.now (crash_files_in crash_files.now)) answer.reply.status answer.reply.text.items) }
+    ensures said { IfOk result (λ answer. WorkSaid (to_run budgets.now (crash_files_in crash_files.now)) answer.reply.text.items answer.note) }
 {
-    match trace(alloc, chip, &crashed.setup, &crashed.dump, budgets) {
-        Ok(report) => told(alloc, chip, report, crashed),
+    match trace(alloc, chip, &crash_files.setup, &crash_files.dump, budgets) {
+        Ok(report) => answer_of(alloc, chip, report, crash_files),
         Err(want) => Err(want),
     }
 }
@@ -183,49 +183,53 @@ fn chip_answer(
 fn answer_on(
     alloc: Global,
     chip: Chip<'_>,
-    crashed: &Crashed,
+    crash_files: &CrashFiles,
     budgets: &Budgets,
-) -> Result<Answer, NoMemory>
-    requires chip { chip.recording ≡ recording_in (setup_in crashed.now.setup) }
+) -> Result<Response, NoMemory>
+    requires chip { chip.recording ≡ recording_in (setup_in crash_files.now.setup) }
     requires budgets { IsBudget budgets.now }
-    ensures done { IfOk result (λ answer. replies (to_run budgets.now (crashed_in crashed.now)) answer.reply.status answer.reply.text.items) }
-    ensures said { IfOk result (λ answer. WorkSaid (to_run budgets.now (crashed_in crashed.now)) answer.reply.text.items answer.note) }
+    ensures done { IfOk result (λ answer. replies (to_run budgets.now (crash_files_in crash_files.now)) answer.reply.status answer.reply.text.items) }
+    ensures said { IfOk result (λ answer. WorkSaid (to_run budgets.now (crash_files_in crash_files.now)) answer.reply.text.items answer.note) }
 {
     let mut chip = chip;
-    let answer = chip_answer(alloc, &mut chip, crashed, budgets);
+    let answer = chip_answer(alloc, &mut chip, crash_files, budgets);
     answer
 }
 
 /// The answer for a dump that stays.
-fn run_answer(alloc: Global, crashed: &Crashed, budgets: &Budgets) -> Result<Answer, NoMemory>
+fn run_answer(
+    alloc: Global,
+    crash_files: &CrashFiles,
+    budgets: &Budgets,
+) -> Result<Response, NoMemory>
     requires { IsBudget budgets.now }
-    ensures done { IfOk result (λ answer. finishes (to_run budgets.now (crashed_in crashed.now)) answer.reply.status answer.reply.text.items) }
-    ensures said { IfOk result (λ answer. WorkSaid (to_run budgets.now (crashed_in crashed.now)) answer.reply.text.items answer.note) }
+    ensures done { IfOk result (λ answer. finishes (to_run budgets.now (crash_files_in crash_files.now)) answer.reply.status answer.reply.text.items) }
+    ensures said { IfOk result (λ answer. WorkSaid (to_run budgets.now (crash_files_in crash_files.now)) answer.reply.text.items answer.note) }
 {
-    means_design(&crashed.setup.net);
+    means_design(&crash_files.setup.net);
     match Chip::new(
         alloc,
-        &crashed.setup.net,
-        &crashed.setup.choice,
-        &crashed.setup.runs,
+        &crash_files.setup.net,
+        &crash_files.setup.choice,
+        &crash_files.setup.runs,
     ) {
-        Ok(chip) => answer_on(alloc, chip, crashed, budgets),
+        Ok(chip) => answer_on(alloc, chip, crash_files, budgets),
         Err(want) => Err(want),
     }
 }
 
 /// The answer for a dump.
-fn reported(alloc: Global, crashed: Crashed, budgets: &Budgets) -> Result<Answer, NoMemory>
+fn reported(alloc: Global, crash_files: CrashFiles, budgets: &Budgets) -> Result<Response, NoMemory>
     requires { IsBudget budgets.now }
-    ensures done { IfOk result (λ answer. finishes (to_run budgets.now (crashed_in crashed)) answer.reply.status answer.reply.text.items) }
-    ensures said { IfOk result (λ answer. WorkSaid (to_run budgets.now (crashed_in crashed)) answer.reply.text.items answer.note) }
+    ensures done { IfOk result (λ answer. finishes (to_run budgets.now (crash_files_in crash_files)) answer.reply.status answer.reply.text.items) }
+    ensures said { IfOk result (λ answer. WorkSaid (to_run budgets.now (crash_files_in crash_files)) answer.reply.text.items answer.note) }
 {
-    let answer = run_answer(alloc, &crashed, budgets);
+    let answer = run_answer(alloc, &crash_files, budgets);
     answer
 }
 
 /// The answer of the command.
-pub fn run<S: Shelf>(alloc: Global, shelf: &mut S, job: &RunJob<'_>) -> Result<Answer, NoMemory>
+pub fn run<S: Shelf>(alloc: Global, shelf: &mut S, job: &RunJob<'_>) -> Result<Response, NoMemory>
     requires { IsBudget (budgets_of (run_job job.now)) }
     ensures { PreparedNoted CheckSays finishes (JobSaid (RunWords (run_job job.now))) S.held S.faults S.leads shelf.old shelf.new
         (Some (plan_of (RunWords (run_job job.now)))) result }
@@ -240,8 +244,8 @@ pub fn run<S: Shelf>(alloc: Global, shelf: &mut S, job: &RunJob<'_>) -> Result<A
         candidates: job.candidates,
         conflicts: job.conflicts,
     };
-    match load_crashed(alloc, shelf, &names, job.dump) {
-        Ok(crashed) => reported(alloc, crashed, &budgets),
+    match load_crash_files(alloc, shelf, &names, job.dump) {
+        Ok(crash_files) => reported(alloc, crash_files, &budgets),
         Err(stop) => stop_answer(alloc, &run_paths(job), shelf.reason(), stop),
     }
 }

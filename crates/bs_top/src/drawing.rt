@@ -5,7 +5,7 @@ ghost use Rattle.bs_top_answer.specs.Endings.{rejected_text_if};
 ghost use Rattle.bs_top_answer.specs.Note.{DueText};
 ghost use Rattle.bs_top_answer.specs.Prepared.{PreparedNoted};
 ghost use Rattle.bs_audit.specs.Finding.{part_of};
-ghost use Rattle.bs_top_files.specs.Ready.{claimed_in};
+ghost use Rattle.bs_top_files.specs.Ready.{audit_files_in};
 ghost use Rattle.bs_top_files.specs.Refusals.{CheckSays};
 ghost use Rattle.bs_top_words.specs.Job.{Wave as WaveWords};
 ghost use Rattle.bs_wave.specs.Wave.{IsWayOf};
@@ -22,8 +22,8 @@ use crate::design::means_design;
 use crate::names::audit_paths;
 use bs_audit::Finding;
 use bs_outside::{NoMemory, Shelf};
-use bs_top_answer::{Answer, stop_answer};
-use bs_top_files::{Claimed, FileNames, load_drawn};
+use bs_top_answer::{Response, stop_answer};
+use bs_top_files::{AuditFiles, FileNames, load_drawn};
 use bs_top_plan::Reply;
 use bs_top_words::AuditJob;
 use bs_wave::Wave;
@@ -47,14 +47,14 @@ fn text_of(alloc: Global, wave: &Wave) -> Result<Vec<u8>, NoMemory>
 }
 
 /// The waveform of a report's trace.
-fn trace_wave(alloc: Global, claimed: &Claimed) -> Result<Vec<u8>, NoMemory>
-    requires { IsWayOf (circuit claimed.now.crashed.setup.net) claimed.now.report.states claimed.now.report.inputs }
-    ensures { IfOk result (λ text. IsTraceWave claimed.now.crashed.setup.net.raw claimed.now.report text.items) }
+fn trace_wave(alloc: Global, audit_files: &AuditFiles) -> Result<Vec<u8>, NoMemory>
+    requires { IsWayOf (circuit audit_files.now.crash_files.setup.net) audit_files.now.report.states audit_files.now.report.inputs }
+    ensures { IfOk result (λ text. IsTraceWave audit_files.now.crash_files.setup.net.raw audit_files.now.report text.items) }
 {
-    let report = &claimed.report;
+    let report = &audit_files.report;
     match Wave::of(
         alloc,
-        &claimed.crashed.setup.net,
+        &audit_files.crash_files.setup.net,
         &report.states,
         &report.inputs,
     ) {
@@ -64,55 +64,63 @@ fn trace_wave(alloc: Global, claimed: &Claimed) -> Result<Vec<u8>, NoMemory>
 }
 
 /// What is written for what an audit finds.
-fn drawing(alloc: Global, claimed: &Claimed, finding: Finding) -> Result<Vec<u8>, NoMemory>
-    requires { part_of finding ≡ None → IsWayOf (circuit claimed.now.crashed.setup.net) claimed.now.report.states claimed.now.report.inputs }
-    ensures { IfOk result (λ text. IsDrawn claimed.now.crashed.setup.net.raw claimed.now.report (part_of finding) text.items) }
+fn drawing(alloc: Global, audit_files: &AuditFiles, finding: Finding) -> Result<Vec<u8>, NoMemory>
+    requires { part_of finding ≡ None → IsWayOf (circuit audit_files.now.crash_files.setup.net) audit_files.now.report.states audit_files.now.report.inputs }
+    ensures { IfOk result (λ text. IsDrawn audit_files.now.crash_files.setup.net.raw audit_files.now.report (part_of finding) text.items) }
 {
     match finding {
-        Finding::Accepted => trace_wave(alloc, claimed),
+        Finding::Accepted => trace_wave(alloc, audit_files),
         Finding::Rejected(part) => rejected(alloc, part),
     }
 }
 
 /// The answer for what an audit finds.
-fn drawing_answer(alloc: Global, claimed: &Claimed, finding: Finding) -> Result<Answer, NoMemory>
-    requires { part_of finding ≡ None → IsWayOf (circuit claimed.now.crashed.setup.net) claimed.now.report.states claimed.now.report.inputs }
+fn drawing_answer(
+    alloc: Global,
+    audit_files: &AuditFiles,
+    finding: Finding,
+) -> Result<Response, NoMemory>
+    requires { part_of finding ≡ None → IsWayOf (circuit audit_files.now.crash_files.setup.net) audit_files.now.report.states audit_files.now.report.inputs }
     ensures status { IfOk result (λ answer. answer.reply.status ≡ finding_status (part_of finding)) }
-    ensures text { IfOk result (λ answer. IsDrawn claimed.now.crashed.setup.net.raw claimed.now.report (part_of finding) answer.reply.text.items) }
+    ensures text { IfOk result (λ answer. IsDrawn audit_files.now.crash_files.setup.net.raw audit_files.now.report (part_of finding) answer.reply.text.items) }
     ensures note { IfOk result (λ answer. DueText (rejected_text_if (is_rejected (part_of finding))) answer.note) }
 {
-    let text = drawing(alloc, claimed, finding)?;
+    let text = drawing(alloc, audit_files, finding)?;
     let note = finding_said(alloc, finding);
     let status = finding_status(finding);
-    Ok(Answer {
+    Ok(Response {
         reply: Reply { status, text },
         note,
     })
 }
 
 /// The answer for a report that stays.
-fn wave_answer(alloc: Global, claimed: &Claimed) -> Result<Answer, NoMemory>
-    ensures done { IfOk result (λ answer. finishes (to_wave (claimed_in claimed.now)) answer.reply.status answer.reply.text.items) }
-    ensures said { IfOk result (λ answer. WorkSaid (to_wave (claimed_in claimed.now)) answer.reply.text.items answer.note) }
+fn wave_answer(alloc: Global, audit_files: &AuditFiles) -> Result<Response, NoMemory>
+    ensures done { IfOk result (λ answer. finishes (to_wave (audit_files_in audit_files.now)) answer.reply.status answer.reply.text.items) }
+    ensures said { IfOk result (λ answer. WorkSaid (to_wave (audit_files_in audit_files.now)) answer.reply.text.items answer.note) }
 {
-    means_design(&claimed.crashed.setup.net);
-    match find(alloc, claimed) {
-        Ok(finding) => drawing_answer(alloc, claimed, finding),
+    means_design(&audit_files.crash_files.setup.net);
+    match find(alloc, audit_files) {
+        Ok(finding) => drawing_answer(alloc, audit_files, finding),
         Err(want) => Err(want),
     }
 }
 
 /// The answer for a report.
-fn drawn(alloc: Global, claimed: Claimed) -> Result<Answer, NoMemory>
-    ensures done { IfOk result (λ answer. finishes (to_wave (claimed_in claimed)) answer.reply.status answer.reply.text.items) }
-    ensures said { IfOk result (λ answer. WorkSaid (to_wave (claimed_in claimed)) answer.reply.text.items answer.note) }
+fn drawn(alloc: Global, audit_files: AuditFiles) -> Result<Response, NoMemory>
+    ensures done { IfOk result (λ answer. finishes (to_wave (audit_files_in audit_files)) answer.reply.status answer.reply.text.items) }
+    ensures said { IfOk result (λ answer. WorkSaid (to_wave (audit_files_in audit_files)) answer.reply.text.items answer.note) }
 {
-    let answer = wave_answer(alloc, &claimed);
+    let answer = wave_answer(alloc, &audit_files);
     answer
 }
 
 /// The answer of the command.
-pub fn wave<S: Shelf>(alloc: Global, shelf: &mut S, job: &AuditJob<'_>) -> Result<Answer, NoMemory>
+pub fn wave<S: Shelf>(
+    alloc: Global,
+    shelf: &mut S,
+    job: &AuditJob<'_>,
+) -> Result<Response, NoMemory>
     ensures { PreparedNoted CheckSays finishes (JobSaid (WaveWords (audit_job job.now))) S.held S.faults S.leads shelf.old shelf.new
         (Some (plan_of (WaveWords (audit_job job.now)))) result }
 {
@@ -122,7 +130,7 @@ pub fn wave<S: Shelf>(alloc: Global, shelf: &mut S, job: &AuditJob<'_>) -> Resul
         stimulus: job.stimulus,
     };
     match load_drawn(alloc, shelf, &names, job.dump, job.report) {
-        Ok(claimed) => drawn(alloc, claimed),
+        Ok(audit_files) => drawn(alloc, audit_files),
         Err(stop) => stop_answer(alloc, &audit_paths(job), shelf.reason(), stop),
     }
 }

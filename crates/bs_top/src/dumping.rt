@@ -1,7 +1,7 @@
 //! The command `dump`: the dump of a moment of the recorded runs.
 ghost use Rattle.std.specs.Prelude.{◌≡◌, IfOk, Some};
 ghost use Rattle.bs_top_answer.specs.Prepared.{PreparedNoted};
-ghost use Rattle.bs_top_files.specs.Ready.{names_in, placed_in};
+ghost use Rattle.bs_top_files.specs.Ready.{names_in, moment_files_in};
 ghost use Rattle.bs_top_files.specs.Refusals.{CheckSays};
 ghost use Rattle.bs_top_words.specs.Job.{Dump as DumpWords};
 ghost use Rattle.bs_top.specs.Work.{dump_names, plan_of, to_dump};
@@ -18,8 +18,8 @@ use crate::names::dump_paths;
 use bs_chip::Chip;
 use bs_outside::{NoMemory, Shelf};
 use bs_scan::Dump;
-use bs_top_answer::{Answer, Note, stop_answer};
-use bs_top_files::{FileNames, Placed, load_placed};
+use bs_top_answer::{Note, Response, stop_answer};
+use bs_top_files::{FileNames, MomentFiles, load_moment_files};
 use bs_top_plan::{Reply, Status};
 use bs_top_words::DumpJob;
 use std::alloc::Global;
@@ -35,41 +35,46 @@ fn dumped_by(alloc: Global, chip: Chip<'_>, run: u32, cycle: u32) -> Result<Dump
 }
 
 /// What a chip with the runs of a job dumps at its moment.
-fn dumped_at(alloc: Global, placed: &Placed) -> Result<Dump, NoMemory>
-    ensures { IfOk result (λ dump. dump ≡ dump_at (recording_in (placed_in placed.now).setup) (placed_in placed.now).moment) }
+fn dumped_at(alloc: Global, moment_files: &MomentFiles) -> Result<Dump, NoMemory>
+    ensures { IfOk result (λ dump. dump ≡ dump_at (recording_in (moment_files_in moment_files.now).setup) (moment_files_in moment_files.now).moment) }
 {
-    let setup = &placed.setup;
+    let setup = &moment_files.setup;
     match Chip::new(alloc, &setup.net, &setup.choice, &setup.runs) {
-        Ok(chip) => dumped_by(alloc, chip, placed.moment.run, placed.moment.cycle),
+        Ok(chip) => dumped_by(
+            alloc,
+            chip,
+            moment_files.moment.run,
+            moment_files.moment.cycle,
+        ),
         Err(want) => Err(want),
     }
 }
 
 /// The dump of a moment.
-pub fn dump_of(alloc: Global, placed: &Placed) -> Result<Dump, NoMemory>
-    ensures dump { IfOk result (λ dump. dump ≡ dump_at (recording_in (placed_in placed.now).setup) (placed_in placed.now).moment) }
-    ensures fits { IfOk result (DumpFits (circuit placed.now.setup.net) placed.now.setup.choice) }
+pub fn dump_of(alloc: Global, moment_files: &MomentFiles) -> Result<Dump, NoMemory>
+    ensures dump { IfOk result (λ dump. dump ≡ dump_at (recording_in (moment_files_in moment_files.now).setup) (moment_files_in moment_files.now).moment) }
+    ensures fits { IfOk result (DumpFits (circuit moment_files.now.setup.net) moment_files.now.setup.choice) }
 {
-    let _depth = placed.setup.choice.depth();
-    let dump = dumped_at(alloc, placed)?;
+    let _depth = moment_files.setup.choice.depth();
+    let dump = dumped_at(alloc, moment_files)?;
     Ok(dump)
 }
 
 /// The text of that dump.
-fn dump_text(alloc: Global, placed: &Placed) -> Result<Vec<u8>, NoMemory>
-    ensures { IfOk result (λ text. replies (to_dump (placed_in placed.now)) Status.Done text.items) }
+fn dump_text(alloc: Global, moment_files: &MomentFiles) -> Result<Vec<u8>, NoMemory>
+    ensures { IfOk result (λ text. replies (to_dump (moment_files_in moment_files.now)) Status.Done text.items) }
 {
-    let dump = dump_of(alloc, placed)?;
+    let dump = dump_of(alloc, moment_files)?;
     let mut text = Vec::new(alloc);
     dump.text(&mut text)?;
     Ok(text)
 }
 
 /// What is written for a moment that stays.
-fn dump_reply(alloc: Global, placed: &Placed) -> Result<Reply, NoMemory>
-    ensures { IfOk result (λ answer. replies (to_dump (placed_in placed.now)) answer.status answer.text.items) }
+fn dump_reply(alloc: Global, moment_files: &MomentFiles) -> Result<Reply, NoMemory>
+    ensures { IfOk result (λ answer. replies (to_dump (moment_files_in moment_files.now)) answer.status answer.text.items) }
 {
-    let text = dump_text(alloc, placed)?;
+    let text = dump_text(alloc, moment_files)?;
     Ok(Reply {
         status: Status::Done,
         text,
@@ -77,29 +82,29 @@ fn dump_reply(alloc: Global, placed: &Placed) -> Result<Reply, NoMemory>
 }
 
 /// The answer for a moment, on which there is no note.
-fn dump_answer(alloc: Global, placed: &Placed) -> Result<Answer, NoMemory>
-    ensures done { IfOk result (λ answer. finishes (to_dump (placed_in placed.now)) answer.reply.status answer.reply.text.items) }
-    ensures said { IfOk result (λ answer. WorkSaid (to_dump (placed_in placed.now)) answer.reply.text.items answer.note) }
+fn dump_answer(alloc: Global, moment_files: &MomentFiles) -> Result<Response, NoMemory>
+    ensures done { IfOk result (λ answer. finishes (to_dump (moment_files_in moment_files.now)) answer.reply.status answer.reply.text.items) }
+    ensures said { IfOk result (λ answer. WorkSaid (to_dump (moment_files_in moment_files.now)) answer.reply.text.items answer.note) }
 {
-    means_design(&placed.setup.net);
-    let reply = dump_reply(alloc, placed)?;
-    Ok(Answer {
+    means_design(&moment_files.setup.net);
+    let reply = dump_reply(alloc, moment_files)?;
+    Ok(Response {
         reply,
         note: Note::Silent,
     })
 }
 
 /// The same of a moment that nobody needs behind it.
-fn dumped(alloc: Global, placed: Placed) -> Result<Answer, NoMemory>
-    ensures done { IfOk result (λ answer. finishes (to_dump (placed_in placed)) answer.reply.status answer.reply.text.items) }
-    ensures said { IfOk result (λ answer. WorkSaid (to_dump (placed_in placed)) answer.reply.text.items answer.note) }
+fn dumped(alloc: Global, moment_files: MomentFiles) -> Result<Response, NoMemory>
+    ensures done { IfOk result (λ answer. finishes (to_dump (moment_files_in moment_files)) answer.reply.status answer.reply.text.items) }
+    ensures said { IfOk result (λ answer. WorkSaid (to_dump (moment_files_in moment_files)) answer.reply.text.items answer.note) }
 {
-    let answer = dump_answer(alloc, &placed);
+    let answer = dump_answer(alloc, &moment_files);
     answer
 }
 
 /// The answer of the command.
-pub fn dump<S: Shelf>(alloc: Global, shelf: &mut S, job: &DumpJob<'_>) -> Result<Answer, NoMemory>
+pub fn dump<S: Shelf>(alloc: Global, shelf: &mut S, job: &DumpJob<'_>) -> Result<Response, NoMemory>
     ensures { PreparedNoted CheckSays finishes (JobSaid (DumpWords (dump_job job.now))) S.held S.faults S.leads shelf.old shelf.new
         (Some (plan_of (DumpWords (dump_job job.now)))) result }
 {
@@ -108,8 +113,8 @@ pub fn dump<S: Shelf>(alloc: Global, shelf: &mut S, job: &DumpJob<'_>) -> Result
         signature: job.signature,
         stimulus: job.stimulus,
     };
-    match load_placed(alloc, shelf, &names, job.run, job.cycle) {
-        Ok(placed) => dumped(alloc, placed),
+    match load_moment_files(alloc, shelf, &names, job.run, job.cycle) {
+        Ok(moment_files) => dumped(alloc, moment_files),
         Err(stop) => stop_answer(alloc, &dump_paths(job), shelf.reason(), stop),
     }
 }

@@ -1,20 +1,20 @@
 //! The generated texts, walked as the files of a job are.
 ghost use Rattle.std.specs.Prelude.{◌≡◌, IfOk, string_bytes};
 ghost use Rattle.bs_top_plan.specs.Walks.{WalksAlone};
-ghost use Rattle.bs_top_files.specs.Ready.{placed_in};
+ghost use Rattle.bs_top_files.specs.Ready.{moment_files_in};
 ghost use Rattle.bs_top_files.specs.Refusals.{CheckSays};
 ghost use Rattle.bs_gen.specs.Job.{netlist_for, signature_text, stimulus_for};
 ghost use Rattle.bs_outside.specs.Memory.{sure_files};
 ghost use Rattle.bs_top_files.specs.NoteCases.{NoteSays};
-ghost use Rattle.bs_top_plan.specs.Told.{lined, note_seen};
+ghost use Rattle.bs_top_plan.specs.Diagnostic.{lined, note_seen};
 ghost use Rattle.bs_top.specs.Demo.{demo_looked, demo_of};
 ghost use Rattle.bs_top.specs.Texts.{AreTexts};
 
 use crate::budgets::{DEMO_CYCLE, DEMO_RUN};
 use bs_gen::{GeneratedJob, make};
 use bs_outside::{NoMemory, SureShelf};
-use bs_top_files::{FileNames, Placed, load_placed};
-use bs_top_plan::{JobFault, Stop};
+use bs_top_files::{FileNames, MomentFiles, load_moment_files};
+use bs_top_plan::{JobFault, WalkStop};
 use std::alloc::{AllocError, Global};
 
 /// A text under a name.
@@ -65,10 +65,10 @@ fn shelf_of(alloc: Global, number: u64) -> Result<SureShelf, NoMemory>
 }
 
 /// What these texts make ready.
-fn load_from(alloc: Global, number: u64, shelf: SureShelf) -> Result<Placed, Stop>
+fn load_from(alloc: Global, number: u64, shelf: SureShelf) -> Result<MomentFiles, WalkStop>
     requires { AreTexts (sure_files shelf) (netlist_for number) signature_text (stimulus_for number) }
-    ensures line { WalksAlone CheckSays (demo_of number) placed_in (lined result) }
-    ensures note { WalksAlone NoteSays (demo_looked number) placed_in (note_seen result) }
+    ensures line { WalksAlone CheckSays (demo_of number) moment_files_in (lined result) }
+    ensures note { WalksAlone NoteSays (demo_looked number) moment_files_in (note_seen result) }
 {
     let mut shelf = shelf;
     let names = FileNames {
@@ -76,17 +76,17 @@ fn load_from(alloc: Global, number: u64, shelf: SureShelf) -> Result<Placed, Sto
         signature: "signature",
         stimulus: "stimulus",
     };
-    let placed = load_placed(alloc, &mut shelf, &names, DEMO_RUN, DEMO_CYCLE);
-    placed
+    let moment_files = load_moment_files(alloc, &mut shelf, &names, DEMO_RUN, DEMO_CYCLE);
+    moment_files
 }
 
 /// What the texts of the number make ready: a setup, and the moment whose dump is traced back. No shelf is asked.
-pub fn load_demo(alloc: Global, number: u64) -> Result<Placed, Stop>
-    ensures line { WalksAlone CheckSays (demo_of number) placed_in (lined result) }
-    ensures note { WalksAlone NoteSays (demo_looked number) placed_in (note_seen result) }
+pub fn load_demo(alloc: Global, number: u64) -> Result<MomentFiles, WalkStop>
+    ensures line { WalksAlone CheckSays (demo_of number) moment_files_in (lined result) }
+    ensures note { WalksAlone NoteSays (demo_looked number) moment_files_in (note_seen result) }
 {
     match shelf_of(alloc, number) {
         Ok(shelf) => load_from(alloc, number, shelf),
-        Err(_) => Err(Stop::Plain(JobFault::NoMemory)),
+        Err(_) => Err(WalkStop::Plain(JobFault::NoMemory)),
     }
 }

@@ -21,7 +21,7 @@ use bs_note_calls::Miss;
 use bs_outside::{NoMemory, Shelf};
 use bs_reach::{Outcome, Reach, bounded};
 use bs_target::{Target, load_target};
-use bs_top_answer::{Answer, miss_said, stop_answer};
+use bs_top_answer::{Response, miss_said, stop_answer};
 use bs_top_plan::{Reply, Status};
 use bs_top_words::ReachJob;
 use std::alloc::Global;
@@ -72,7 +72,7 @@ fn miss_of(outcome: Outcome) -> Option<Miss>
 }
 
 /// What is written for what a search gives, which stays, and the note on what it misses.
-fn search_answer(alloc: Global, reach: &Reach) -> Result<Answer, NoMemory>
+fn search_answer(alloc: Global, reach: &Reach) -> Result<Response, NoMemory>
     requires { HasStates reach.now.outcome reach.now }
     ensures status { IfOk result (λ answer. answer.reply.status ≡ reach_status reach.now.outcome) }
     ensures text { IfOk result (λ answer. answer.reply.text.items ≡ reach_text reach.now) }
@@ -80,11 +80,11 @@ fn search_answer(alloc: Global, reach: &Reach) -> Result<Answer, NoMemory>
 {
     let reply = written(alloc, reach)?;
     let note = miss_said(alloc, miss_of(reach.outcome));
-    Ok(Answer { reply, note })
+    Ok(Response { reply, note })
 }
 
 /// The same for what nobody needs behind it.
-fn told(alloc: Global, reach: Reach) -> Result<Answer, NoMemory>
+fn answer_of(alloc: Global, reach: Reach) -> Result<Response, NoMemory>
     requires { HasStates reach.outcome reach }
     ensures status { IfOk result (λ answer. answer.reply.status ≡ reach_status reach.outcome) }
     ensures text { IfOk result (λ answer. answer.reply.text.items ≡ reach_text reach) }
@@ -95,7 +95,7 @@ fn told(alloc: Global, reach: Reach) -> Result<Answer, NoMemory>
 }
 
 /// The answer for a state that stays.
-fn reach_answer(alloc: Global, target: &Target, conflicts: u64) -> Result<Answer, NoMemory>
+fn reach_answer(alloc: Global, target: &Target, conflicts: u64) -> Result<Response, NoMemory>
     requires cycles { target.now.cycles ≤ MAX_FRAMES }
     requires limit { 1 ≤ conflicts }
     ensures done { IfOk result (λ answer. finishes (to_reach conflicts (target_in target.now)) answer.reply.status answer.reply.text.items) }
@@ -103,13 +103,13 @@ fn reach_answer(alloc: Global, target: &Target, conflicts: u64) -> Result<Answer
 {
     means_design(&target.net);
     match search(alloc, target, conflicts) {
-        Ok(reach) => told(alloc, reach),
+        Ok(reach) => answer_of(alloc, reach),
         Err(want) => Err(want),
     }
 }
 
 /// The answer for a state.
-fn reached(alloc: Global, target: Target, conflicts: u64) -> Result<Answer, NoMemory>
+fn reached(alloc: Global, target: Target, conflicts: u64) -> Result<Response, NoMemory>
     requires cycles { target.cycles ≤ MAX_FRAMES }
     requires limit { 1 ≤ conflicts }
     ensures done { IfOk result (λ answer. finishes (to_reach conflicts (target_in target)) answer.reply.status answer.reply.text.items) }
@@ -120,7 +120,11 @@ fn reached(alloc: Global, target: Target, conflicts: u64) -> Result<Answer, NoMe
 }
 
 /// The answer of the command.
-pub fn reach<S: Shelf>(alloc: Global, shelf: &mut S, job: &ReachJob<'_>) -> Result<Answer, NoMemory>
+pub fn reach<S: Shelf>(
+    alloc: Global,
+    shelf: &mut S,
+    job: &ReachJob<'_>,
+) -> Result<Response, NoMemory>
     requires cycles { job.now.cycles ≤ MAX_FRAMES }
     requires limit { 1 ≤ job.now.conflicts }
     ensures { PreparedNoted CheckSays finishes (JobSaid (ReachWords (reach_job job.now))) S.held S.faults S.leads shelf.old shelf.new

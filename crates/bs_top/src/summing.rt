@@ -5,7 +5,7 @@ ghost use Rattle.bs_report.specs.declared.limits.TheConstants.{MAX_CANDIDATES, M
 ghost use Rattle.bs_scan.specs.Crash.{crash_of, DumpFits};
 ghost use Rattle.bs_top_files.specs.Entry.{recording_in};
 ghost use Rattle.bs_top_answer.specs.Prepared.{PreparesNoted};
-ghost use Rattle.bs_top_files.specs.Ready.{placed_in, setup_in};
+ghost use Rattle.bs_top_files.specs.Ready.{moment_files_in, setup_in};
 ghost use Rattle.bs_top_files.specs.Refusals.{CheckSays};
 ghost use Rattle.bs_top_words.specs.Job.{Demo as DemoWords};
 ghost use Rattle.bs_top.specs.Work.{plan_of, to_demo};
@@ -23,8 +23,8 @@ use crate::summary::summary_line;
 use bs_outside::NoMemory;
 use bs_report::{Budgets, Report};
 use bs_scan::Dump;
-use bs_top_answer::{Answer, Note, stop_answer};
-use bs_top_files::{Placed, Setup};
+use bs_top_answer::{Note, Response, stop_answer};
+use bs_top_files::{MomentFiles, Setup};
 use bs_top_plan::{Reply, Status};
 use std::alloc::Global;
 
@@ -55,20 +55,20 @@ fn traced_line(alloc: Global, number: u64, setup: &Setup, dump: &Dump) -> Result
 }
 
 /// The line of the backtrace of a moment's dump.
-fn summary_of(alloc: Global, number: u64, placed: &Placed) -> Result<Vec<u8>, NoMemory>
-    ensures { IfOk result (λ text. replies (to_demo number (placed_in placed.now)) Status.Done text.items) }
+fn summary_of(alloc: Global, number: u64, moment_files: &MomentFiles) -> Result<Vec<u8>, NoMemory>
+    ensures { IfOk result (λ text. replies (to_demo number (moment_files_in moment_files.now)) Status.Done text.items) }
 {
-    match dump_of(alloc, placed) {
-        Ok(dump) => traced_line(alloc, number, &placed.setup, &dump),
+    match dump_of(alloc, moment_files) {
+        Ok(dump) => traced_line(alloc, number, &moment_files.setup, &dump),
         Err(want) => Err(want),
     }
 }
 
 /// What is written for a generated job that stays.
-fn demo_reply(alloc: Global, number: u64, placed: &Placed) -> Result<Reply, NoMemory>
-    ensures { IfOk result (λ answer. replies (to_demo number (placed_in placed.now)) answer.status answer.text.items) }
+fn demo_reply(alloc: Global, number: u64, moment_files: &MomentFiles) -> Result<Reply, NoMemory>
+    ensures { IfOk result (λ answer. replies (to_demo number (moment_files_in moment_files.now)) answer.status answer.text.items) }
 {
-    let text = summary_of(alloc, number, placed)?;
+    let text = summary_of(alloc, number, moment_files)?;
     Ok(Reply {
         status: Status::Done,
         text,
@@ -76,33 +76,33 @@ fn demo_reply(alloc: Global, number: u64, placed: &Placed) -> Result<Reply, NoMe
 }
 
 /// The answer for a generated job, on which there is no note.
-fn demo_answer(alloc: Global, number: u64, placed: &Placed) -> Result<Answer, NoMemory>
-    ensures done { IfOk result (λ answer. finishes (to_demo number (placed_in placed.now)) answer.reply.status answer.reply.text.items) }
-    ensures said { IfOk result (λ answer. WorkSaid (to_demo number (placed_in placed.now)) answer.reply.text.items answer.note) }
+fn demo_answer(alloc: Global, number: u64, moment_files: &MomentFiles) -> Result<Response, NoMemory>
+    ensures done { IfOk result (λ answer. finishes (to_demo number (moment_files_in moment_files.now)) answer.reply.status answer.reply.text.items) }
+    ensures said { IfOk result (λ answer. WorkSaid (to_demo number (moment_files_in moment_files.now)) answer.reply.text.items answer.note) }
 {
-    means_design(&placed.setup.net);
-    let reply = demo_reply(alloc, number, placed)?;
-    Ok(Answer {
+    means_design(&moment_files.setup.net);
+    let reply = demo_reply(alloc, number, moment_files)?;
+    Ok(Response {
         reply,
         note: Note::Silent,
     })
 }
 
 /// The same of one that nobody needs behind it.
-fn summed(alloc: Global, number: u64, placed: Placed) -> Result<Answer, NoMemory>
-    ensures done { IfOk result (λ answer. finishes (to_demo number (placed_in placed)) answer.reply.status answer.reply.text.items) }
-    ensures said { IfOk result (λ answer. WorkSaid (to_demo number (placed_in placed)) answer.reply.text.items answer.note) }
+fn summed(alloc: Global, number: u64, moment_files: MomentFiles) -> Result<Response, NoMemory>
+    ensures done { IfOk result (λ answer. finishes (to_demo number (moment_files_in moment_files)) answer.reply.status answer.reply.text.items) }
+    ensures said { IfOk result (λ answer. WorkSaid (to_demo number (moment_files_in moment_files)) answer.reply.text.items answer.note) }
 {
-    let answer = demo_answer(alloc, number, &placed);
+    let answer = demo_answer(alloc, number, &moment_files);
     answer
 }
 
 /// The answer of the command. It asks no shelf.
-pub fn demo(alloc: Global, number: u64) -> Result<Answer, NoMemory>
+pub fn demo(alloc: Global, number: u64) -> Result<Response, NoMemory>
     ensures { IfOk result (PreparesNoted CheckSays finishes (JobSaid (DemoWords number)) (plan_of (DemoWords number))) }
 {
     match load_demo(alloc, number) {
-        Ok(placed) => summed(alloc, number, placed),
+        Ok(moment_files) => summed(alloc, number, moment_files),
         Err(stop) => stop_answer(alloc, &demo_paths(number), None, stop),
     }
 }

@@ -25,23 +25,23 @@ use crate::reaching::reach;
 use crate::summing::demo;
 use bs_note_calls::words_note;
 use bs_outside::{Deaf, NoMemory, Shelf, Sink};
-use bs_top_answer::{Answer, deliver_noted, note_made, say_memory};
+use bs_top_answer::{Response, deliver_noted, note_made, say_memory};
 use bs_top_plan::{Status, refused_words};
 use bs_top_words::{Job, read_words};
 use std::alloc::Global;
 
 /// The answer to words that are no job, and the note on what is wrong with them.
-fn words_answer(alloc: Global, words: &[String]) -> Result<Answer, NoMemory>
+fn words_answer(alloc: Global, words: &[String]) -> Result<Response, NoMemory>
     ensures reply { IfOk result (λ answer. RefusesWords answer.reply.status answer.reply.text.items) }
     ensures note { IfOk result (λ answer. Due (IsWordsNote (map string_bytes words.now)) answer.note) }
 {
     let reply = refused_words(alloc)?;
     let note = note_made(words_note(alloc, words));
-    Ok(Answer { reply, note })
+    Ok(Response { reply, note })
 }
 
 /// What is to be answered and written, and what is to be said.
-fn prepare<S: Shelf>(alloc: Global, words: &[String], shelf: &mut S) -> Result<Answer, NoMemory>
+fn prepare<S: Shelf>(alloc: Global, words: &[String], shelf: &mut S) -> Result<Response, NoMemory>
     ensures { PreparedNoted CheckSays finishes (WordsSaid (map string_bytes words.now) (job_of (map string_bytes words.now)))
         S.held S.faults S.leads shelf.old shelf.new (option_map plan_of (job_of (map string_bytes words.now))) result }
 {

@@ -10,21 +10,21 @@ use Rattle.bs_top_plan.specs.declared.status.Status.{Status}
 use Rattle.bs_top_plan.specs.declared.status.Status.TheVariants.{WriteFault}
 use Rattle.bs_top_plan.specs.declared.walk.JobFault.{JobFault}
 use Rattle.bs_top_plan.specs.declared.walk.JobFault.TheVariants as J
-use Rattle.bs_top_plan.specs.declared.told.Stop.{Stop}
+use Rattle.bs_top_plan.specs.declared.diagnostic.WalkStop.{WalkStop}
 use Rattle.bs_top_plan.specs.Files.{is_work_status, refusal_status}
 use Rattle.bs_top_plan.specs.Plan.{Tells, Counts, Plan, end, ◌>>=◌, ready, faulted, refused}
 use Rattle.bs_top_plan.specs.Asking.{AsksTo, GoesTo}
 use Rattle.bs_top_plan.specs.Delivery.{CountsPuts, Delivers, PutsLines}
 use Rattle.bs_top_plan.specs.Prepared.{AnswersStop, IsWork}
-use Rattle.bs_top_plan.specs.Telling.{WalksTold}
-use Rattle.bs_top_plan.specs.Told.{line_stop, lined, note_seen, note_stop}
+use Rattle.bs_top_plan.specs.Telling.{WalksDiagnosed}
+use Rattle.bs_top_plan.specs.Diagnostic.{line_stop, lined, note_seen, note_stop}
 use Rattle.bs_top_plan.specs.Walks.{WalksAlone}
 use Rattle.bs_top_plan.proofs.AskingLemmas.{goes_as}
 use Rattle.bs_top_plan.proofs.Preparing.{alone_stop, alone_work, prepares_alone, prepares_nothing, prepares_stop, prepares_words, prepares_work}
 use Rattle.bs_top_plan.proofs.TellingLemmas.{line_walks, note_walks}
 use Rattle.bs_top_plan.proofs.Walking.{walks_as}
 use Rattle.bs_top_plan.specs.Answers.{RefusesWords}
-use Rattle.bs_top_answer.specs.declared.note.Answer.{Answer}
+use Rattle.bs_top_answer.specs.declared.note.Response.{Response}
 use Rattle.bs_top_answer.specs.declared.note.Note.{Note}
 use Rattle.bs_top_answer.specs.declared.note.Note.TheVariants.{Silent, Text, Wanting}
 use Rattle.bs_top_answer.specs.Note.{Due}
@@ -50,7 +50,7 @@ stop_no_work (J.Faulted file) status text h = ap is_work_status h.0
 stop_no_work (J.Refused file why) status text h = ap is_work_status h.0 ∙ refusal_no_work file
 
 -- the same names
-pub stop_named : {p q : Paths} (fault : JobFault) (r : Result Answer NoMemory) → p ≡ q → IfOk r (λ a. StopNoted (path_of p) fault a.note) →
+pub stop_named : {p q : Paths} (fault : JobFault) (r : Result Response NoMemory) → p ≡ q → IfOk r (λ a. StopNoted (path_of p) fault a.note) →
     IfOk r (λ a. StopNoted (path_of q) fault a.note)
 stop_named fault r same says = subst (λ (n : Paths). IfOk r (λ a. StopNoted (path_of n) fault a.note)) same says
 
@@ -90,13 +90,13 @@ stop_asks allows finishes plan view calls (J.Refused file why) status text goes 
     record { outcome = refused file goes.0; along = goes.2; answers = (line.0, (why.items, goes.1, line.1)) }
 
 -- a walk that came to its end
-pub told_work : {S R Q T W : Type 0} {allows : R → List ℕ → Type 0} {finishes : W → Status → List ℕ → Type 0} {notes : Q → List ℕ → Type 0}
+pub diagnosed_work : {S R Q T W : Type 0} {allows : R → List ℕ → Type 0} {finishes : W → Status → List ℕ → Type 0} {notes : Q → List ℕ → Type 0}
     {held : S → Tells} {faults : S → Counts} {leads : S → FetchCall → S → Type 0} {before now : S} {plan : Plan R W} {looked : Plan Q W}
-    {view : T → W} {t : T} (speaks : W → List ℕ → Note → Type 0) (path_of : File → List ℕ) (r : Result Answer NoMemory) → IsWork finishes →
-    WalksTold allows notes held faults leads before now plan looked view view (Ok t) → IfOk r (λ a. finishes (view t) a.reply.status a.reply.text.items) →
+    {view : T → W} {t : T} (speaks : W → List ℕ → Note → Type 0) (path_of : File → List ℕ) (r : Result Response NoMemory) → IsWork finishes →
+    WalksDiagnosed allows notes held faults leads before now plan looked view view (Ok t) → IfOk r (λ a. finishes (view t) a.reply.status a.reply.text.items) →
     IfOk r (λ a. speaks (view t) a.reply.text.items a.note) →
     PreparedNoted allows finishes (NoteAlong notes speaks path_of looked) held faults leads before now (Some plan) r
-told_work {notes = notes} {looked = looked} {view = view} {t = t} speaks path_of (Ok a) kind walks done says = record {
+diagnosed_work {notes = notes} {looked = looked} {view = view} {t = t} speaks path_of (Ok a) kind walks done says = record {
   reply = record {
     answer = (prepares_work (Ok a.reply) kind (line_walks walks) done).answer;
     fetches = walks.fetches;
@@ -107,16 +107,16 @@ told_work {notes = notes} {looked = looked} {view = view} {t = t} speaks path_of
       by_work notes speaks path_of looked walks.fetches a.reply.text.items a.note (is_work_status a.reply.status)
       (kind.status (view t) a.reply.status a.reply.text.items done) (record { work = view t; along = walks.note_along; says = says });
 }
-told_work speaks path_of (Err want) kind walks done says = record { reply = prepares_work (Err want) kind (line_walks walks) tt; note = tt }
+diagnosed_work speaks path_of (Err want) kind walks done says = record { reply = prepares_work (Err want) kind (line_walks walks) tt; note = tt }
 
 -- a walk that stopped
-pub told_stopped : {S R Q T W : Type 0} {allows : R → List ℕ → Type 0} {notes : Q → List ℕ → Type 0} {held : S → Tells} {faults : S → Counts}
-    {leads : S → FetchCall → S → Type 0} {before now : S} {plan : Plan R W} {looked : Plan Q W} {view : T → W} {stop : Stop}
-    (finishes : W → Status → List ℕ → Type 0) (speaks : W → List ℕ → Note → Type 0) (path_of : File → List ℕ) (r : Result Answer NoMemory) →
-    WalksTold allows notes held faults leads before now plan looked view view (Err stop) →
+pub diagnosed_stopped : {S R Q T W : Type 0} {allows : R → List ℕ → Type 0} {notes : Q → List ℕ → Type 0} {held : S → Tells} {faults : S → Counts}
+    {leads : S → FetchCall → S → Type 0} {before now : S} {plan : Plan R W} {looked : Plan Q W} {view : T → W} {stop : WalkStop}
+    (finishes : W → Status → List ℕ → Type 0) (speaks : W → List ℕ → Note → Type 0) (path_of : File → List ℕ) (r : Result Response NoMemory) →
+    WalksDiagnosed allows notes held faults leads before now plan looked view view (Err stop) →
     IfOk r (λ a. AnswersStop (line_stop stop) a.reply.status a.reply.text.items) → IfOk r (λ a. StopNoted path_of (note_stop stop) a.note) →
     PreparedNoted allows finishes (NoteAlong notes speaks path_of looked) held faults leads before now (Some plan) r
-told_stopped {allows = allows} {notes = notes} {plan = plan} {looked = looked} {view = view} {stop = stop} finishes speaks path_of (Ok a) walks line says = record {
+diagnosed_stopped {allows = allows} {notes = notes} {plan = plan} {looked = looked} {view = view} {stop = stop} finishes speaks path_of (Ok a) walks line says = record {
   reply = record {
     answer = (prepares_stop finishes (Ok a.reply) (line_walks walks) line).answer;
     fetches = walks.fetches;
@@ -127,14 +127,14 @@ told_stopped {allows = allows} {notes = notes} {plan = plan} {looked = looked} {
       by_stop notes speaks path_of looked view walks.fetches (note_stop stop) (line_stop stop) a.reply.status a.reply.text.items a.note
       walks.note_along line says;
 }
-told_stopped finishes speaks path_of (Err want) walks line says = record { reply = prepares_stop finishes (Err want) (line_walks walks) tt; note = tt }
+diagnosed_stopped finishes speaks path_of (Err want) walks line says = record { reply = prepares_stop finishes (Err want) (line_walks walks) tt; note = tt }
 
 -- the same walk, with its end named
-pub told_as : {S R Q T A B : Type 0} {says : R → List ℕ → Type 0} {notes : Q → List ℕ → Type 0} {held : S → Tells} {faults : S → Counts}
-    {leads : S → FetchCall → S → Type 0} {before now : S} {plan : Plan R A} {looked : Plan Q A} {view : T → A} {result : Result T Stop} (g : A → B) →
-    WalksTold says notes held faults leads before now plan looked view view result →
-    WalksTold says notes held faults leads before now (plan >>= (λ v. end (g v))) (looked >>= (λ v. end (g v))) (λ t. g (view t)) (λ t. g (view t)) result
-told_as {says = says} {notes = notes} {plan = plan} {looked = looked} {view = view} {result = result} g h = record {
+pub diagnosed_as : {S R Q T A B : Type 0} {says : R → List ℕ → Type 0} {notes : Q → List ℕ → Type 0} {held : S → Tells} {faults : S → Counts}
+    {leads : S → FetchCall → S → Type 0} {before now : S} {plan : Plan R A} {looked : Plan Q A} {view : T → A} {result : Result T WalkStop} (g : A → B) →
+    WalksDiagnosed says notes held faults leads before now plan looked view view result →
+    WalksDiagnosed says notes held faults leads before now (plan >>= (λ v. end (g v))) (looked >>= (λ v. end (g v))) (λ t. g (view t)) (λ t. g (view t)) result
+diagnosed_as {says = says} {notes = notes} {plan = plan} {looked = looked} {view = view} {result = result} g h = record {
   line = (walks_as g (line_walks h)).is;
   note = (walks_as g (note_walks h)).is;
   fetches = h.fetches;
@@ -147,7 +147,7 @@ told_as {says = says} {notes = notes} {plan = plan} {looked = looked} {view = vi
 
 pub alone_worked : {R Q T W : Type 0} {allows : R → List ℕ → Type 0} {finishes : W → Status → List ℕ → Type 0} {notes : Q → List ℕ → Type 0}
     {plan : Plan R W} {looked : Plan Q W} {view : T → W} {t : T} (speaks : W → List ℕ → Note → Type 0) (path_of : File → List ℕ)
-    (r : Result Answer NoMemory) → IsWork finishes → WalksAlone allows plan view (Ok t) → WalksAlone notes looked view (Ok t) →
+    (r : Result Response NoMemory) → IsWork finishes → WalksAlone allows plan view (Ok t) → WalksAlone notes looked view (Ok t) →
     IfOk r (λ a. finishes (view t) a.reply.status a.reply.text.items) → IfOk r (λ a. speaks (view t) a.reply.text.items a.note) →
     IfOk r (PreparesNoted allows finishes (NoteAlong notes speaks path_of looked) plan)
 alone_worked {notes = notes} {looked = looked} {view = view} {t = t} speaks path_of (Ok a) kind walks sees done says = record {
@@ -160,7 +160,7 @@ alone_worked speaks path_of (Err want) kind walks sees done says = tt
 
 pub alone_stopped : {R Q T W : Type 0} {allows : R → List ℕ → Type 0} {notes : Q → List ℕ → Type 0} {plan : Plan R W} {looked : Plan Q W}
     {view : T → W} {fault line : JobFault} (finishes : W → Status → List ℕ → Type 0) (speaks : W → List ℕ → Note → Type 0)
-    (path_of : File → List ℕ) (r : Result Answer NoMemory) → WalksAlone allows plan view (Err line) → WalksAlone notes looked view (Err fault) →
+    (path_of : File → List ℕ) (r : Result Response NoMemory) → WalksAlone allows plan view (Err line) → WalksAlone notes looked view (Err fault) →
     IfOk r (λ a. AnswersStop line a.reply.status a.reply.text.items) → IfOk r (λ a. StopNoted path_of fault a.note) →
     IfOk r (PreparesNoted allows finishes (NoteAlong notes speaks path_of looked) plan)
 alone_stopped {notes = notes} {looked = looked} {view = view} {fault = fault} {line = line} finishes speaks path_of (Ok a) walks sees answers says = record {
@@ -173,7 +173,7 @@ alone_stopped finishes speaks path_of (Err want) walks sees answers says = tt
 -- a job that asks no shelf, over any shelf
 pub noted_alone : {S R W : Type 0} {allows : R → List ℕ → Type 0} {finishes : W → Status → List ℕ → Type 0}
     {is : List FetchCall → Status → List ℕ → Note → Type 0} {held : S → Tells} {faults : S → Counts} {leads : S → FetchCall → S → Type 0} {before : S}
-    {plan : Plan R W} (r : Result Answer NoMemory) → IfOk r (PreparesNoted allows finishes is plan) →
+    {plan : Plan R W} (r : Result Response NoMemory) → IfOk r (PreparesNoted allows finishes is plan) →
     PreparedNoted allows finishes is held faults leads before before (Some plan) r
 noted_alone {held = held} {faults = faults} {before = before} (Ok a) h = record {
   reply = record { answer = h.reply.is (held before) (faults before); fetches = []; asked = refl; along = h.reply.along };
@@ -184,7 +184,7 @@ noted_alone (Err want) h = record { reply = prepares_alone (Err want) tt; note =
 -- words that are no job
 pub noted_words : {S R W : Type 0} {allows : R → List ℕ → Type 0} {finishes : W → Status → List ℕ → Type 0}
     {is : List FetchCall → Status → List ℕ → Note → Type 0} {held : S → Tells} {faults : S → Counts} {leads : S → FetchCall → S → Type 0} {before : S}
-    (r : Result Answer NoMemory) → IfOk r (λ a. RefusesWords a.reply.status a.reply.text.items) →
+    (r : Result Response NoMemory) → IfOk r (λ a. RefusesWords a.reply.status a.reply.text.items) →
     IfOk r (λ a. is [] a.reply.status a.reply.text.items a.note) → PreparedNoted {R = R} allows finishes is held faults leads before before None r
 noted_words {S = S} {R = R} {W = W} {allows = allows} {finishes = finishes} {held = held} {faults = faults} {leads = leads} {before = before} (Ok a) h says = record {
   reply = record {
@@ -223,7 +223,7 @@ says_sent said counted whole cut put = record { said = said; whole = whole; cut 
 pub call_noted : {S K N R W : Type 0} {allows : R → List ℕ → Type 0} {finishes : W → Status → List ℕ → Type 0}
     {is : List FetchCall → Status → List ℕ → Note → Type 0} {held : S → Tells} {faults : S → Counts} {leads : S → FetchCall → S → Type 0} {before now : S}
     {put_leads : K → PutCall → K → Type 0} {sink_before sink_now : K} {out : Output N} {notes_before notes_now : N} {plan : Option (Plan R W)}
-    {answer : Answer} {w0 w1 : Option (List ℕ)} {f0 f1 : ℕ} {status : Status} →
+    {answer : Response} {w0 w1 : Option (List ℕ)} {f0 f1 : ℕ} {status : Status} →
     PreparedNoted allows finishes is held faults leads before now plan (Ok answer) →
     Delivers answer.reply.status answer.reply.text.items w0 w1 f0 f1 status → PutsLines put_leads sink_before sink_now answer.reply.text.items status →
     SaysSent put_leads sink_before sink_now answer.reply.text.items out notes_before notes_now answer.note status →

@@ -14,7 +14,7 @@ use Rattle.bs_top_answer.specs.Looks.{looked_text}
 use Rattle.bs_note_calls.specs.Faults.{rejected_text}
 use Rattle.bs_note_calls.specs.Searches.{miss_text}
 use Rattle.bs_note_calls.specs.Stops.{text_of}
-use Rattle.bs_note_calls.specs.declared.told.Miss.{Miss}
+use Rattle.bs_note_calls.specs.declared.miss.Miss.{Miss}
 use Rattle.bs_top_answer.specs.declared.note.Note.{Note}
 use Rattle.bs_top_answer.specs.declared.note.Note.TheVariants.{Silent, Text, Wanting}
 use Rattle.bs_top_answer.specs.Note.{DueText, note_made}

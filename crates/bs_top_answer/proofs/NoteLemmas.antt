@@ -8,9 +8,9 @@ use Rattle.bs_note_calls.specs.Faults.{IsOutputNote, IsUnreadNote}
 use Rattle.bs_top_plan.specs.declared.file.File.{File}
 use Rattle.bs_top_plan.specs.declared.walk.JobFault.{JobFault}
 use Rattle.bs_top_plan.specs.declared.walk.JobFault.TheVariants as J
-use Rattle.bs_top_plan.specs.declared.told.Stop.{Stop}
-use Rattle.bs_top_plan.specs.declared.told.Stop.TheVariants as S
-use Rattle.bs_top_plan.specs.Told.{fault_in, note_stop}
+use Rattle.bs_top_plan.specs.declared.diagnostic.WalkStop.{WalkStop}
+use Rattle.bs_top_plan.specs.declared.diagnostic.WalkStop.TheVariants as S
+use Rattle.bs_top_plan.specs.Diagnostic.{fault_in, note_stop}
 use Rattle.bs_top_answer.specs.declared.note.Note.{Note}
 use Rattle.bs_top_answer.specs.declared.note.Note.TheVariants.{Silent, Text, Wanting}
 use Rattle.bs_top_answer.specs.Note.{Due, note_made}
@@ -42,10 +42,10 @@ made_refused path file why fault made note e same says = rw (e, same) (by made s
     by (Ok n) says = says
     by (Err want) says = tt
 
-pub made_told : (path : List ℕ) (file : File) (why : Vec ℕ Global) (told : Option (Vec ℕ Global)) (made : Result (Vec ℕ Global) NoMemory)
-    (note : Note) → told ≡ Some why → note ≡ note_made made → IfOk made (λ n. n.items ≡ refused_text file path why.items) →
-    StopNoted (λ _. path) (fault_in file told) note
-made_told path file why told made note e same says = made_refused path file why (fault_in file told) made note (ap (fault_in file) e) same says
+pub made_diagnostic : (path : List ℕ) (file : File) (why : Vec ℕ Global) (diagnostic : Option (Vec ℕ Global)) (made : Result (Vec ℕ Global) NoMemory)
+    (note : Note) → diagnostic ≡ Some why → note ≡ note_made made → IfOk made (λ n. n.items ≡ refused_text file path why.items) →
+    StopNoted (λ _. path) (fault_in file diagnostic) note
+made_diagnostic path file why diagnostic made note e same says = made_refused path file why (fault_in file diagnostic) made note (ap (fault_in file) e) same says
 
 -- the name of the file of a stop
 pub path_there : (path_of : File → List ℕ) (found : Option File) (file : File) (path : List ℕ) → Some file ≡ found → path ≡ path_of file →
@@ -64,10 +64,10 @@ on_fault path_of path J.NoMemory (Text n) same says = absurd says
 on_fault path_of path (J.Faulted file) (Text n) same says = subst (λ (p : List ℕ). IsUnreadNote p n.items) same says
 on_fault path_of path (J.Refused file why) (Text n) same says = says ∙ ap (λ (p : List ℕ). refused_text file p why.items) same
 
-pub noted_by_names : (path_of : File → List ℕ) (path : List ℕ) (stop : Stop) (note : Note) → IfSome (stop_file stop) (λ file. path ≡ path_of file) →
+pub noted_by_names : (path_of : File → List ℕ) (path : List ℕ) (stop : WalkStop) (note : Note) → IfSome (stop_file stop) (λ file. path ≡ path_of file) →
     StopNoted (λ _. path) (note_stop stop) note → StopNoted path_of (note_stop stop) note
 noted_by_names path_of path (S.Plain fault) note same says = on_fault path_of path fault note same says
-noted_by_names path_of path (S.Refused file told) note same says = by told.note says
+noted_by_names path_of path (S.Refused file diagnostic) note same says = by diagnostic.note says
   where
     by : (t : Option (Vec ℕ Global)) → StopNoted (λ _. path) (fault_in file t) note → StopNoted path_of (fault_in file t) note
     by None says = on_fault path_of path J.NoMemory note tt says

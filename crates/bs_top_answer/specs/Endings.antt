@@ -10,7 +10,7 @@ use Rattle.bs_top_answer.specs.Looks.{looked_text}
 use Rattle.bs_note_calls.specs.Faults.{rejected_text}
 use Rattle.bs_note_calls.specs.Stops.{text_of}
 use Rattle.bs_note_calls.specs.Searches.{miss_text}
-use Rattle.bs_note_calls.specs.declared.told.Miss.{Miss}
+use Rattle.bs_note_calls.specs.declared.miss.Miss.{Miss}
 
 -- the moments of recorded runs: each cycle of each run from 0 to the run's number of cycles
 abbrev pub moments : Stimulus → ℕ

@@ -7,9 +7,9 @@ use Rattle.bs_top_plan.specs.declared.reply.Reply.{Reply}
 use Rattle.bs_top_plan.specs.declared.status.Status.{Status}
 use Rattle.bs_top_plan.specs.Asking.{Along}
 use Rattle.bs_top_plan.specs.Files.{is_work_status}
-use Rattle.bs_top_plan.specs.Plan.{Tells, Counts, Plan, Outcome, ready}
+use Rattle.bs_top_plan.specs.Plan.{Tells, Counts, Plan, PlanOutcome, ready}
 use Rattle.bs_top_plan.specs.Prepared.{Prepared, PreparesAlone}
-use Rattle.bs_top_answer.specs.declared.note.Answer.{Answer}
+use Rattle.bs_top_answer.specs.declared.note.Response.{Response}
 use Rattle.bs_top_answer.specs.declared.note.Note.{Note}
 use Rattle.bs_top_answer.specs.Note.{Due}
 use Rattle.bs_top_answer.specs.Stops.{IsStopNote}
@@ -17,7 +17,7 @@ use Rattle.bs_top_answer.specs.Stops.{IsStopNote}
 -- The note is on a stop to which these very fetches lead along the plan: so it is about the bytes that they brought.
 pub record IsStopAlong {Q W : Type 0} (notes : Q → List ℕ → Type 0) (path_of : File → List ℕ) (looked : Plan Q W) (fetches : List FetchCall)
     (note : List ℕ) : Type 0 where
-  pub outcome : Outcome Q W
+  pub outcome : PlanOutcome Q W
   pub along : Along looked fetches (Some outcome)
   pub says : IsStopNote notes path_of outcome note
 
@@ -39,19 +39,19 @@ abbrev pub NoteAlong : {Q W : Type 0} → (Q → List ℕ → Type 0) → (W →
     List ℕ → Note → Type 0
 NoteAlong notes speaks path_of looked fetches status text note = NoteBy (is_work_status status) notes speaks path_of looked fetches text note
 
-abbrev pub replied : Result Answer NoMemory → Result Reply NoMemory
+abbrev pub replied : Result Response NoMemory → Result Reply NoMemory
 replied (Ok answer) = Ok answer.reply
 replied (Err want) = Err want
 
 -- The reply is one that the words call for, unless memory ran out, and the note is one that `is` allows after the same fetches.
 pub record PreparedNoted {S R W : Type 0} (allows : R → List ℕ → Type 0) (finishes : W → Status → List ℕ → Type 0)
     (is : List FetchCall → Status → List ℕ → Note → Type 0) (held : S → Tells) (faults : S → Counts) (leads : S → FetchCall → S → Type 0)
-    (before now : S) (plan : Option (Plan R W)) (result : Result Answer NoMemory) : Type 0 where
+    (before now : S) (plan : Option (Plan R W)) (result : Result Response NoMemory) : Type 0 where
   pub reply : Prepared allows finishes held faults leads before now plan (replied result)
   pub note : IfOk result (λ answer. is reply.fetches answer.reply.status answer.reply.text.items answer.note)
 
 -- the same, where no shelf is asked
 pub record PreparesNoted {R W : Type 0} (allows : R → List ℕ → Type 0) (finishes : W → Status → List ℕ → Type 0)
-    (is : List FetchCall → Status → List ℕ → Note → Type 0) (plan : Plan R W) (answer : Answer) : Type 0 where
+    (is : List FetchCall → Status → List ℕ → Note → Type 0) (plan : Plan R W) (answer : Response) : Type 0 where
   pub reply : PreparesAlone allows finishes plan answer.reply
   pub note : is [] answer.reply.status answer.reply.text.items answer.note

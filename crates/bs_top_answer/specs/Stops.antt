@@ -5,9 +5,9 @@ use Rattle.bs_note_calls.specs.Faults.{IsUnreadNote, long_text}
 use Rattle.bs_top_plan.specs.declared.file.File.{File}
 use Rattle.bs_top_plan.specs.declared.walk.JobFault.{JobFault}
 use Rattle.bs_top_plan.specs.declared.walk.JobFault.TheVariants as J
-use Rattle.bs_top_plan.specs.declared.told.Stop.{Stop}
-use Rattle.bs_top_plan.specs.declared.told.Stop.TheVariants as S
-use Rattle.bs_top_plan.specs.Plan.{Says, Outcome, ready, refused, faulted}
+use Rattle.bs_top_plan.specs.declared.diagnostic.WalkStop.{WalkStop}
+use Rattle.bs_top_plan.specs.declared.diagnostic.WalkStop.TheVariants as S
+use Rattle.bs_top_plan.specs.Plan.{Says, PlanOutcome, ready, refused, faulted}
 use Rattle.bs_top_answer.specs.declared.note.Note.{Note}
 use Rattle.bs_top_answer.specs.declared.note.Note.TheVariants.{Silent, Text, Wanting}
 
@@ -17,7 +17,7 @@ refused_text file path why = if bytes_eq why (codes "TooLong") then long_text fi
 
 -- The note is on this end of a plan, which is a stop: it goes with the reason for which the file is refused, or names the file that
 -- does not read.
-abbrev pub IsStopNote : {Q W : Type 0} → (Q → List ℕ → Type 0) → (File → List ℕ) → Outcome Q W → List ℕ → Type 0
+abbrev pub IsStopNote : {Q W : Type 0} → (Q → List ℕ → Type 0) → (File → List ℕ) → PlanOutcome Q W → List ℕ → Type 0
 IsStopNote notes path_of (ready work) note = ⊥
 IsStopNote notes path_of (refused file reason) note = (why : List ℕ) × Says notes reason why × (note ≡ refused_text file (path_of file) why)
 IsStopNote notes path_of (faulted file) note = IsUnreadNote (path_of file) note
@@ -28,9 +28,9 @@ fault_file J.NoMemory = None
 fault_file (J.Faulted file) = Some file
 fault_file (J.Refused file why) = Some file
 
-abbrev pub stop_file : Stop → Option File
+abbrev pub stop_file : WalkStop → Option File
 stop_file (S.Plain fault) = fault_file fault
-stop_file (S.Refused file told) = Some file
+stop_file (S.Refused file diagnostic) = Some file
 
 -- ---- what inner functions promise
 

@@ -19,7 +19,7 @@ mod stopping;
 mod turned;
 
 pub use ending::{miss_said, rejected_said, run_said};
-pub use note::{Answer, Note, note_made};
+pub use note::{Note, Response, note_made};
 pub use paths::Paths;
 pub use saying::{deliver_noted, put_note, say_memory};
 pub use stopping::{stop_answer, stop_file, stopped_at};

@@ -17,7 +17,7 @@ pub enum Note {
 
 /// A reply, and the note on it.
 #[derive(Drop)]
-pub struct Answer {
+pub struct Response {
     pub reply: Reply,
     pub note: Note,
 }

@@ -5,7 +5,7 @@ ghost use Rattle.bs_outside.specs.Texts.{output, PutsText};
 ghost use Rattle.bs_top_plan.specs.Delivery.{Delivers, PutsLines};
 ghost use Rattle.bs_top_answer.specs.Said.{FailNoted, PutsNote, SaysSent};
 
-use crate::note::{Answer, Note, note_made};
+use crate::note::{Note, Response, note_made};
 use bs_note_calls::output_note;
 use bs_outside::{Sink, put_text};
 use bs_top_plan::{Delivered, Status, deliver_counted};
@@ -49,7 +49,7 @@ fn note_after(alloc: Global, note: Note, sent: Delivered, kind: Option<ErrorKind
 /// Writes an answer, and then puts the note on it, or the one on an output that failed.
 pub fn deliver_noted<K: Sink, N: Sink>(
     alloc: Global,
-    answer: Answer,
+    answer: Response,
     out: &mut K,
     notes: &mut N,
 ) -> Status

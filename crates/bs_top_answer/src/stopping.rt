@@ -1,15 +1,15 @@
 //! The answer to a walk that stopped: the refusal line, and the note of the same reading.
 ghost use Rattle.std.specs.Prelude.{◌≡◌, IfOk, IfSome};
 ghost use Rattle.bs_top_plan.specs.Prepared.{AnswersStop};
-ghost use Rattle.bs_top_plan.specs.Told.{fault_in, line_stop, note_stop};
+ghost use Rattle.bs_top_plan.specs.Diagnostic.{fault_in, line_stop, note_stop};
 ghost use Rattle.bs_top_answer.specs.Paths.{path_of, paths_in};
 ghost use Rattle.bs_top_answer.specs.Stops.{fault_file, refused_text, stop_file, StopNoted};
 
-use crate::note::{Answer, Note, note_made};
+use crate::note::{Note, Response, note_made};
 use crate::paths::{Paths, path_of};
 use bs_bits::NoMemory;
 use bs_note_calls::{long_note, unread_note};
-use bs_top_plan::{File, JobFault, Stop, Told, stopped};
+use bs_top_plan::{Diagnostic, File, JobFault, WalkStop, stopped};
 use std::alloc::Global;
 use std::io::ErrorKind;
 
@@ -37,8 +37,8 @@ fn fault_note(alloc: Global, path: &str, kind: Option<ErrorKind>, fault: &JobFau
 }
 
 /// The note that a reader's refusal keeps.
-#[tactic(auto, using(crate::proofs::NoteLemmas::made_told))]
-fn told_note(alloc: Global, path: &str, file: File, note: &Option<Vec<u8>>) -> Note
+#[tactic(auto, using(crate::proofs::NoteLemmas::made_diagnostic))]
+fn diagnostic_note(alloc: Global, path: &str, file: File, note: &Option<Vec<u8>>) -> Note
     ensures { StopNoted (λ _. path.now) (fault_in file note.now) result }
 {
     match note {
@@ -48,26 +48,31 @@ fn told_note(alloc: Global, path: &str, file: File, note: &Option<Vec<u8>>) -> N
 }
 
 /// What the line tells, and the note.
-fn part(alloc: Global, path: &str, kind: Option<ErrorKind>, stop: Stop) -> (JobFault, Note)
+fn part(alloc: Global, path: &str, kind: Option<ErrorKind>, stop: WalkStop) -> (JobFault, Note)
     ensures line { result.0 ≡ line_stop stop }
     ensures note { StopNoted (λ _. path.now) (note_stop stop) result.1 }
 {
     match stop {
-        Stop::Plain(fault) => {
+        WalkStop::Plain(fault) => {
             let note = fault_note(alloc, path, kind, &fault);
             (fault, note)
         }
-        Stop::Refused(file, told) => told_part(alloc, path, file, told),
+        WalkStop::Refused(file, diagnostic) => diagnostic_part(alloc, path, file, diagnostic),
     }
 }
 
 /// The same of a reader's refusal.
-fn told_part(alloc: Global, path: &str, file: File, told: Told) -> (JobFault, Note)
-    ensures line { result.0 ≡ JobFault.Refused file told.words }
-    ensures note { StopNoted (λ _. path.now) (fault_in file told.note) result.1 }
+fn diagnostic_part(
+    alloc: Global,
+    path: &str,
+    file: File,
+    diagnostic: Diagnostic,
+) -> (JobFault, Note)
+    ensures line { result.0 ≡ JobFault.Refused file diagnostic.words }
+    ensures note { StopNoted (λ _. path.now) (fault_in file diagnostic.note) result.1 }
 {
-    let note = told_note(alloc, path, file, &told.note);
-    (JobFault::Refused(file, told.words), note)
+    let note = diagnostic_note(alloc, path, file, &diagnostic.note);
+    (JobFault::Refused(file, diagnostic.words), note)
 }
 
 /// The answer to a stop at the file with this name. `kind` is that of the shelf's last fault.
@@ -75,14 +80,14 @@ pub fn stopped_at(
     alloc: Global,
     path: &str,
     kind: Option<ErrorKind>,
-    stop: Stop,
-) -> Result<Answer, NoMemory>
+    stop: WalkStop,
+) -> Result<Response, NoMemory>
     ensures reply { IfOk result (λ answer. AnswersStop (line_stop stop) answer.reply.status answer.reply.text.items) }
     ensures note { IfOk result (λ answer. StopNoted (λ _. path.now) (note_stop stop) answer.note) }
 {
     let (fault, note) = part(alloc, path, kind, stop);
     let reply = stopped(alloc, fault)?;
-    Ok(Answer { reply, note })
+    Ok(Response { reply, note })
 }
 
 /// The file at which a walk stopped before it was read, where it is at one.
@@ -97,18 +102,18 @@ fn fault_file(fault: &JobFault) -> Option<File>
 }
 
 /// The file at which a walk stopped, where it is at one.
-pub fn stop_file(stop: &Stop) -> Option<File>
+pub fn stop_file(stop: &WalkStop) -> Option<File>
     ensures { result ≡ stop_file stop.now }
 {
     match stop {
-        Stop::Plain(fault) => fault_file(fault),
-        Stop::Refused(file, _) => Some(*file),
+        WalkStop::Plain(fault) => fault_file(fault),
+        WalkStop::Refused(file, _) => Some(*file),
     }
 }
 
 /// The name of that file.
 #[tactic(auto, using(crate::proofs::NoteLemmas::path_there, crate::proofs::NoteLemmas::path_none))]
-fn stop_path<'a>(paths: &Paths<'a>, stop: &Stop) -> &'a str
+fn stop_path<'a>(paths: &Paths<'a>, stop: &WalkStop) -> &'a str
     ensures { IfSome (stop_file stop.now) (λ file. result.now ≡ path_of (paths_in paths.now) file) }
 {
     match stop_file(stop) {
@@ -122,8 +127,8 @@ pub fn stop_answer(
     alloc: Global,
     paths: &Paths<'_>,
     kind: Option<ErrorKind>,
-    stop: Stop,
-) -> Result<Answer, NoMemory>
+    stop: WalkStop,
+) -> Result<Response, NoMemory>
     ensures reply { IfOk result (λ answer. AnswersStop (line_stop stop) answer.reply.status answer.reply.text.items) }
     ensures note { IfOk result (λ answer. StopNoted (path_of (paths_in paths.now)) (note_stop stop) answer.note) }
 {

@@ -15,7 +15,7 @@ use Rattle.bs_top_plan.specs.Plan.{Reason, exactly, any_of, Says}
 use Rattle.bs_top_plan.specs.Walks.{Reads}
 use Rattle.bs_note_files.specs.Checks.{IsCheckNote}
 use Rattle.bs_note_files.specs.Kinds.{mistaken_text}
-use Rattle.bs_top_files.specs.NoteCases.{NoteCase, in_netlist, in_ring, in_check, NoteSays, told_as, HasNote}
+use Rattle.bs_top_files.specs.NoteCases.{NoteCase, in_netlist, in_ring, in_check, NoteSays, diagnosed_as, HasNote}
 use Rattle.bs_net.specs.Netlist.{circuit_of}
 use Rattle.bs_top_files.specs.Refusals.{CheckSays, HasCheckWords, HasWords, TextFault, with_one, Case as Refused, in_rings}
 use Rattle.bs_top_files.specs.Readings.{text_in}
@@ -27,22 +27,22 @@ use Rattle.bs_top_plan.specs.declared.file.File.TheVariants as files
 use Rattle.bs_note_files.specs.Kinds.{mistaken}
 use Rattle.bs_top_files.specs.Noting.{checked_noted, netlist_noted, netlist_note_reason, parsed_noted}
 use Rattle.bs_top_plan.proofs.TellingLemmas.{word_both, both_want as want_both}
-use Rattle.bs_top_plan.specs.Told.{made, both_of, word_refusal, refusal_in, note_refusal}
-use Rattle.bs_top_plan.specs.declared.told.Unread.{Unread}
-use Rattle.bs_top_plan.specs.declared.told.Unread.TheVariants as U
+use Rattle.bs_top_plan.specs.Diagnostic.{made, both_of, word_refusal, refusal_in, note_refusal}
+use Rattle.bs_top_plan.specs.declared.diagnostic.Unread.{Unread}
+use Rattle.bs_top_plan.specs.declared.diagnostic.Unread.TheVariants as U
 
 -- ---- the note
 
 pub says_mistaken : (file kind : File) (path : List ℕ) (seems : Option File) (other : NoteCase) (note : Result (Vec ℕ Global) NoMemory) →
     seems ≡ Some kind → IfOk note (λ n. n.items ≡ mistaken_text file kind path) →
-    IfOk note (λ n. Says NoteSays (told_as file path seems other) n.items)
+    IfOk note (λ n. Says NoteSays (diagnosed_as file path seems other) n.items)
 says_mistaken file kind path seems other note e says =
-    subst (λ (s : Option File). IfOk note (λ n. Says NoteSays (told_as file path s other) n.items)) (sym e) says
+    subst (λ (s : Option File). IfOk note (λ n. Says NoteSays (diagnosed_as file path s other) n.items)) (sym e) says
 
 pub says_case : (file : File) (path : List ℕ) (seems : Option File) (other : NoteCase) (note : Result (Vec ℕ Global) NoMemory) →
-    seems ≡ None → IfOk note (λ n. NoteSays other n.items) → IfOk note (λ n. Says NoteSays (told_as file path seems other) n.items)
+    seems ≡ None → IfOk note (λ n. NoteSays other n.items) → IfOk note (λ n. Says NoteSays (diagnosed_as file path seems other) n.items)
 says_case file path seems other note e says =
-    subst (λ (s : Option File). IfOk note (λ n. Says NoteSays (told_as file path s other) n.items)) (sym e) says
+    subst (λ (s : Option File). IfOk note (λ n. Says NoteSays (diagnosed_as file path s other) n.items)) (sym e) says
 
 -- ---- both
 
@@ -108,10 +108,10 @@ pub check_words : (r : Parts) (words : Refusal) (note : Result (Vec ℕ Global) 
 check_words r words note unread e has =
     subst (λ (u : Unread). HasCheckWords r (word_refusal u)) (sym e) (subst (HasCheckWords r) (sym (word_both words note)) has)
 
-pub check_told : (r : Parts) (path text : List ℕ) (fault : NetFault) (words : Refusal) (note : Result (Vec ℕ Global) NoMemory) (unread : Unread) →
+pub check_diagnostic : (r : Parts) (path text : List ℕ) (fault : NetFault) (words : Refusal) (note : Result (Vec ℕ Global) NoMemory) (unread : Unread) →
     IsFault r fault → fault ≢ net.NoMemory → unread ≡ both_of words note → IfOk note (λ n. IsCheckNote r path text fault n.items) →
     HasNote (any_of (in_check path text r)) (note_refusal unread)
-check_told r path text fault words note unread is told same says = both_note (any_of (in_check path text r)) words note unread same (by note says)
+check_diagnostic r path text fault words note unread is told same says = both_note (any_of (in_check path text r)) words note unread same (by note says)
   where
     by : (n : Result (Vec ℕ Global) NoMemory) → IfOk n (λ n. IsCheckNote r path text fault n.items) →
         IfOk n (λ n. Says NoteSays (any_of (in_check path text r)) n.items)
@@ -140,8 +140,8 @@ reads_parts {T = T} view path text r result is h =
 
 -- a note on a ring is one on any of them
 ringed : (path text : List ℕ) (names : List (List ℕ)) (seems : Option File) (refusal : Refusal) → IsAnswer text (Err (flat.Recursion names)) →
-    HasNote (told_as files.Netlist path seems (in_netlist path text (flat.Recursion names))) refusal →
-    HasNote (told_as files.Netlist path seems (in_ring path text)) refusal
+    HasNote (diagnosed_as files.Netlist path seems (in_netlist path text (flat.Recursion names))) refusal →
+    HasNote (diagnosed_as files.Netlist path seems (in_ring path text)) refusal
 ringed path text names seems Q.NoMemory is has = tt
 ringed path text names (Some kind) (Q.Why note) is has = has
 ringed path text names None (Q.Why note) is has = record { names = names; is = is; written = has }

@@ -25,7 +25,7 @@ mixed_named raw fault n is e =
     mixed_placed (parts_of raw) n (raw_is_placed raw) here.2 here.3
 
 -- the words of a fault of the check go with the netlist
-pub check_told : (r : Parts) (fault : NetFault) (refusal : Refusal) → IsFault r fault → HasWords (check_words r fault) refusal →
+pub check_diagnostic : (r : Parts) (fault : NetFault) (refusal : Refusal) → IsFault r fault → HasWords (check_words r fault) refusal →
     (fault ≡ net.NoMemory → refusal ≡ Q.NoMemory) → HasCheckWords r refusal
-check_told r fault Q.NoMemory is words want = tt
-check_told r fault (Q.Why why) is words want = record { fault = fault; told = λ e. let clash : Q.Why why ≡ Q.NoMemory = want e in cc; is = is; words = words }
+check_diagnostic r fault Q.NoMemory is words want = tt
+check_diagnostic r fault (Q.Why why) is words want = record { fault = fault; told = λ e. let clash : Q.Why why ≡ Q.NoMemory = want e in cc; is = is; words = words }

@@ -32,18 +32,18 @@ abbrev pub recording_in : Setup → Recording
 recording_in setup = recording_of setup.raw setup.choice setup.runs
 
 -- the same with a moment of the runs
-pub record Placed : Type 0 where
+pub record MomentFiles : Type 0 where
   pub setup : Setup
   pub moment : Moment
 
 -- the same with the dump of the crashed chip
-pub record Crashed : Type 0 where
+pub record CrashFiles : Type 0 where
   pub setup : Setup
   pub dump : Dump
 
 -- the same with a report
-pub record Claimed : Type 0 where
-  pub crashed : Crashed
+pub record AuditFiles : Type 0 where
+  pub crash_files : CrashFiles
   pub report : Report
 
 -- ---- the walks
@@ -81,15 +81,15 @@ setup_of names = do
   end record { raw = raw; choice = choice; runs = runs }
 
 -- three files, and last whether the runs have the moment
-abbrev pub placed_of : FileNames → (run cycle : ℕ) → Plan Case Placed
-placed_of names run cycle = do
+abbrev pub moment_files_of : FileNames → (run cycle : ℕ) → Plan Case MomentFiles
+moment_files_of names run cycle = do
   setup ← setup_of names
   moment ← read_as files.Dump (moment_in setup.runs run cycle)
   end record { setup = setup; moment = moment }
 
 -- four files
-abbrev pub crashed_of : FileNames → List ℕ → Plan Case Crashed
-crashed_of names dump = do
+abbrev pub crash_files_of : FileNames → List ℕ → Plan Case CrashFiles
+crash_files_of names dump = do
   setup ← setup_of names
   dumped ← dump_of setup dump
   end record { setup = setup; dump = dumped }
@@ -100,15 +100,15 @@ report_of name = do
   read_as files.Report (report_read bytes)
 
 -- five files
-abbrev pub claimed_of : FileNames → (dump report : List ℕ) → Plan Case Claimed
-claimed_of names dump report = do
-  crashed ← crashed_of names dump
-  claimed ← report_of report
-  end record { crashed = crashed; report = claimed }
+abbrev pub audit_files_of : FileNames → (dump report : List ℕ) → Plan Case AuditFiles
+audit_files_of names dump report = do
+  crash_files ← crash_files_of names dump
+  audit_files ← report_of report
+  end record { crash_files = crash_files; report = audit_files }
 
 -- five files, and last whether a waveform of the report's trace is not too large
-abbrev pub drawn_of : FileNames → (dump report : List ℕ) → Plan Case Claimed
+abbrev pub drawn_of : FileNames → (dump report : List ℕ) → Plan Case AuditFiles
 drawn_of names dump report = do
-  claimed ← claimed_of names dump report
-  fits ← read_as files.Report (size_in claimed.crashed.setup.raw claimed.report)
-  end claimed
+  audit_files ← audit_files_of names dump report
+  fits ← read_as files.Report (size_in audit_files.crash_files.setup.raw audit_files.report)
+  end audit_files

@@ -7,7 +7,7 @@ use Rattle.bs_scan.specs.declared.dump.Dump.{Dump}
 use Rattle.bs_report.specs.declared.report.Report.{Report}
 use Rattle.bs_top_plan.specs.declared.file.File.TheVariants as files
 use Rattle.bs_top_plan.specs.Plan.{Plan, end, ◌>>=◌, fetched, read_as}
-use Rattle.bs_top_files.specs.Entry.{FileNames, Setup, Placed, Crashed, Claimed, input_width}
+use Rattle.bs_top_files.specs.Entry.{FileNames, Setup, MomentFiles, CrashFiles, AuditFiles, input_width}
 use Rattle.bs_top_files.specs.NoteCases.{NoteCase}
 use Rattle.bs_top_files.specs.Noting.{netlist_noted, signature_noted, stimulus_noted, dump_noted, moment_noted, report_noted, size_noted}
 
@@ -45,29 +45,29 @@ setup_looked names = do
   end record { raw = raw; choice = choice; runs = runs }
 
 -- three files, and a moment of the runs
-abbrev pub placed_looked : FileNames → (run cycle : ℕ) → Plan NoteCase Placed
-placed_looked names run cycle = do
+abbrev pub moment_files_looked : FileNames → (run cycle : ℕ) → Plan NoteCase MomentFiles
+moment_files_looked names run cycle = do
   setup ← setup_looked names
   moment ← read_as files.Dump (moment_noted setup.runs run cycle)
   end record { setup = setup; moment = moment }
 
 -- four files
-abbrev pub crashed_looked : FileNames → List ℕ → Plan NoteCase Crashed
-crashed_looked names dump = do
+abbrev pub crash_files_looked : FileNames → List ℕ → Plan NoteCase CrashFiles
+crash_files_looked names dump = do
   setup ← setup_looked names
   dumped ← dump_looked setup dump
   end record { setup = setup; dump = dumped }
 
 -- five files
-abbrev pub claimed_looked : FileNames → (dump report : List ℕ) → Plan NoteCase Claimed
-claimed_looked names dump report = do
-  crashed ← crashed_looked names dump
-  claimed ← report_looked report
-  end record { crashed = crashed; report = claimed }
+abbrev pub audit_files_looked : FileNames → (dump report : List ℕ) → Plan NoteCase AuditFiles
+audit_files_looked names dump report = do
+  crash_files ← crash_files_looked names dump
+  audit_files ← report_looked report
+  end record { crash_files = crash_files; report = audit_files }
 
 -- five files, and the size of a waveform
-abbrev pub drawn_looked : FileNames → (dump report : List ℕ) → Plan NoteCase Claimed
+abbrev pub drawn_looked : FileNames → (dump report : List ℕ) → Plan NoteCase AuditFiles
 drawn_looked names dump report = do
-  claimed ← claimed_looked names dump report
-  fits ← read_as files.Report (size_noted report claimed.crashed.setup.raw claimed.report)
-  end claimed
+  audit_files ← audit_files_looked names dump report
+  fits ← read_as files.Report (size_noted report audit_files.crash_files.setup.raw audit_files.report)
+  end audit_files

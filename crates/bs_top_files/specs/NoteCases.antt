@@ -67,9 +67,9 @@ NoteSays (in_report path text fault) note = IsReportNote path text fault note
 NoteSays (at_line path text number says) note = IsNoteAtLine path text number says note
 
 -- the reason of a refusal: the text seems to be this other file of a job, where it does, and else the case
-abbrev pub told_as : File → List ℕ → Option File → NoteCase → Reason NoteCase
-told_as file path (Some kind) case_of = exactly (mistaken_text file kind path)
-told_as file path None case_of = any_of case_of
+abbrev pub diagnosed_as : File → List ℕ → Option File → NoteCase → Reason NoteCase
+diagnosed_as file path (Some kind) case_of = exactly (mistaken_text file kind path)
+diagnosed_as file path None case_of = any_of case_of
 
 -- ---- what inner functions promise
 

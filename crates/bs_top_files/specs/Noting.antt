@@ -24,7 +24,7 @@ use Rattle.bs_top_files.specs.Readings.{choice_in, has_moment, is_drawable, text
 use Rattle.bs_note_files.specs.declared.dump.Widths.{Widths}
 use Rattle.bs_note_files.specs.Kinds.{mistaken}
 use Rattle.bs_note_calls.specs.Faults.{large_text, range_text}
-use Rattle.bs_top_files.specs.NoteCases.{NoteCase, in_netlist, in_ring, in_check, in_signature, in_stimulus, in_dump, in_report, told_as}
+use Rattle.bs_top_files.specs.NoteCases.{NoteCase, in_netlist, in_ring, in_check, in_signature, in_stimulus, in_dump, in_report, diagnosed_as}
 
 -- what a reader's definition wants, with a reason for its fault
 abbrev pub noted_by : {V F : Type 0} → (F → Reason NoteCase) → Result V F → Result V (Reason NoteCase)
@@ -38,7 +38,7 @@ netlist_case path text (with_one fault) = in_netlist path text fault
 netlist_case path text in_rings = in_ring path text
 
 abbrev pub netlist_note_reason : List ℕ → List ℕ → TextFault → Reason NoteCase
-netlist_note_reason path text fault = told_as files.Netlist path (mistaken files.Netlist text) (netlist_case path text fault)
+netlist_note_reason path text fault = diagnosed_as files.Netlist path (mistaken files.Netlist text) (netlist_case path text fault)
 
 -- parts that pass the check
 abbrev pub checked_noted : List ℕ → List ℕ → Parts → Result Parts (Reason NoteCase)
@@ -56,7 +56,7 @@ netlist_noted path text = parsed_noted path text (text_in text)
 
 -- the items of a signature
 abbrev pub signature_note_reason : Parts → List ℕ → List ℕ → ChoiceFault → Reason NoteCase
-signature_note_reason r path text fault = told_as files.Signature path (mistaken files.Signature text) (in_signature path text r fault)
+signature_note_reason r path text fault = diagnosed_as files.Signature path (mistaken files.Signature text) (in_signature path text r fault)
 
 abbrev pub signature_noted : Parts → List ℕ → List ℕ → Result Chosen (Reason NoteCase)
 signature_noted r path text =
@@ -64,7 +64,7 @@ signature_noted r path text =
 
 -- the runs of a stimulus, with so many bits in an input line
 abbrev pub stimulus_note_reason : ℕ → List ℕ → List ℕ → StimFault → Reason NoteCase
-stimulus_note_reason width path text fault = told_as files.Stimulus path (mistaken files.Stimulus text) (in_stimulus path text width fault)
+stimulus_note_reason width path text fault = diagnosed_as files.Stimulus path (mistaken files.Stimulus text) (in_stimulus path text width fault)
 
 abbrev pub stimulus_noted : ℕ → List ℕ → List ℕ → Result Stimulus (Reason NoteCase)
 stimulus_noted width path text =
@@ -75,7 +75,7 @@ abbrev pub widths_of : Parts → Chosen → Widths
 widths_of r choice = record { flops = length (circuit_of r).flops; depth = depth_of choice; items = length choice.items }
 
 abbrev pub dump_note_reason : Widths → List ℕ → List ℕ → DumpFault → Reason NoteCase
-dump_note_reason widths path text fault = told_as files.Dump path (mistaken files.Dump text) (in_dump path text widths fault)
+dump_note_reason widths path text fault = diagnosed_as files.Dump path (mistaken files.Dump text) (in_dump path text widths fault)
 
 -- a dump of a netlist and of what its signatures are taken of
 abbrev pub dump_noted : Parts → Chosen → List ℕ → List ℕ → Result Dump (Reason NoteCase)
@@ -89,7 +89,7 @@ moment_noted runs run cycle = if has_moment runs run cycle then Ok (moment run c
 
 -- a report
 abbrev pub report_note_reason : List ℕ → List ℕ → ReportFault → Reason NoteCase
-report_note_reason path text fault = told_as files.Report path (mistaken files.Report text) (in_report path text fault)
+report_note_reason path text fault = diagnosed_as files.Report path (mistaken files.Report text) (in_report path text fault)
 
 abbrev pub report_noted : List ℕ → List ℕ → Result Report (Reason NoteCase)
 report_noted path text = noted_by (report_note_reason path text) (report_in text)

@@ -3,7 +3,7 @@ use Rattle.std.specs.Prelude.{ℕ, List}
 use Rattle.bs_net.specs.Parts.{Parts}
 use Rattle.bs_scan.specs.Choice.{Chosen}
 use Rattle.bs_top_plan.specs.Plan.{Plan, end, ◌>>=◌}
-use Rattle.bs_top_files.specs.Entry.{FileNames, Setup, Crashed, Claimed, signature_of, stimulus_of, dump_of, report_of}
+use Rattle.bs_top_files.specs.Entry.{FileNames, Setup, CrashFiles, AuditFiles, signature_of, stimulus_of, dump_of, report_of}
 use Rattle.bs_top_files.specs.Looking.{signature_looked, stimulus_looked, dump_looked, report_looked}
 use Rattle.bs_top_files.specs.NoteCases.{NoteCase}
 use Rattle.bs_top_files.specs.Refusals.{Case}
@@ -33,23 +33,23 @@ runs_looked names raw choice = do
   end record { raw = raw; choice = choice; runs = runs }
 
 -- behind the three files
-abbrev pub crash_step : Setup → List ℕ → Plan Case Crashed
+abbrev pub crash_step : Setup → List ℕ → Plan Case CrashFiles
 crash_step setup dump = do
   dumped ← dump_of setup dump
   end record { setup = setup; dump = dumped }
 
-abbrev pub crash_looked : Setup → List ℕ → Plan NoteCase Crashed
+abbrev pub crash_looked : Setup → List ℕ → Plan NoteCase CrashFiles
 crash_looked setup dump = do
   dumped ← dump_looked setup dump
   end record { setup = setup; dump = dumped }
 
 -- behind the dump
-abbrev pub claim_step : Crashed → List ℕ → Plan Case Claimed
-claim_step crashed report = do
-  claimed ← report_of report
-  end record { crashed = crashed; report = claimed }
+abbrev pub claim_step : CrashFiles → List ℕ → Plan Case AuditFiles
+claim_step crash_files report = do
+  audit_files ← report_of report
+  end record { crash_files = crash_files; report = audit_files }
 
-abbrev pub claim_looked : Crashed → List ℕ → Plan NoteCase Claimed
-claim_looked crashed report = do
-  claimed ← report_looked report
-  end record { crashed = crashed; report = claimed }
+abbrev pub claim_looked : CrashFiles → List ℕ → Plan NoteCase AuditFiles
+claim_looked crash_files report = do
+  audit_files ← report_looked report
+  end record { crash_files = crash_files; report = audit_files }

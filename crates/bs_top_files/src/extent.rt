@@ -1,10 +1,10 @@
-//! Whether the runs have a moment, and whether a waveform is small enough, or what is told of it.
+//! Whether the runs have a moment, and whether a waveform is small enough, or the diagnostic of it.
 ghost use Rattle.std.specs.Prelude.{◌≡◌, true, IfOk};
 ghost use Rattle.bs_scan.specs.Moments.{IsMoment};
 ghost use Rattle.bs_stim.specs.Runs.{inputs_of};
 ghost use Rattle.bs_note_calls.specs.Faults.{large_text, range_text};
 ghost use Rattle.bs_top_plan.specs.Plan.{exactly};
-ghost use Rattle.bs_top_plan.specs.Told.{note_refusal, noted, word_refusal, worded};
+ghost use Rattle.bs_top_plan.specs.Diagnostic.{note_refusal, noted, word_refusal, worded};
 ghost use Rattle.bs_top_plan.specs.Walks.{Reads};
 ghost use Rattle.bs_top_files.specs.NoteCases.{HasNote, NoteSays};
 ghost use Rattle.bs_top_files.specs.Noting.{moment_noted, size_noted};
@@ -21,9 +21,9 @@ use bs_stim::Runs;
 use bs_top_plan::{Unread, both};
 use std::alloc::Global;
 
-/// What is told of a moment that no run has.
+/// The diagnostic of a moment that no run has.
 #[tactic(auto, using(crate::proofs::NotingLemmas::both_words, crate::proofs::NotingLemmas::both_these))]
-fn range_told(alloc: Global, runs: &Runs, run: u64) -> Unread
+fn range_diagnostic(alloc: Global, runs: &Runs, run: u64) -> Unread
     ensures words { HasWords range_words (word_refusal result) }
     ensures note { HasNote (exactly (range_text runs.now run)) (note_refusal result) }
 {
@@ -32,15 +32,20 @@ fn range_told(alloc: Global, runs: &Runs, run: u64) -> Unread
     both(words, note)
 }
 
-/// A moment of the runs, or what is told where no run has it.
+/// A moment of the runs, or a diagnostic where no run has it.
 #[tactic(auto, using(crate::proofs::NotingLemmas::words_else, crate::proofs::NotingLemmas::note_else))]
-pub fn moment_or_told(alloc: Global, runs: &Runs, run: u64, cycle: u64) -> Result<Moment, Unread>
+pub fn moment_or_diagnostic(
+    alloc: Global,
+    runs: &Runs,
+    run: u64,
+    cycle: u64,
+) -> Result<Moment, Unread>
     ensures words { Reads CheckSays (λ moment. moment) (moment_in runs.now run cycle) (worded result) }
     ensures note { Reads NoteSays (λ moment. moment) (moment_noted runs.now run cycle) (noted result) }
     ensures recorded { IfOk result (λ moment. IsMoment (inputs_of runs.now) moment) }
 {
     if !has_moment(runs, run, cycle) {
-        return Err(range_told(alloc, runs, run));
+        return Err(range_diagnostic(alloc, runs, run));
     }
     Ok(Moment {
         run: run as u32,
@@ -48,9 +53,9 @@ pub fn moment_or_told(alloc: Global, runs: &Runs, run: u64, cycle: u64) -> Resul
     })
 }
 
-/// What is told of a report whose trace has too large a waveform.
+/// The diagnostic of a report whose trace has too large a waveform.
 #[tactic(auto, using(crate::proofs::NotingLemmas::both_words, crate::proofs::NotingLemmas::both_these))]
-fn size_told(alloc: Global, path: &str) -> Unread
+fn size_diagnostic(alloc: Global, path: &str) -> Unread
     ensures words { HasWords too_large_words (word_refusal result) }
     ensures note { HasNote (exactly (large_text path.now)) (note_refusal result) }
 {
@@ -59,15 +64,20 @@ fn size_told(alloc: Global, path: &str) -> Unread
     both(words, note)
 }
 
-/// Whether a waveform of the report's trace is small enough, or what is told of it.
+/// Whether a waveform of the report's trace is small enough, or the diagnostic of it.
 #[tactic(auto, using(crate::proofs::NotingLemmas::words_else, crate::proofs::NotingLemmas::note_else))]
-pub fn size_or_told(alloc: Global, path: &str, net: &Netlist, report: &Report) -> Result<(), Unread>
+pub fn size_or_diagnostic(
+    alloc: Global,
+    path: &str,
+    net: &Netlist,
+    report: &Report,
+) -> Result<(), Unread>
     ensures words { Reads CheckSays (λ _. true) (size_in net.now.raw report.now) (worded result) }
     ensures note { Reads NoteSays (λ _. true) (size_noted path.now net.now.raw report.now) (noted result) }
 {
     if is_drawable(net, report) {
         Ok(())
     } else {
-        Err(size_told(alloc, path))
+        Err(size_diagnostic(alloc, path))
     }
 }

@@ -1,9 +1,9 @@
 //! The walk over the files of a job: each is fetched, read and checked before the next, up to what they make ready or the first refusal.
 //!
 //! Modules: `refusals` (the words behind a file's name), `netlist`, `texts`, `extent` (a reader each,
-//! `*_or_told`: a value, or the line and the note of one refusal, made of one reading), `ready`
-//! (`Setup`, `Placed`, `Crashed`, `Claimed`: what is ready, with what is right of it), `loading`
-//! (`load_crashed` and its kin: each file is fetched and read once, for both programs). Used above: `WalksTold CheckSays NoteSays ..`, that the code followed the
+//! `*_or_diagnostic`: a value, or the line and the note of one refusal, made of one reading), `ready`
+//! (`Setup`, `MomentFiles`, `CrashFiles`, `AuditFiles`: what is ready, with what is right of it), `loading`
+//! (`load_crash_files` and its kin: each file is fetched and read once, for both programs). Used above: `WalksDiagnosed CheckSays NoteSays ..`, that the code followed the
 //! plan of `specs/Entry` and, in the same fetches, the one of `specs/Looking`, whose refusals are the
 //! notes; `text_in` (`specs/Readings`), what a netlist's text is. A fault: a line in
 //! `specs/Refusals` and an arm in `refusals`. A file: its reading, its two plans and a walk.
@@ -18,14 +18,16 @@ mod ready;
 mod refusals;
 mod texts;
 
-pub use extent::{moment_or_told, size_or_told};
+pub use extent::{moment_or_diagnostic, size_or_diagnostic};
 pub use limits::MAX_WAVE_VALUES;
 pub use loading::{
-    load_claimed, load_crashed, load_drawn, load_dump, load_netlist, load_placed, load_report,
-    load_setup, load_signature, load_stimulus,
+    load_audit_files, load_crash_files, load_drawn, load_dump, load_moment_files, load_netlist,
+    load_report, load_setup, load_signature, load_stimulus,
 };
-pub use netlist::netlist_or_told;
+pub use netlist::netlist_or_diagnostic;
 pub use readings::read_choice;
-pub use ready::{Claimed, Crashed, FileNames, Placed, Setup};
+pub use ready::{AuditFiles, CrashFiles, FileNames, MomentFiles, Setup};
 pub use refusals::worded;
-pub use texts::{dump_or_told, report_or_told, signature_or_told, stimulus_or_told};
+pub use texts::{
+    dump_or_diagnostic, report_or_diagnostic, signature_or_diagnostic, stimulus_or_diagnostic,
+};

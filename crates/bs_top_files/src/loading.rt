@@ -4,36 +4,38 @@ ghost use Rattle.std.specs.Prelude.{◌≡◌, ◌≤◌, ◌+◌, length, IfOk}
 ghost use Rattle.bs_net.specs.Netlist.{circuit};
 ghost use Rattle.bs_report.specs.declared.limits.TheConstants.{MAX_STEPS};
 ghost use Rattle.bs_scan.specs.Crash.{DumpFits};
-ghost use Rattle.bs_top_plan.specs.Telling.{WalksTold};
-ghost use Rattle.bs_top_files.specs.Entry.{claimed_of, crashed_of, drawn_of, dump_of, netlist_of, placed_of, report_of, setup_of, signature_of, stimulus_of};
-ghost use Rattle.bs_top_files.specs.Looking.{claimed_looked, crashed_looked, drawn_looked, dump_looked, netlist_looked, placed_looked};
+ghost use Rattle.bs_top_plan.specs.Telling.{WalksDiagnosed};
+ghost use Rattle.bs_top_files.specs.Entry.{audit_files_of, crash_files_of, drawn_of, dump_of, netlist_of, moment_files_of, report_of, setup_of, signature_of, stimulus_of};
+ghost use Rattle.bs_top_files.specs.Looking.{audit_files_looked, crash_files_looked, drawn_looked, dump_looked, netlist_looked, moment_files_looked};
 ghost use Rattle.bs_top_files.specs.Looking.{report_looked, setup_looked, signature_looked, stimulus_looked};
 ghost use Rattle.bs_top_files.specs.NoteCases.{NoteSays};
-ghost use Rattle.bs_top_files.specs.Ready.{claimed_in, crashed_in, names_in, placed_in, setup_in};
+ghost use Rattle.bs_top_files.specs.Ready.{audit_files_in, crash_files_in, names_in, moment_files_in, setup_in};
 ghost use Rattle.bs_top_files.specs.Refusals.{CheckSays};
 ghost use Rattle.bs_top_files.specs.Steps.{choice_looked, choice_step, claim_looked, claim_step, crash_looked, crash_step, runs_looked, runs_step};
 
-use crate::extent::{moment_or_told, size_or_told};
-use crate::netlist::netlist_or_told;
-use crate::ready::{Claimed, Crashed, FileNames, Placed, Setup};
-use crate::texts::{dump_or_told, report_or_told, signature_or_told, stimulus_or_told};
+use crate::extent::{moment_or_diagnostic, size_or_diagnostic};
+use crate::netlist::netlist_or_diagnostic;
+use crate::ready::{AuditFiles, CrashFiles, FileNames, MomentFiles, Setup};
+use crate::texts::{
+    dump_or_diagnostic, report_or_diagnostic, signature_or_diagnostic, stimulus_or_diagnostic,
+};
 use bs_net::Netlist;
 use bs_outside::Shelf;
 use bs_report::Report;
 use bs_scan::{Choice, Dump};
 use bs_stim::Runs;
-use bs_top_plan::{File, Stop, fetch_file, settle_told};
+use bs_top_plan::{File, WalkStop, fetch_file, settle_diagnostic};
 use std::alloc::Global;
 
 // ---- a file
 
 /// The netlist.
-pub fn load_netlist<S: Shelf>(alloc: Global, shelf: &mut S, name: &str) -> Result<Netlist, Stop>
-    ensures { WalksTold CheckSays NoteSays S.held S.faults S.leads shelf.old shelf.new
+pub fn load_netlist<S: Shelf>(alloc: Global, shelf: &mut S, name: &str) -> Result<Netlist, WalkStop>
+    ensures { WalksDiagnosed CheckSays NoteSays S.held S.faults S.leads shelf.old shelf.new
         (netlist_of name.now) (netlist_looked name.now) (λ net. net.raw) (λ net. net.raw) result }
 {
     let bytes = fetch_file(alloc, shelf, File::Netlist, name)?;
-    settle_told(File::Netlist, netlist_or_told(alloc, name, &bytes))
+    settle_diagnostic(File::Netlist, netlist_or_diagnostic(alloc, name, &bytes))
 }
 
 /// What the netlist's signature is taken of.
@@ -42,13 +44,16 @@ pub fn load_signature<S: Shelf>(
     shelf: &mut S,
     name: &str,
     net: &Netlist,
-) -> Result<Choice, Stop>
-    ensures walks { WalksTold CheckSays NoteSays S.held S.faults S.leads shelf.old shelf.new
+) -> Result<Choice, WalkStop>
+    ensures walks { WalksDiagnosed CheckSays NoteSays S.held S.faults S.leads shelf.old shelf.new
         (signature_of net.now.raw name.now) (signature_looked net.now.raw name.now) (λ choice. choice) (λ choice. choice) result }
     ensures width { IfOk result (λ choice. choice.width ≡ length (circuit net.now).flops) }
 {
     let bytes = fetch_file(alloc, shelf, File::Signature, name)?;
-    settle_told(File::Signature, signature_or_told(alloc, name, &bytes, net))
+    settle_diagnostic(
+        File::Signature,
+        signature_or_diagnostic(alloc, name, &bytes, net),
+    )
 }
 
 /// The recorded runs.
@@ -57,13 +62,16 @@ pub fn load_stimulus<S: Shelf>(
     shelf: &mut S,
     name: &str,
     net: &Netlist,
-) -> Result<Runs, Stop>
-    ensures walks { WalksTold CheckSays NoteSays S.held S.faults S.leads shelf.old shelf.new
+) -> Result<Runs, WalkStop>
+    ensures walks { WalksDiagnosed CheckSays NoteSays S.held S.faults S.leads shelf.old shelf.new
         (stimulus_of net.now.raw name.now) (stimulus_looked net.now.raw name.now) (λ runs. runs) (λ runs. runs) result }
     ensures width { IfOk result (λ runs. runs.width ≡ length (circuit net.now).inputs) }
 {
     let bytes = fetch_file(alloc, shelf, File::Stimulus, name)?;
-    settle_told(File::Stimulus, stimulus_or_told(alloc, name, &bytes, net))
+    settle_diagnostic(
+        File::Stimulus,
+        stimulus_or_diagnostic(alloc, name, &bytes, net),
+    )
 }
 
 /// The dump of the crashed chip.
@@ -72,27 +80,27 @@ pub fn load_dump<S: Shelf>(
     shelf: &mut S,
     name: &str,
     setup: &Setup,
-) -> Result<Dump, Stop>
-    ensures walks { WalksTold CheckSays NoteSays S.held S.faults S.leads shelf.old shelf.new
+) -> Result<Dump, WalkStop>
+    ensures walks { WalksDiagnosed CheckSays NoteSays S.held S.faults S.leads shelf.old shelf.new
         (dump_of (setup_in setup.now) name.now) (dump_looked (setup_in setup.now) name.now) (λ dump. dump) (λ dump. dump) result }
     ensures fits { IfOk result (λ dump. DumpFits (circuit setup.now.net) setup.now.choice dump) }
 {
     let bytes = fetch_file(alloc, shelf, File::Dump, name)?;
-    settle_told(
+    settle_diagnostic(
         File::Dump,
-        dump_or_told(alloc, name, &bytes, &setup.net, &setup.choice),
+        dump_or_diagnostic(alloc, name, &bytes, &setup.net, &setup.choice),
     )
 }
 
 /// The report of a backtrace.
-pub fn load_report<S: Shelf>(alloc: Global, shelf: &mut S, name: &str) -> Result<Report, Stop>
-    ensures walks { WalksTold CheckSays NoteSays S.held S.faults S.leads shelf.old shelf.new
+pub fn load_report<S: Shelf>(alloc: Global, shelf: &mut S, name: &str) -> Result<Report, WalkStop>
+    ensures walks { WalksDiagnosed CheckSays NoteSays S.held S.faults S.leads shelf.old shelf.new
         (report_of name.now) (report_looked name.now) (λ report. report) (λ report. report) result }
     ensures steps { IfOk result (λ report. report.budgets.steps ≤ MAX_STEPS) }
     ensures more { IfOk result (λ report. length report.states ≡ length report.inputs + 1) }
 {
     let bytes = fetch_file(alloc, shelf, File::Report, name)?;
-    settle_told(File::Report, report_or_told(alloc, name, &bytes))
+    settle_diagnostic(File::Report, report_or_diagnostic(alloc, name, &bytes))
 }
 
 // ---- several files
@@ -107,9 +115,9 @@ fn load_runs<S: Shelf>(
     names: &FileNames<'_>,
     net: Netlist,
     choice: Choice,
-) -> Result<Setup, Stop>
+) -> Result<Setup, WalkStop>
     requires { choice.width ≡ length (circuit net).flops }
-    ensures { WalksTold CheckSays NoteSays S.held S.faults S.leads shelf.old shelf.new
+    ensures { WalksDiagnosed CheckSays NoteSays S.held S.faults S.leads shelf.old shelf.new
         (runs_step (names_in names.now) net.raw choice) (runs_looked (names_in names.now) net.raw choice) setup_in setup_in result }
 {
     match load_stimulus(alloc, shelf, names.stimulus, &net) {
@@ -128,8 +136,8 @@ fn load_choice<S: Shelf>(
     shelf: &mut S,
     names: &FileNames<'_>,
     net: Netlist,
-) -> Result<Setup, Stop>
-    ensures { WalksTold CheckSays NoteSays S.held S.faults S.leads shelf.old shelf.new
+) -> Result<Setup, WalkStop>
+    ensures { WalksDiagnosed CheckSays NoteSays S.held S.faults S.leads shelf.old shelf.new
         (choice_step (names_in names.now) net.raw) (choice_looked (names_in names.now) net.raw) setup_in setup_in result }
 {
     match load_signature(alloc, shelf, names.signature, &net) {
@@ -146,8 +154,8 @@ pub fn load_setup<S: Shelf>(
     alloc: Global,
     shelf: &mut S,
     names: &FileNames<'_>,
-) -> Result<Setup, Stop>
-    ensures { WalksTold CheckSays NoteSays S.held S.faults S.leads shelf.old shelf.new
+) -> Result<Setup, WalkStop>
+    ensures { WalksDiagnosed CheckSays NoteSays S.held S.faults S.leads shelf.old shelf.new
         (setup_of (names_in names.now)) (setup_looked (names_in names.now)) setup_in setup_in result }
 {
     match load_netlist(alloc, shelf, names.netlist) {
@@ -157,19 +165,22 @@ pub fn load_setup<S: Shelf>(
 }
 
 /// The same, and a moment of the runs.
-pub fn load_placed<S: Shelf>(
+pub fn load_moment_files<S: Shelf>(
     alloc: Global,
     shelf: &mut S,
     names: &FileNames<'_>,
     run: u64,
     cycle: u64,
-) -> Result<Placed, Stop>
-    ensures { WalksTold CheckSays NoteSays S.held S.faults S.leads shelf.old shelf.new
-        (placed_of (names_in names.now) run cycle) (placed_looked (names_in names.now) run cycle) placed_in placed_in result }
+) -> Result<MomentFiles, WalkStop>
+    ensures { WalksDiagnosed CheckSays NoteSays S.held S.faults S.leads shelf.old shelf.new
+        (moment_files_of (names_in names.now) run cycle) (moment_files_looked (names_in names.now) run cycle) moment_files_in moment_files_in result }
 {
     let setup = load_setup(alloc, shelf, names)?;
-    match settle_told(File::Dump, moment_or_told(alloc, &setup.runs, run, cycle)) {
-        Ok(moment) => Ok(Placed { setup, moment }),
+    match settle_diagnostic(
+        File::Dump,
+        moment_or_diagnostic(alloc, &setup.runs, run, cycle),
+    ) {
+        Ok(moment) => Ok(MomentFiles { setup, moment }),
         Err(stop) => {
             let_go(setup);
             Err(stop)
@@ -183,12 +194,12 @@ fn load_crash<S: Shelf>(
     shelf: &mut S,
     setup: Setup,
     name: &str,
-) -> Result<Crashed, Stop>
-    ensures { WalksTold CheckSays NoteSays S.held S.faults S.leads shelf.old shelf.new
-        (crash_step (setup_in setup) name.now) (crash_looked (setup_in setup) name.now) crashed_in crashed_in result }
+) -> Result<CrashFiles, WalkStop>
+    ensures { WalksDiagnosed CheckSays NoteSays S.held S.faults S.leads shelf.old shelf.new
+        (crash_step (setup_in setup) name.now) (crash_looked (setup_in setup) name.now) crash_files_in crash_files_in result }
 {
     match load_dump(alloc, shelf, name, &setup) {
-        Ok(dump) => Ok(Crashed { setup, dump }),
+        Ok(dump) => Ok(CrashFiles { setup, dump }),
         Err(stop) => {
             let_go(setup);
             Err(stop)
@@ -197,14 +208,14 @@ fn load_crash<S: Shelf>(
 }
 
 /// The three files, and the dump.
-pub fn load_crashed<S: Shelf>(
+pub fn load_crash_files<S: Shelf>(
     alloc: Global,
     shelf: &mut S,
     names: &FileNames<'_>,
     dump: &str,
-) -> Result<Crashed, Stop>
-    ensures { WalksTold CheckSays NoteSays S.held S.faults S.leads shelf.old shelf.new
-        (crashed_of (names_in names.now) dump.now) (crashed_looked (names_in names.now) dump.now) crashed_in crashed_in result }
+) -> Result<CrashFiles, WalkStop>
+    ensures { WalksDiagnosed CheckSays NoteSays S.held S.faults S.leads shelf.old shelf.new
+        (crash_files_of (names_in names.now) dump.now) (crash_files_looked (names_in names.now) dump.now) crash_files_in crash_files_in result }
 {
     match load_setup(alloc, shelf, names) {
         Ok(setup) => load_crash(alloc, shelf, setup, dump),
@@ -216,34 +227,37 @@ pub fn load_crashed<S: Shelf>(
 fn load_claim<S: Shelf>(
     alloc: Global,
     shelf: &mut S,
-    crashed: Crashed,
+    crash_files: CrashFiles,
     name: &str,
-) -> Result<Claimed, Stop>
-    ensures { WalksTold CheckSays NoteSays S.held S.faults S.leads shelf.old shelf.new
-        (claim_step (crashed_in crashed) name.now) (claim_looked (crashed_in crashed) name.now) claimed_in claimed_in result }
+) -> Result<AuditFiles, WalkStop>
+    ensures { WalksDiagnosed CheckSays NoteSays S.held S.faults S.leads shelf.old shelf.new
+        (claim_step (crash_files_in crash_files) name.now) (claim_looked (crash_files_in crash_files) name.now) audit_files_in audit_files_in result }
 {
     match load_report(alloc, shelf, name) {
-        Ok(report) => Ok(Claimed { crashed, report }),
+        Ok(report) => Ok(AuditFiles {
+            crash_files,
+            report,
+        }),
         Err(stop) => {
-            let_go(crashed);
+            let_go(crash_files);
             Err(stop)
         }
     }
 }
 
 /// The same, and a report.
-pub fn load_claimed<S: Shelf>(
+pub fn load_audit_files<S: Shelf>(
     alloc: Global,
     shelf: &mut S,
     names: &FileNames<'_>,
     dump: &str,
     report: &str,
-) -> Result<Claimed, Stop>
-    ensures { WalksTold CheckSays NoteSays S.held S.faults S.leads shelf.old shelf.new
-        (claimed_of (names_in names.now) dump.now report.now) (claimed_looked (names_in names.now) dump.now report.now) claimed_in claimed_in result }
+) -> Result<AuditFiles, WalkStop>
+    ensures { WalksDiagnosed CheckSays NoteSays S.held S.faults S.leads shelf.old shelf.new
+        (audit_files_of (names_in names.now) dump.now report.now) (audit_files_looked (names_in names.now) dump.now report.now) audit_files_in audit_files_in result }
 {
-    match load_crashed(alloc, shelf, names, dump) {
-        Ok(crashed) => load_claim(alloc, shelf, crashed, report),
+    match load_crash_files(alloc, shelf, names, dump) {
+        Ok(crash_files) => load_claim(alloc, shelf, crash_files, report),
         Err(stop) => Err(stop),
     }
 }
@@ -255,16 +269,21 @@ pub fn load_drawn<S: Shelf>(
     names: &FileNames<'_>,
     dump: &str,
     report: &str,
-) -> Result<Claimed, Stop>
-    ensures { WalksTold CheckSays NoteSays S.held S.faults S.leads shelf.old shelf.new
-        (drawn_of (names_in names.now) dump.now report.now) (drawn_looked (names_in names.now) dump.now report.now) claimed_in claimed_in result }
+) -> Result<AuditFiles, WalkStop>
+    ensures { WalksDiagnosed CheckSays NoteSays S.held S.faults S.leads shelf.old shelf.new
+        (drawn_of (names_in names.now) dump.now report.now) (drawn_looked (names_in names.now) dump.now report.now) audit_files_in audit_files_in result }
 {
-    let claimed = load_claimed(alloc, shelf, names, dump, report)?;
-    let size = size_or_told(alloc, report, &claimed.crashed.setup.net, &claimed.report);
-    match settle_told(File::Report, size) {
-        Ok(()) => Ok(claimed),
+    let audit_files = load_audit_files(alloc, shelf, names, dump, report)?;
+    let size = size_or_diagnostic(
+        alloc,
+        report,
+        &audit_files.crash_files.setup.net,
+        &audit_files.report,
+    );
+    match settle_diagnostic(File::Report, size) {
+        Ok(()) => Ok(audit_files),
         Err(stop) => {
-            let_go(claimed);
+            let_go(audit_files);
             Err(stop)
         }
     }

@@ -1,4 +1,4 @@
-//! A netlist, or what is told of its text.
+//! A netlist, or the diagnostic of its text.
 ghost use Rattle.std.specs.Prelude.{◌≡◌, ◌≤◌, length, IfOk};
 ghost use Rattle.bs_net.specs.Check.{IsFault};
 ghost use Rattle.bs_net.specs.Netlist.{parts_of};
@@ -9,7 +9,7 @@ ghost use Rattle.bs_top_plan.specs.Plan.{any_of, Says};
 ghost use Rattle.bs_top_plan.specs.Walks.{Reads};
 ghost use Rattle.bs_top_files.specs.Readings.{checked_in, netlist_in};
 ghost use Rattle.bs_top_files.specs.Refusals.{CheckSays, flat_words, HasCheckWords, HasWords, with_one};
-ghost use Rattle.bs_top_plan.specs.Told.{note_refusal, noted, word_refusal, worded};
+ghost use Rattle.bs_top_plan.specs.Diagnostic.{note_refusal, noted, word_refusal, worded};
 ghost use Rattle.bs_top_files.specs.NoteCases.{HasNote, in_check, NoteSays};
 ghost use Rattle.bs_top_files.specs.Noting.{checked_noted, netlist_noted, netlist_note_reason};
 
@@ -32,9 +32,9 @@ fn note_of(alloc: Global, path: &str, text: &[u8], fault: &FlatFault) -> Result<
     }
 }
 
-/// What is told of a text that is no netlist.
+/// The diagnostic of a text that is no netlist.
 #[tactic(auto, using(crate::proofs::NotingLemmas::both_words, crate::proofs::NotingLemmas::both_note, crate::proofs::NotingLemmas::both_want))]
-fn text_told(alloc: Global, path: &str, text: &[u8], fault: &FlatFault) -> Unread
+fn text_diagnostic(alloc: Global, path: &str, text: &[u8], fault: &FlatFault) -> Unread
     ensures words { HasWords (flat_words fault.now) (word_refusal result) }
     ensures want { fault.now ≡ TextWant → word_refusal result ≡ Want }
     ensures note { HasNote (netlist_note_reason path.now text.now (with_one fault.now)) (note_refusal result) }
@@ -45,9 +45,9 @@ fn text_told(alloc: Global, path: &str, text: &[u8], fault: &FlatFault) -> Unrea
     both(words, note)
 }
 
-/// What is told of a netlist that the check refuses.
-#[tactic(auto, using(crate::proofs::NotingLemmas::check_words, crate::proofs::NotingLemmas::check_told))]
-fn fault_told(alloc: Global, path: &str, text: &[u8], raw: &Raw, fault: &NetFault) -> Unread
+/// The diagnostic of a netlist that the check refuses.
+#[tactic(auto, using(crate::proofs::NotingLemmas::check_words, crate::proofs::NotingLemmas::check_diagnostic))]
+fn fault_diagnostic(alloc: Global, path: &str, text: &[u8], raw: &Raw, fault: &NetFault) -> Unread
     requires is { IsFault (parts_of raw.now) fault.now }
     ensures words { HasCheckWords (parts_of raw.now) (word_refusal result) }
     ensures note { HasNote (any_of (in_check path.now text.now (parts_of raw.now))) (note_refusal result) }
@@ -61,34 +61,34 @@ fn fault_told(alloc: Global, path: &str, text: &[u8], raw: &Raw, fault: &NetFaul
 }
 
 /// The same of what the check gives back, which nobody needs behind it.
-fn refused_told(alloc: Global, path: &str, text: &[u8], refused: Refused) -> Unread
+fn refused_diagnostic(alloc: Global, path: &str, text: &[u8], refused: Refused) -> Unread
     requires is { IsFault (parts_of refused.raw) refused.fault }
     ensures words { HasCheckWords (parts_of refused.raw) (word_refusal result) }
     ensures note { HasNote (any_of (in_check path.now text.now (parts_of refused.raw))) (note_refusal result) }
 {
-    let told = fault_told(alloc, path, text, &refused.raw, &refused.fault);
-    told
+    let diagnostic = fault_diagnostic(alloc, path, text, &refused.raw, &refused.fault);
+    diagnostic
 }
 
-/// The netlist of parts that pass the check, or what is told of them.
-fn check_or_told(alloc: Global, path: &str, text: &[u8], raw: Raw) -> Result<Netlist, Unread>
+/// The netlist of parts that pass the check, or the diagnostic of them.
+fn check_or_diagnostic(alloc: Global, path: &str, text: &[u8], raw: Raw) -> Result<Netlist, Unread>
     ensures words { Reads CheckSays (λ net. net.raw) (checked_in (parts_of raw)) (worded result) }
     ensures note { Reads NoteSays (λ net. net.raw) (checked_noted path.now text.now (parts_of raw)) (noted result) }
 {
     match Netlist::check(alloc, raw) {
         Ok(net) => Ok(net),
-        Err(refused) => Err(refused_told(alloc, path, text, refused)),
+        Err(refused) => Err(refused_diagnostic(alloc, path, text, refused)),
     }
 }
 
-/// A netlist that passes the check, or what is told of its text.
-pub fn netlist_or_told(alloc: Global, path: &str, text: &[u8]) -> Result<Netlist, Unread>
+/// A netlist that passes the check, or the diagnostic of its text.
+pub fn netlist_or_diagnostic(alloc: Global, path: &str, text: &[u8]) -> Result<Netlist, Unread>
     requires { length text.now ≤ MAX_NETLIST_BYTES }
     ensures words { Reads CheckSays (λ net. net.raw) (netlist_in text.now) (worded result) }
     ensures note { Reads NoteSays (λ net. net.raw) (netlist_noted path.now text.now) (noted result) }
 {
     match bs_flat::read(alloc, text) {
-        Ok(raw) => check_or_told(alloc, path, text, raw),
-        Err(fault) => Err(text_told(alloc, path, text, &fault)),
+        Ok(raw) => check_or_diagnostic(alloc, path, text, raw),
+        Err(fault) => Err(text_diagnostic(alloc, path, text, &fault)),
     }
 }

@@ -33,7 +33,7 @@ pub struct Setup {
 
 /// A setup and a moment of its runs.
 #[derive(Drop)]
-pub struct Placed {
+pub struct MomentFiles {
     pub setup: Setup,
     pub moment: Moment,
     ghost recorded: { IsMoment (inputs_of setup.runs) moment },
@@ -41,7 +41,7 @@ pub struct Placed {
 
 /// A setup and the dump of the crashed chip.
 #[derive(Drop)]
-pub struct Crashed {
+pub struct CrashFiles {
     pub setup: Setup,
     pub dump: Dump,
     ghost fits: { DumpFits (circuit setup.net) setup.choice dump } by { Prim.hlevel (props, depth_prop) },
@@ -49,8 +49,8 @@ pub struct Crashed {
 
 /// A crash and a report of its backtrace.
 #[derive(Drop)]
-pub struct Claimed {
-    pub crashed: Crashed,
+pub struct AuditFiles {
+    pub crash_files: CrashFiles,
     pub report: Report,
     ghost steps: { report.budgets.steps ≤ MAX_STEPS },
 }

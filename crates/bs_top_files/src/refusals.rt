@@ -178,7 +178,7 @@ fn unsupported(alloc: Global, at: u32, what: What) -> Refusal
 }
 
 /// Why the check refuses a netlist.
-#[tactic(auto, using(crate::proofs::RefusalLemmas::check_told))]
+#[tactic(auto, using(crate::proofs::RefusalLemmas::check_diagnostic))]
 pub fn check_refusal(alloc: Global, raw: &Raw, fault: &NetFault) -> Refusal
     requires is { IsFault (parts_of raw.now) fault.now }
     ensures { HasCheckWords (parts_of raw.now) result }

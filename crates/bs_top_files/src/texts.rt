@@ -1,4 +1,4 @@
-//! A signature, a stimulus, a dump or a report, or what is told of its text: the words of the refusal line and the note on it.
+//! A signature, a stimulus, a dump or a report, or the diagnostic of its text: the words of the refusal line and the note on it.
 ghost use Rattle.std.specs.Prelude.{◌≡◌, ◌≤◌, ◌+◌, length, IfOk};
 ghost use Rattle.bs_net.specs.Netlist.{circuit};
 ghost use Rattle.bs_report.specs.declared.fault.ReportFault.TheVariants.{NoMemory as ReportWant};
@@ -10,7 +10,7 @@ ghost use Rattle.bs_stim.specs.declared.fault.StimFault.TheVariants.{NoMemory as
 ghost use Rattle.bs_top_plan.specs.declared.limits.TheConstants.{MAX_REPORT_BYTES, MAX_SIGNATURE_BYTES, MAX_STIMULUS_BYTES};
 ghost use Rattle.bs_top_plan.specs.declared.walk.Refusal.TheVariants.{NoMemory as Want};
 ghost use Rattle.bs_top_plan.specs.Plan.{Says};
-ghost use Rattle.bs_top_plan.specs.Told.{note_refusal, noted, word_refusal, worded};
+ghost use Rattle.bs_top_plan.specs.Diagnostic.{note_refusal, noted, word_refusal, worded};
 ghost use Rattle.bs_top_plan.specs.Walks.{Reads};
 ghost use Rattle.bs_top_files.specs.Entry.{input_width};
 ghost use Rattle.bs_top_files.specs.NoteCases.{HasNote, NoteSays};
@@ -51,9 +51,9 @@ fn signature_said(
     }
 }
 
-/// What is told of a text that is no signature.
+/// The diagnostic of a text that is no signature.
 #[tactic(auto, using(crate::proofs::NotingLemmas::both_words, crate::proofs::NotingLemmas::both_note, crate::proofs::NotingLemmas::both_want))]
-fn signature_told(
+fn signature_diagnostic(
     alloc: Global,
     path: &str,
     text: &[u8],
@@ -70,8 +70,8 @@ fn signature_told(
     both(words, note)
 }
 
-/// What a signature is taken of, or what is told of its text.
-pub fn signature_or_told(
+/// What a signature is taken of, or the diagnostic of its text.
+pub fn signature_or_diagnostic(
     alloc: Global,
     path: &str,
     text: &[u8],
@@ -84,7 +84,7 @@ pub fn signature_or_told(
 {
     match read_choice(alloc, text, net) {
         Ok(choice) => Ok(choice),
-        Err(fault) => Err(signature_told(alloc, path, text, net, fault)),
+        Err(fault) => Err(signature_diagnostic(alloc, path, text, net, fault)),
     }
 }
 
@@ -107,9 +107,15 @@ fn stimulus_said(
     }
 }
 
-/// What is told of a text that is no stimulus.
+/// The diagnostic of a text that is no stimulus.
 #[tactic(auto, using(crate::proofs::NotingLemmas::both_words, crate::proofs::NotingLemmas::both_note, crate::proofs::NotingLemmas::both_want))]
-fn stimulus_told(alloc: Global, path: &str, text: &[u8], width: usize, fault: StimFault) -> Unread
+fn stimulus_diagnostic(
+    alloc: Global,
+    path: &str,
+    text: &[u8],
+    width: usize,
+    fault: StimFault,
+) -> Unread
     ensures words { HasWords (stimulus_words fault) (word_refusal result) }
     ensures want { fault ≡ StimWant → word_refusal result ≡ Want }
     ensures note { HasNote (stimulus_note_reason width path.now text.now fault) (note_refusal result) }
@@ -120,8 +126,8 @@ fn stimulus_told(alloc: Global, path: &str, text: &[u8], width: usize, fault: St
     both(words, note)
 }
 
-/// The runs of a stimulus, or what is told of its text.
-pub fn stimulus_or_told(
+/// The runs of a stimulus, or the diagnostic of its text.
+pub fn stimulus_or_diagnostic(
     alloc: Global,
     path: &str,
     text: &[u8],
@@ -135,7 +141,7 @@ pub fn stimulus_or_told(
     let width = net.data_inputs().len();
     match bs_stim::read(alloc, text, width) {
         Ok(runs) => Ok(runs),
-        Err(fault) => Err(stimulus_told(alloc, path, text, width, fault)),
+        Err(fault) => Err(stimulus_diagnostic(alloc, path, text, width, fault)),
     }
 }
 
@@ -169,9 +175,15 @@ fn dump_said(
     }
 }
 
-/// What is told of a text that is no dump.
+/// The diagnostic of a text that is no dump.
 #[tactic(auto, using(crate::proofs::NotingLemmas::both_words, crate::proofs::NotingLemmas::both_note, crate::proofs::NotingLemmas::both_want))]
-fn dump_told(alloc: Global, path: &str, text: &[u8], widths: Widths, fault: DumpFault) -> Unread
+fn dump_diagnostic(
+    alloc: Global,
+    path: &str,
+    text: &[u8],
+    widths: Widths,
+    fault: DumpFault,
+) -> Unread
     ensures words { HasWords (dump_words fault) (word_refusal result) }
     ensures want { fault ≡ DumpWant → word_refusal result ≡ Want }
     ensures note { HasNote (dump_note_reason widths path.now text.now fault) (note_refusal result) }
@@ -182,8 +194,8 @@ fn dump_told(alloc: Global, path: &str, text: &[u8], widths: Widths, fault: Dump
     both(words, note)
 }
 
-/// A dump, or what is told of its text.
-pub fn dump_or_told(
+/// A dump, or the diagnostic of its text.
+pub fn dump_or_diagnostic(
     alloc: Global,
     path: &str,
     text: &[u8],
@@ -197,7 +209,7 @@ pub fn dump_or_told(
     let widths = widths_of(net, choice);
     match Dump::read(alloc, text, net, choice) {
         Ok(dump) => Ok(dump),
-        Err(fault) => Err(dump_told(alloc, path, text, widths, fault)),
+        Err(fault) => Err(dump_diagnostic(alloc, path, text, widths, fault)),
     }
 }
 
@@ -219,9 +231,9 @@ fn report_said(
     }
 }
 
-/// What is told of a text that is no report.
+/// The diagnostic of a text that is no report.
 #[tactic(auto, using(crate::proofs::NotingLemmas::both_words, crate::proofs::NotingLemmas::both_note, crate::proofs::NotingLemmas::both_want))]
-fn report_told(alloc: Global, path: &str, text: &[u8], fault: ReportFault) -> Unread
+fn report_diagnostic(alloc: Global, path: &str, text: &[u8], fault: ReportFault) -> Unread
     ensures words { HasWords (report_words fault) (word_refusal result) }
     ensures want { fault ≡ ReportWant → word_refusal result ≡ Want }
     ensures note { HasNote (report_note_reason path.now text.now fault) (note_refusal result) }
@@ -232,8 +244,8 @@ fn report_told(alloc: Global, path: &str, text: &[u8], fault: ReportFault) -> Un
     both(words, note)
 }
 
-/// A report, or what is told of its text.
-pub fn report_or_told(alloc: Global, path: &str, text: &[u8]) -> Result<Report, Unread>
+/// A report, or the diagnostic of its text.
+pub fn report_or_diagnostic(alloc: Global, path: &str, text: &[u8]) -> Result<Report, Unread>
     requires { length text.now ≤ MAX_REPORT_BYTES }
     ensures words { Reads CheckSays (λ report. report) (report_read text.now) (worded result) }
     ensures note { Reads NoteSays (λ report. report) (report_noted path.now text.now) (noted result) }
@@ -242,6 +254,6 @@ pub fn report_or_told(alloc: Global, path: &str, text: &[u8]) -> Result<Report, 
 {
     match Report::read(alloc, text) {
         Ok(report) => Ok(report),
-        Err(fault) => Err(report_told(alloc, path, text, fault)),
+        Err(fault) => Err(report_diagnostic(alloc, path, text, fault)),
     }
 }

@@ -14,7 +14,7 @@ use Rattle.bs_top_plan.specs.declared.walk.JobFault.{JobFault}
 use Rattle.bs_top_plan.specs.declared.walk.JobFault.TheVariants as S
 use Rattle.bs_top_plan.specs.Files.{limit_of}
 use Rattle.bs_top_plan.specs.Plan.{Tells, Counts, Wanted, Reason, exactly, Says, Plan, fetch, refuse, end, ◌>>=◌, fetched, given_next, with_texts, AllTold}
-use Rattle.bs_top_plan.specs.Plan.{read_as, Outcome, ready, refused, faulted, Ends}
+use Rattle.bs_top_plan.specs.Plan.{read_as, PlanOutcome, ready, refused, faulted, Ends}
 use Rattle.bs_top_plan.specs.Walks.{ComesTo, WalksTo, Reads, settled}
 use Rattle.bs_top_plan.specs.Asking.{AfterFetch, Along, CallTo, GoesTo}
 use Rattle.bs_top_plan.proofs.Plans.{ready_in, refused_in, faulted_in, ready_same, refused_same, faulted_same}
@@ -34,14 +34,14 @@ along_none (refuse file why) = (refl, tt)
 along_none (fetch w next) = refl
 
 -- memory may run out at any end
-after_weak : {R V : Type 0} (w : Wanted) (answer : Fetch) (calls : List FetchCall) (outcome : Outcome R V) (P Q : Type 0) → (P → Q) →
+after_weak : {R V : Type 0} (w : Wanted) (answer : Fetch) (calls : List FetchCall) (outcome : PlanOutcome R V) (P Q : Type 0) → (P → Q) →
     AfterFetch w answer calls (Some outcome) P → AfterFetch {R = R} {V = V} w answer calls None Q
 after_weak w F.Done calls outcome P Q step h = step h
 after_weak w F.TooLong calls outcome P Q step h = (h.0, tt)
 after_weak w F.Failed calls outcome P Q step h = (h.0, tt)
 after_weak w F.NoMemory calls outcome P Q step h = (h.0, refl)
 
-pub along_weak : {R V : Type 0} (plan : Plan R V) (calls : List FetchCall) (outcome : Outcome R V) → Along plan calls (Some outcome) → Along plan calls None
+pub along_weak : {R V : Type 0} (plan : Plan R V) (calls : List FetchCall) (outcome : PlanOutcome R V) → Along plan calls (Some outcome) → Along plan calls None
 along_weak (end v) calls outcome h = (h.0, tt)
 along_weak (refuse file why) calls outcome h = (h.0, tt)
 along_weak (fetch w next) [] outcome h = refl
@@ -69,11 +69,11 @@ after_ready R V w F.NoMemory calls v P (none, is) = absurd (wrong is)
     wrong : Some (ready_in R V v) ≡ None → ⊥
     wrong e = cc
 
-after_done : {R V : Type 0} (w : Wanted) (answer : Fetch) (calls : List FetchCall) (outcome : Option (Outcome R V)) (P : Type 0) → answer ≡ F.Done →
+after_done : {R V : Type 0} (w : Wanted) (answer : Fetch) (calls : List FetchCall) (outcome : Option (PlanOutcome R V)) (P : Type 0) → answer ≡ F.Done →
     P → AfterFetch w answer calls outcome P
 after_done {R} {V} w answer calls outcome P e p = subst (λ (a : Fetch). AfterFetch {R = R} {V = V} w a calls outcome P) (sym e) p
 
-pub along_then : {R A B : Type 0} (plan : Plan R A) (f : A → Plan R B) (a : A) (calls more : List FetchCall) (outcome : Option (Outcome R B)) →
+pub along_then : {R A B : Type 0} (plan : Plan R A) (f : A → Plan R B) (a : A) (calls more : List FetchCall) (outcome : Option (PlanOutcome R B)) →
     Along plan calls (Some (ready a)) → Along (f a) more outcome → Along (plan >>= f) (calls ++ more) outcome
 along_then {R} {A} {B} (end v) f a calls more outcome (none, is) k =
     subst (λ (l : List FetchCall). Along (f v) (l ++ more) outcome) (sym none) (subst (λ x. Along (f x) more outcome) (ready_same R A a v is) k)
@@ -93,7 +93,7 @@ along_then {R} {A} {B} (fetch w next) f a (call ∷ calls) more outcome (asks, a
     )
 
 -- one end stands for another, where neither is a value
-pub record StopsAs {R A B : Type 0} (one : Option (Outcome R A)) (other : Option (Outcome R B)) : Type 0 where
+pub record StopsAs {R A B : Type 0} (one : Option (PlanOutcome R A)) (other : Option (PlanOutcome R B)) : Type 0 where
   pub ended : (v : A) → IfSome one (λ o. o ≡ ready v) → other ≡ None
   pub refuses : (file : File) (why : Reason R) → IfSome one (λ o. o ≡ refused file why) → IfSome other (λ o. o ≡ refused file why)
   pub faults : (file : File) → IfSome one (λ o. o ≡ faulted file) → IfSome other (λ o. o ≡ faulted file)
@@ -136,7 +136,7 @@ stops_faulted R A B file = record {
     wants : Some (faulted_in R A file) ≡ None → ⊥
     wants e = cc
 
-after_stop : {R A B : Type 0} (w : Wanted) (answer : Fetch) (calls : List FetchCall) (one : Option (Outcome R A)) (other : Option (Outcome R B))
+after_stop : {R A B : Type 0} (w : Wanted) (answer : Fetch) (calls : List FetchCall) (one : Option (PlanOutcome R A)) (other : Option (PlanOutcome R B))
     (P Q : Type 0) → StopsAs one other → (P → Q) → AfterFetch w answer calls one P → AfterFetch w answer calls other Q
 after_stop w F.Done calls one other P Q stands step h = step h
 after_stop w F.TooLong calls one other P Q stands step h = (h.0, stands.refuses w.file (exactly (codes "TooLong")) h.1)
@@ -144,11 +144,11 @@ after_stop w F.Failed calls one other P Q stands step h = (h.0, stands.faults w.
 after_stop w F.NoMemory calls one other P Q stands step h = (h.0, stands.wants h.1)
 
 along_stop : {R A B : Type 0} (plan : Plan R A) (f : A →
-    Plan R B) (calls : List FetchCall) (one : Option (Outcome R A)) (other : Option (Outcome R B)) → StopsAs one other → Along plan calls one →
+    Plan R B) (calls : List FetchCall) (one : Option (PlanOutcome R A)) (other : Option (PlanOutcome R B)) → StopsAs one other → Along plan calls one →
     Along (plan >>= f) calls other
 along_stop {R} {A} {B} (end v) f calls one other stands (none, is) =
     subst (λ (l : List FetchCall). Along (f v) l other) (sym none)
-    (subst (λ (o : Option (Outcome R B)). Along (f v) [] o) (sym (stands.ended v is)) (along_none (f v)))
+    (subst (λ (o : Option (PlanOutcome R B)). Along (f v) [] o) (sym (stands.ended v is)) (along_none (f v)))
 along_stop (refuse file why) f calls one other stands (none, is) = (none, stands.refuses file why is)
 along_stop (fetch w next) f [] one other stands h = stands.wants h
 along_stop (fetch w next) f (call ∷ calls) one other stands (asks, after) =
@@ -188,7 +188,7 @@ file_goes {R} allows told told' before now file name call (Err (S.Refused other 
   ),
 )
   where
-    long_of : File → Outcome R (List ℕ)
+    long_of : File → PlanOutcome R (List ℕ)
     long_of f = refused_in R (List ℕ) f (exactly (codes "TooLong"))
 
 -- why the bytes are refused
@@ -234,7 +234,7 @@ goes_as allows plan g view calls (Err stop) h = stop_goes allows plan (λ v. end
 -- ---- plans that ask for nothing
 
 pub record AsksNothing {R V : Type 0} (plan : Plan R V) : Type 0 where
-  pub is : (told : Tells) (before now : Counts) (outcome : Outcome R V) → Ends told before now plan outcome → Along plan [] (Some outcome)
+  pub is : (told : Tells) (before now : Counts) (outcome : PlanOutcome R V) → Ends told before now plan outcome → Along plan [] (Some outcome)
 
 -- one over texts of the program's own
 pub texts_ask_nothing : {R V : Type 0} (told : Tells) (plan : Plan R V) → AllTold told plan → AsksNothing (with_texts told plan)

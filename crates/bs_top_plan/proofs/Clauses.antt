@@ -10,7 +10,7 @@ use Rattle.bs_top_plan.specs.declared.status.Status.{Status}
 use Rattle.bs_top_plan.specs.declared.status.Status.TheVariants.{Words, ReadFault, WriteFault}
 use Rattle.bs_top_plan.specs.declared.reply.Reply.{Reply}
 use Rattle.bs_top_plan.specs.Files.{refusal_line, refusal_status, refused_file, is_work_status}
-use Rattle.bs_top_plan.specs.Plan.{Tells, Counts, Reason, Plan, Outcome, ready, refused, faulted, Ends, told_end}
+use Rattle.bs_top_plan.specs.Plan.{Tells, Counts, Reason, Plan, PlanOutcome, ready, refused, faulted, Ends, told_end}
 use Rattle.bs_top_plan.specs.Answers.{Answers, CallsFor, CallsByTold}
 use Rattle.bs_top_plan.specs.Prepared.{Prepares, Prepared, IsWork}
 use Rattle.bs_top_plan.specs.Delivery.{Delivers, PutsLines}
@@ -46,9 +46,9 @@ calls_by_told : {R W : Type 0} (allows : R → List ℕ → Type 0) (finishes : 
 calls_by_told allows finishes told before now None status text h calm = h
 calls_by_told {R = R} {W = W} allows finishes told before now (Some plan) status text h calm =
     let no_fault : (file : File) → h.outcome ≢ faulted file =
-    λ file is. calm (subst (λ (o : Outcome R W). Answers allows finishes o status text) is h.answers).0 in
+    λ file is. calm (subst (λ (o : PlanOutcome R W). Answers allows finishes o status text) is h.answers).0 in
     if_some_weaker (told_end told plan) (λ o. h.outcome ≡ o) (λ o. Answers allows finishes o status text)
-    (λ o is. subst (λ (o' : Outcome R W). Answers allows finishes o' status text) is h.answers) (ends_as_told told before now plan h.outcome h.ends no_fault)
+    (λ o is. subst (λ (o' : PlanOutcome R W). Answers allows finishes o' status text) is h.answers) (ends_as_told told before now plan h.outcome h.ends no_fault)
 
 pub answered_as_told : {R W : Type 0} {allows : R → List ℕ → Type 0} {finishes : W → Status → List ℕ →
     Type 0} {told : Tells} {before now : Counts} {plan : Option (Plan R W)} {answer : Reply} {w0 w1 : Option (List ℕ)} {f0 f1 : ℕ} {status : Status} →
@@ -69,14 +69,14 @@ answered_as_told {allows = allows} {finishes = finishes} {told = told} {before =
 
 -- only a fault is answered by ReadFault
 answers_plain : {R W : Type 0} (allows : R → List ℕ → Type 0) (finishes : W → Status → List ℕ →
-    Type 0) (outcome : Outcome R W) (status : Status) (text : List ℕ) → IsWork finishes → Answers allows finishes outcome status text →
+    Type 0) (outcome : PlanOutcome R W) (status : Status) (text : List ℕ) → IsWork finishes → Answers allows finishes outcome status text →
     ((file : File) → outcome ≢ faulted file) → IsPlain status
 answers_plain allows finishes (ready work) status text kind h calm = work_plain status (kind.status work status text h)
 answers_plain allows finishes (refused file why) status text kind h calm = refusal_plain status file h.0
 answers_plain allows finishes (faulted file) status text kind h calm = absurd (calm file refl)
 
 failed : {R W : Type 0} (allows : R → List ℕ → Type 0) (finishes : W → Status → List ℕ →
-    Type 0) (told : Tells) (before now : Counts) (plan : Plan R W) (outcome : Outcome R W) (w0 w1 : Option (List ℕ)) (status : Status)
+    Type 0) (told : Tells) (before now : Counts) (plan : Plan R W) (outcome : PlanOutcome R W) (w0 w1 : Option (List ℕ)) (status : Status)
     (text : List ℕ) → IsWork finishes → Ends told before now plan outcome → Answers allows finishes outcome status text → status ≡ ReadFault →
     Appends w0 w1 text → FailedToRead told before now plan w0 w1
 failed allows finishes told before now plan (ready work) w0 w1 status text kind ends h is wrote =
@@ -145,7 +145,7 @@ complete {told = told} {before = before} {now = now} {plan = plan} {w0 = w0} {w1
 
 -- no outcome of a plan is answered by Words
 not_words : {R W : Type 0} (allows : R → List ℕ → Type 0) (finishes : W → Status → List ℕ →
-    Type 0) (outcome : Outcome R W) (status : Status) (text : List ℕ) → IsWork finishes → Answers allows finishes outcome status text → status ≢ Words
+    Type 0) (outcome : PlanOutcome R W) (status : Status) (text : List ℕ) → IsWork finishes → Answers allows finishes outcome status text → status ≢ Words
 not_words allows finishes (ready work) status text kind h = (work_plain status (kind.status work status text h)).words
 not_words allows finishes (refused file why) status text kind h = (refusal_plain status file h.0).words
 not_words allows finishes (faulted file) status text kind h = λ e. wrong (sym h.0 ∙ e)
@@ -190,7 +190,7 @@ work_no_file status file work is = none file (ap is_work_status (sym is) ∙ wor
 
 -- the status of a refusal comes exactly where the outcome refuses what it names
 refuses_exactly : {R W : Type 0} (allows : R → List ℕ → Type 0) (finishes : W → Status → List ℕ →
-    Type 0) (outcome : Outcome R W) (status : Status) (text : List ℕ) → IsWork finishes → Answers allows finishes outcome status text →
+    Type 0) (outcome : PlanOutcome R W) (status : Status) (text : List ℕ) → IsWork finishes → Answers allows finishes outcome status text →
     (file : File) → (status ≡ refusal_status file) ↔ Refuses outcome file
 refuses_exactly allows finishes (ready work) status text kind h file =
     (λ is. absurd (work_no_file status file (kind.status work status text h) is), λ r. absurd (unready r.1))
@@ -214,16 +214,16 @@ refuses_first allows finishes told before now None status text kind h read = λ 
 refuses_first {R = R} {W = W} allows finishes told before now (Some plan) status text kind h read = record {
   exact =
       if_some_weaker (told_end told plan) (λ o. h.outcome ≡ o) (λ o. (file : File) → (status ≡ refusal_status file) ↔ Refuses o file)
-      (λ o is. subst (λ (o' : Outcome R W). (file : File) → (status ≡ refusal_status file) ↔ Refuses o' file) is each)
+      (λ o is. subst (λ (o' : PlanOutcome R W). (file : File) → (status ≡ refusal_status file) ↔ Refuses o' file) is each)
       (ends_as_told told before now plan h.outcome h.ends no_fault);
-  some_way = λ file is. let r = (each file).0 is in (r.0, subst (λ (o : Outcome R W). Ends told before now plan o) r.1 h.ends);
+  some_way = λ file is. let r = (each file).0 is in (r.0, subst (λ (o : PlanOutcome R W). Ends told before now plan o) r.1 h.ends);
 }
   where
     each : (file : File) → (status ≡ refusal_status file) ↔ Refuses h.outcome file
     each = refuses_exactly allows finishes h.outcome status text kind h.answers
 
     no_fault : (file : File) → h.outcome ≢ faulted file
-    no_fault file is = read (subst (λ (o : Outcome R W). Answers allows finishes o status text) is h.answers).0
+    no_fault file is = read (subst (λ (o : PlanOutcome R W). Answers allows finishes o status text) is h.answers).0
 
 -- each refusal status is exactly the walk's first refusal
 pub refuses_first_of : {R W : Type 0} {allows : R → List ℕ → Type 0} {finishes : W → Status → List ℕ →

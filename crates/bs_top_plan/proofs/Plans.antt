@@ -5,14 +5,14 @@ use Rattle.std.specs.Prelude.{Bool, true, false, nat_lt, if◌then◌else◌, If
 use Rattle.bs_outside.specs.Faults.{Rose}
 use Rattle.bs_top_plan.specs.declared.file.File.{File}
 use Rattle.bs_top_plan.specs.Files.{limit_of}
-use Rattle.bs_top_plan.specs.Plan.{Tells, Counts, Wanted, Reason, exactly, Plan, fetch, refuse, end, ◌>>=◌, Outcome, ready, refused, faulted, Ends}
+use Rattle.bs_top_plan.specs.Plan.{Tells, Counts, Wanted, Reason, exactly, Plan, fetch, refuse, end, ◌>>=◌, PlanOutcome, ready, refused, faulted, Ends}
 use Rattle.bs_top_plan.specs.Plan.{told_next, told_end, Reaches}
 
 if_some_along : (told told' : Option (List ℕ)) (P : List ℕ → Type 0) → told' ≡ told → IfSome told' P → IfSome told P
 if_some_along told told' P same h = subst (λ (t : Option (List ℕ)). IfSome t P) same h
 
 -- it ends so also where the shelf tells the same and has counted more since
-pub ends_along : {R V : Type 0} (told told' : Tells) (before before' now now' : Counts) (plan : Plan R V) (outcome : Outcome R V) →
+pub ends_along : {R V : Type 0} (told told' : Tells) (before before' now now' : Counts) (plan : Plan R V) (outcome : PlanOutcome R V) →
     ((n : List ℕ) → told' n ≡ told n) → ((n : List ℕ) → before' n ≡ before n) → ((n : List ℕ) → now n ≤ now' n) →
     Ends told' before' now plan outcome → Ends told before now' plan outcome
 ends_along told told' before before' now now' (end v) outcome same is later h = h
@@ -28,13 +28,13 @@ ends_along told told' before before' now now' (fetch w next) outcome same is lat
 ends_along told told' before before' now now' (fetch w next) outcome same is later (inr (inr (rose, ended))) =
     inr (inr (omega (arith, rose, is w.name, later w.name), ended))
 
-abbrev pub ready_in : (R A : Type 0) → A → Outcome R A
+abbrev pub ready_in : (R A : Type 0) → A → PlanOutcome R A
 ready_in R A a = ready a
 
-abbrev pub refused_in : (R A : Type 0) → File → Reason R → Outcome R A
+abbrev pub refused_in : (R A : Type 0) → File → Reason R → PlanOutcome R A
 refused_in R A file why = refused file why
 
-abbrev pub faulted_in : (R A : Type 0) → File → Outcome R A
+abbrev pub faulted_in : (R A : Type 0) → File → PlanOutcome R A
 faulted_in R A file = faulted file
 
 pub ready_same : (R A : Type 0) (x y : A) → ready_in R A x ≡ ready_in R A y → x ≡ y
@@ -51,7 +51,7 @@ pub faulted_same : (R A : Type 0) (file file' : File) → faulted_in R A file �
 faulted_same R A file file' e = cc
 
 -- a plan that went to its end goes on
-pub ends_then : {R A B : Type 0} (told : Tells) (before now : Counts) (plan : Plan R A) (f : A → Plan R B) (a : A) (outcome : Outcome R B) →
+pub ends_then : {R A B : Type 0} (told : Tells) (before now : Counts) (plan : Plan R A) (f : A → Plan R B) (a : A) (outcome : PlanOutcome R B) →
     Ends told before now plan (ready a) → Ends told before now (f a) outcome → Ends told before now (plan >>= f) outcome
 ends_then {R} {A} told before now (end v) f a outcome h k = subst (λ x. Ends told before now (f x) outcome) (ready_same R A a v h) k
 ends_then told before now (refuse file why) f a outcome h k = absurd (cc)
@@ -81,7 +81,7 @@ ends_faulted {R = R} {A = A} {B = B} told before now (fetch w next) f file (inr 
     inr (inr (rose, ap (faulted_in R B) (faulted_same R A file w.file ended)))
 
 -- without a fault it ends as the shelf tells, where it tells each file that the plan comes to
-pub ends_as_told : {R V : Type 0} (told : Tells) (before now : Counts) (plan : Plan R V) (outcome : Outcome R V) → Ends told before now plan outcome →
+pub ends_as_told : {R V : Type 0} (told : Tells) (before now : Counts) (plan : Plan R V) (outcome : PlanOutcome R V) → Ends told before now plan outcome →
     ((file : File) → outcome ≢ faulted file) → IfSome (told_end told plan) (λ by_told. outcome ≡ by_told)
 ends_as_told told before now (end v) outcome h calm = h
 ends_as_told told before now (refuse file why) outcome h calm = h
@@ -120,8 +120,8 @@ ends_by_fault {R} {V} told before now (fetch w next) file (inr (inr (rose, ended
 
 -- ---- how a plan ends by what the shelf tells, one part after the other
 
-next_some : {R A B : Type 0} (w : Wanted) (t : Option (List ℕ)) (go : List ℕ → Option (Outcome R A)) (on : List ℕ →
-    Option (Outcome R B)) (a : A) (z : Option (Outcome R B)) → told_next w t go ≡ Some (ready_in R A a) →
+next_some : {R A B : Type 0} (w : Wanted) (t : Option (List ℕ)) (go : List ℕ → Option (PlanOutcome R A)) (on : List ℕ →
+    Option (PlanOutcome R B)) (a : A) (z : Option (PlanOutcome R B)) → told_next w t go ≡ Some (ready_in R A a) →
     ((bytes : List ℕ) → go bytes ≡ Some (ready_in R A a) → on bytes ≡ z) → told_next w t on ≡ z
 next_some {R} {A} w None go on a z h step = absurd (wrong h)
   where
@@ -158,7 +158,7 @@ pub record CameFrom {R A B : Type 0} (told : Tells) (plan : Plan R A) (g : A →
   pub came : told_end told plan ≡ Some (ready value)
   pub is : b ≡ g value
 
-from_next : {R A B : Type 0} (w : Wanted) (t : Option (List ℕ)) (go : List ℕ → Option (Outcome R A)) (on : List ℕ → Option (Outcome R B)) (g : A →
+from_next : {R A B : Type 0} (w : Wanted) (t : Option (List ℕ)) (go : List ℕ → Option (PlanOutcome R A)) (on : List ℕ → Option (PlanOutcome R B)) (g : A →
     B) (b : B) → told_next w t on ≡ Some (ready_in R B b) →
     ((bytes : List ℕ) → on bytes ≡ Some (ready_in R B b) → (a : A) × (go bytes ≡ Some (ready_in R A a)) × (b ≡ g a)) →
     (a : A) × (told_next w t go ≡ Some (ready_in R A a)) × (b ≡ g a)

@@ -11,12 +11,12 @@ use Rattle.bs_top_plan.specs.Walks.{FetchedTo, Reads, Walks, settled}
 use Rattle.bs_top_plan.specs.declared.walk.JobFault.{JobFault}
 use Rattle.bs_top_plan.proofs.Walking.{fetch_walks, reads_walk, walks_stop, walks_then}
 use Rattle.bs_top_plan.proofs.AskingLemmas.{in_turn_then, file_goes, read_goes, stop_goes, then_goes}
-use Rattle.bs_top_plan.specs.Told.{both_of, settled_told, word_refusal, worded, line_stop, lined, refusal_in, note_refusal, noted, fault_in, note_stop, note_seen}
-use Rattle.bs_top_plan.specs.Telling.{WalksTold}
-use Rattle.bs_top_plan.specs.declared.told.Unread.{Unread}
-use Rattle.bs_top_plan.specs.declared.told.Unread.TheVariants as U
-use Rattle.bs_top_plan.specs.declared.told.Stop.{Stop}
-use Rattle.bs_top_plan.specs.declared.told.Stop.TheVariants as K
+use Rattle.bs_top_plan.specs.Diagnostic.{both_of, settled_diagnostic, word_refusal, worded, line_stop, lined, refusal_in, note_refusal, noted, fault_in, note_stop, note_seen}
+use Rattle.bs_top_plan.specs.Telling.{WalksDiagnosed}
+use Rattle.bs_top_plan.specs.declared.diagnostic.Unread.{Unread}
+use Rattle.bs_top_plan.specs.declared.diagnostic.Unread.TheVariants as U
+use Rattle.bs_top_plan.specs.declared.diagnostic.WalkStop.{WalkStop}
+use Rattle.bs_top_plan.specs.declared.diagnostic.WalkStop.TheVariants as K
 
 -- ---- both texts of one refusal
 
@@ -31,12 +31,12 @@ both_want words note unread e want = e ∙ ap (λ (w : Refusal). both_of w note)
 
 -- ---- a walk that both plans follow
 
-line_settled : {T : Type 0} (file : File) (r : Result T Unread) → lined (settled_told file r) ≡ settled file (worded r)
+line_settled : {T : Type 0} (file : File) (r : Result T Unread) → lined (settled_diagnostic file r) ≡ settled file (worded r)
 line_settled file (Ok v) = refl
 line_settled file (Err U.NoMemory) = refl
 line_settled file (Err (U.Refused told)) = refl
 
-note_settled : {T : Type 0} (file : File) (r : Result T Unread) → note_seen (settled_told file r) ≡ settled file (noted r)
+note_settled : {T : Type 0} (file : File) (r : Result T Unread) → note_seen (settled_diagnostic file r) ≡ settled file (noted r)
 note_settled file (Ok v) = refl
 note_settled file (Err U.NoMemory) = refl
 note_settled {T = T} file (Err (U.Refused told)) = by told.note
@@ -54,30 +54,30 @@ note_settled {T = T} file (Err (U.Refused told)) = by told.note
 -- today's contract of the walk, and the one of the note
 pub line_walks : {S R Q T V W : Type 0} {says : R → List ℕ → Type 0} {notes : Q → List ℕ → Type 0}
     {held : S → Tells} {faults : S → Counts} {leads : S → FetchCall → S → Type 0} {before now : S}
-    {plan : Plan R V} {looked : Plan Q W} {view : T → V} {seen : T → W} {result : Result T Stop} →
-    WalksTold says notes held faults leads before now plan looked view seen result → Walks says held faults leads before now plan view (lined result)
+    {plan : Plan R V} {looked : Plan Q W} {view : T → V} {seen : T → W} {result : Result T WalkStop} →
+    WalksDiagnosed says notes held faults leads before now plan looked view seen result → Walks says held faults leads before now plan view (lined result)
 line_walks h = record { is = h.line; fetches = h.fetches; asked = h.asked; along = h.line_along }
 
 pub line_walked : {S R Q T V W : Type 0} {says : R → List ℕ → Type 0} {notes : Q → List ℕ → Type 0}
     {held : S → Tells} {faults : S → Counts} {leads : S → FetchCall → S → Type 0} {before now : S}
-    {plan : Plan R V} {looked : Plan Q W} {view : T → V} {seen : T → W} {result : Result T Stop} (line : Result T JobFault) → line ≡ lined result →
-    WalksTold says notes held faults leads before now plan looked view seen result → Walks says held faults leads before now plan view line
+    {plan : Plan R V} {looked : Plan Q W} {view : T → V} {seen : T → W} {result : Result T WalkStop} (line : Result T JobFault) → line ≡ lined result →
+    WalksDiagnosed says notes held faults leads before now plan looked view seen result → Walks says held faults leads before now plan view line
 line_walked {says = says} {held = held} {faults = faults} {leads = leads} {before = before} {now = now} {plan = plan} {view = view} line e h =
     subst (Walks says held faults leads before now plan view) (sym e) (line_walks h)
 
 pub note_walks : {S R Q T V W : Type 0} {says : R → List ℕ → Type 0} {notes : Q → List ℕ → Type 0}
     {held : S → Tells} {faults : S → Counts} {leads : S → FetchCall → S → Type 0} {before now : S}
-    {plan : Plan R V} {looked : Plan Q W} {view : T → V} {seen : T → W} {result : Result T Stop} →
-    WalksTold says notes held faults leads before now plan looked view seen result → Walks notes held faults leads before now looked seen (note_seen result)
+    {plan : Plan R V} {looked : Plan Q W} {view : T → V} {seen : T → W} {result : Result T WalkStop} →
+    WalksDiagnosed says notes held faults leads before now plan looked view seen result → Walks notes held faults leads before now looked seen (note_seen result)
 note_walks h = record { is = h.note; fetches = h.fetches; asked = h.asked; along = h.note_along }
 
 -- a stop in the first part is the whole walk's
-pub told_stop : {S R Q A A' B B' T U : Type 0} {says : R → List ℕ → Type 0} {notes : Q → List ℕ → Type 0}
+pub diagnosed_stop : {S R Q A A' B B' T U : Type 0} {says : R → List ℕ → Type 0} {notes : Q → List ℕ → Type 0}
     {held : S → Tells} {faults : S → Counts} {leads : S → FetchCall → S → Type 0} {before now : S}
-    {plan : Plan R A} {looked : Plan Q A'} {view : T → A} {seen : T → A'} {next_view : U → B} {next_seen : U → B'} {stop : Stop} (f : A → Plan R B) (g : A' → Plan Q B') →
-    WalksTold says notes held faults leads before now plan looked view seen (Err stop) →
-    WalksTold says notes held faults leads before now (plan >>= f) (looked >>= g) next_view next_seen (Err stop)
-told_stop {says = says} {notes = notes} {plan = plan} {looked = looked} {view = view} {seen = seen} {next_view = next_view} {next_seen = next_seen} {stop = stop} f g h = record {
+    {plan : Plan R A} {looked : Plan Q A'} {view : T → A} {seen : T → A'} {next_view : U → B} {next_seen : U → B'} {stop : WalkStop} (f : A → Plan R B) (g : A' → Plan Q B') →
+    WalksDiagnosed says notes held faults leads before now plan looked view seen (Err stop) →
+    WalksDiagnosed says notes held faults leads before now (plan >>= f) (looked >>= g) next_view next_seen (Err stop)
+diagnosed_stop {says = says} {notes = notes} {plan = plan} {looked = looked} {view = view} {seen = seen} {next_view = next_view} {next_seen = next_seen} {stop = stop} f g h = record {
   line = (walks_stop {next_view = next_view} f (line_walks h)).is;
   note = (walks_stop {next_view = next_seen} g (note_walks h)).is;
   fetches = h.fetches;
@@ -87,13 +87,13 @@ told_stop {says = says} {notes = notes} {plan = plan} {looked = looked} {view = 
 }
 
 -- a part that went to its end, and then the rest
-pub told_then : {S R Q A A' B B' T U : Type 0} {says : R → List ℕ → Type 0} {notes : Q → List ℕ → Type 0}
+pub diagnosed_then : {S R Q A A' B B' T U : Type 0} {says : R → List ℕ → Type 0} {notes : Q → List ℕ → Type 0}
     {held : S → Tells} {faults : S → Counts} {leads : S → FetchCall → S → Type 0} {before mid now : S}
-    {plan : Plan R A} {looked : Plan Q A'} {view : T → A} {seen : T → A'} {a : T} {next_view : U → B} {next_seen : U → B'} {result : Result U Stop}
-    (f : A → Plan R B) (g : A' → Plan Q B') → WalksTold says notes held faults leads before mid plan looked view seen (Ok a) →
-    WalksTold says notes held faults leads mid now (f (view a)) (g (seen a)) next_view next_seen result →
-    WalksTold says notes held faults leads before now (plan >>= f) (looked >>= g) next_view next_seen result
-told_then {says = says} {notes = notes} {leads = leads} {before = before} {mid = mid} {now = now} {plan = plan} {looked = looked} {view = view} {seen = seen}
+    {plan : Plan R A} {looked : Plan Q A'} {view : T → A} {seen : T → A'} {a : T} {next_view : U → B} {next_seen : U → B'} {result : Result U WalkStop}
+    (f : A → Plan R B) (g : A' → Plan Q B') → WalksDiagnosed says notes held faults leads before mid plan looked view seen (Ok a) →
+    WalksDiagnosed says notes held faults leads mid now (f (view a)) (g (seen a)) next_view next_seen result →
+    WalksDiagnosed says notes held faults leads before now (plan >>= f) (looked >>= g) next_view next_seen result
+diagnosed_then {says = says} {notes = notes} {leads = leads} {before = before} {mid = mid} {now = now} {plan = plan} {looked = looked} {view = view} {seen = seen}
     {a = a} {next_view = next_view} {next_seen = next_seen} {result = result} f g first h =
     record {
       line = (walks_then f (line_walks first) (line_walks h)).is;
@@ -105,10 +105,10 @@ told_then {says = says} {notes = notes} {leads = leads} {before = before} {mid =
     }
 
 -- the end of both plans
-pub told_end : {S R Q B B' U : Type 0} {says : R → List ℕ → Type 0} {notes : Q → List ℕ → Type 0}
+pub diagnosed_end : {S R Q B B' U : Type 0} {says : R → List ℕ → Type 0} {notes : Q → List ℕ → Type 0}
     {held : S → Tells} {faults : S → Counts} {leads : S → FetchCall → S → Type 0} {before : S}
-    {view : U → B} {seen : U → B'} {u : U} → WalksTold says notes held faults leads before before (end (view u)) (end (seen u)) view seen (Ok u)
-told_end {held = held} {faults = faults} {leads = leads} {before = before} {view = view} {u = u} = record {
+    {view : U → B} {seen : U → B'} {u : U} → WalksDiagnosed says notes held faults leads before before (end (view u)) (end (seen u)) view seen (Ok u)
+diagnosed_end {held = held} {faults = faults} {leads = leads} {before = before} {view = view} {u = u} = record {
   line = (record { told = λ n. refl; counts = λ n. refl }, refl);
   note = (record { told = λ n. refl; counts = λ n. refl }, refl);
   fetches = [];
@@ -118,13 +118,13 @@ told_end {held = held} {faults = faults} {leads = leads} {before = before} {view
 }
 
 -- a file came, or its fetch stops the walk
-pub told_fetched : {S R Q : Type 0} {says : R → List ℕ → Type 0} {notes : Q → List ℕ → Type 0}
+pub diagnosed_fetched : {S R Q : Type 0} {says : R → List ℕ → Type 0} {notes : Q → List ℕ → Type 0}
     {held : S → Tells} {faults : S → Counts} {leads : S → FetchCall → S → Type 0} {before now : S} {file : File}
-    {name : List ℕ} (result : Result (Vec ℕ Global) JobFault) (told : Result (Vec ℕ Global) Stop) → lined told ≡ result → note_seen told ≡ result →
+    {name : List ℕ} (result : Result (Vec ℕ Global) JobFault) (told : Result (Vec ℕ Global) WalkStop) → lined told ≡ result → note_seen told ≡ result →
     FetchedTo held faults leads before now file name result →
-    WalksTold says notes held faults leads before now (fetched file name) (fetched file name) (λ (b : Vec ℕ Global). b.items)
+    WalksDiagnosed says notes held faults leads before now (fetched file name) (fetched file name) (λ (b : Vec ℕ Global). b.items)
     (λ (b : Vec ℕ Global). b.items) told
-told_fetched {says = says} {notes = notes} {held = held} {faults = faults} {before = before} {now = now} {file = file} {name = name} result told line note h = record {
+diagnosed_fetched {says = says} {notes = notes} {held = held} {faults = faults} {before = before} {now = now} {file = file} {name = name} result told line note h = record {
   line = rw line (fetch_walks {allows = says} h).is;
   note = rw note (fetch_walks {allows = notes} h).is;
   fetches = h.call ∷ [];
@@ -134,20 +134,20 @@ told_fetched {says = says} {notes = notes} {held = held} {faults = faults} {befo
 }
 
 -- a file whose fetch stops the walk
-pub told_fetch_stop : {S R Q B B' U : Type 0} {says : R → List ℕ → Type 0} {notes : Q → List ℕ → Type 0}
+pub diagnosed_fetch_stop : {S R Q B B' U : Type 0} {says : R → List ℕ → Type 0} {notes : Q → List ℕ → Type 0}
     {held : S → Tells} {faults : S → Counts} {leads : S → FetchCall → S → Type 0} {before now : S} {file : File}
     {name : List ℕ} {next_view : U → B} {next_seen : U → B'} {stop : JobFault} (f : List ℕ → Plan R B) (g : List ℕ → Plan Q B') →
     FetchedTo held faults leads before now file name (Err stop) →
-    WalksTold says notes held faults leads before now (fetched file name >>= f) (fetched file name >>= g) next_view next_seen (Err (K.Plain stop))
-told_fetch_stop {stop = stop} f g h = told_stop f g (told_fetched (Err stop) (Err (K.Plain stop)) refl refl h)
+    WalksDiagnosed says notes held faults leads before now (fetched file name >>= f) (fetched file name >>= g) next_view next_seen (Err (K.Plain stop))
+diagnosed_fetch_stop {stop = stop} f g h = diagnosed_stop f g (diagnosed_fetched (Err stop) (Err (K.Plain stop)) refl refl h)
 
 -- what a reader answers, once
-pub told_read : {S R Q T V W : Type 0} {says : R → List ℕ → Type 0} {notes : Q → List ℕ → Type 0}
-    {held : S → Tells} {faults : S → Counts} {leads : S → FetchCall → S → Type 0} {before : S} {view : T → V} {seen : T → W} {result : Result T Stop}
-    (file : File) (wanted : Result V (Reason R)) (looked : Result W (Reason Q)) (r : Result T Unread) → result ≡ settled_told file r →
+pub diagnosed_read : {S R Q T V W : Type 0} {says : R → List ℕ → Type 0} {notes : Q → List ℕ → Type 0}
+    {held : S → Tells} {faults : S → Counts} {leads : S → FetchCall → S → Type 0} {before : S} {view : T → V} {seen : T → W} {result : Result T WalkStop}
+    (file : File) (wanted : Result V (Reason R)) (looked : Result W (Reason Q)) (r : Result T Unread) → result ≡ settled_diagnostic file r →
     Reads says view wanted (worded r) → Reads notes seen looked (noted r) →
-    WalksTold says notes held faults leads before before (read_as file wanted) (read_as file looked) view seen result
-told_read {says = says} {notes = notes} {held = held} {faults = faults} {leads = leads} {before = before} {view = view} {seen = seen} {result = result}
+    WalksDiagnosed says notes held faults leads before before (read_as file wanted) (read_as file looked) view seen result
+diagnosed_read {says = says} {notes = notes} {held = held} {faults = faults} {leads = leads} {before = before} {view = view} {seen = seen} {result = result}
     file wanted looked r settles words note =
     let line_is : lined result ≡ settled file (worded r) = ap lined settles ∙ line_settled file r in
     let note_is : note_seen result ≡ settled file (noted r) = ap note_seen settles ∙ note_settled file r in
@@ -161,14 +161,14 @@ told_read {says = says} {notes = notes} {held = held} {faults = faults} {leads =
     }
 
 -- a file that is fetched and then read, once
-pub told_reads : {S R Q T V W : Type 0} {says : R → List ℕ → Type 0} {notes : Q → List ℕ → Type 0}
+pub diagnosed_reads : {S R Q T V W : Type 0} {says : R → List ℕ → Type 0} {notes : Q → List ℕ → Type 0}
     {held : S → Tells} {faults : S → Counts} {leads : S → FetchCall → S → Type 0} {before now : S} {file : File} {name : List ℕ} {bytes : Vec ℕ Global}
-    {view : T → V} {seen : T → W} {result : Result T Stop} (read : List ℕ → Result V (Reason R)) (look : List ℕ → Result W (Reason Q)) (text : List ℕ)
-    (r : Result T Unread) → text ≡ bytes.items → result ≡ settled_told file r → FetchedTo held faults leads before now file name (Ok bytes) →
+    {view : T → V} {seen : T → W} {result : Result T WalkStop} (read : List ℕ → Result V (Reason R)) (look : List ℕ → Result W (Reason Q)) (text : List ℕ)
+    (r : Result T Unread) → text ≡ bytes.items → result ≡ settled_diagnostic file r → FetchedTo held faults leads before now file name (Ok bytes) →
     Reads says view (read text) (worded r) → Reads notes seen (look text) (noted r) →
-    WalksTold says notes held faults leads before now (fetched file name >>= (λ b. read_as file (read b))) (fetched file name >>= (λ b. read_as file (look b)))
+    WalksDiagnosed says notes held faults leads before now (fetched file name >>= (λ b. read_as file (read b))) (fetched file name >>= (λ b. read_as file (look b)))
     view seen result
-told_reads {says = says} {notes = notes} {file = file} {bytes = bytes} {view = view} {seen = seen} read look text r same settles so_far words note =
-    told_then (λ b. read_as file (read b)) (λ b. read_as file (look b)) (told_fetched (Ok bytes) (Ok bytes) refl refl so_far)
-    (told_read file (read bytes.items) (look bytes.items) r settles (subst (λ (b : List ℕ). Reads says view (read b) (worded r)) same words)
+diagnosed_reads {says = says} {notes = notes} {file = file} {bytes = bytes} {view = view} {seen = seen} read look text r same settles so_far words note =
+    diagnosed_then (λ b. read_as file (read b)) (λ b. read_as file (look b)) (diagnosed_fetched (Ok bytes) (Ok bytes) refl refl so_far)
+    (diagnosed_read file (read bytes.items) (look bytes.items) r settles (subst (λ (b : List ℕ). Reads says view (read b) (worded r)) same words)
     (subst (λ (b : List ℕ). Reads notes seen (look b) (noted r)) same note))

@@ -21,7 +21,7 @@ use Rattle.bs_top_plan.specs.declared.walk.JobFault.{JobFault}
 use Rattle.bs_top_plan.specs.declared.walk.JobFault.TheVariants as S
 use Rattle.bs_top_plan.specs.Files.{limit_of}
 use Rattle.bs_top_plan.specs.Plan.{Tells, Counts, Wanted, Comes, Reason, exactly, Says, Plan, fetch, refuse, end, ◌>>=◌, fetched, given_next, with_texts}
-use Rattle.bs_top_plan.specs.Plan.{AllTold, read_as, Outcome, ready, refused, faulted, Ends}
+use Rattle.bs_top_plan.specs.Plan.{AllTold, read_as, PlanOutcome, ready, refused, faulted, Ends}
 use Rattle.bs_top_plan.specs.Asking.{AsksFor, CallTo}
 use Rattle.bs_top_plan.specs.Walks.{IsSame, IsLater, IsTooLong, ComesTo, FetchedTo, WalksTo, Walks, WalksAlone, Reads, settled}
 use Rattle.bs_top_plan.proofs.Plans.{ends_along, ends_then, ends_refused, ends_faulted}
@@ -92,12 +92,12 @@ fetch_to allows told told' before now file name (Ok bytes) h = (h.0, inl (bytes.
 fetch_to allows told told' before now file name (Err S.NoMemory) h = h
 fetch_to {R = R} allows told told' before now file name (Err (S.Faulted other)) h = (h.0, inr (inr (h.1, ap (λ f. faulted_of R f) h.2)))
   where
-    faulted_of : (P : Type 0) → File → Outcome P (List ℕ)
+    faulted_of : (P : Type 0) → File → PlanOutcome P (List ℕ)
     faulted_of P f = faulted f
 fetch_to {R = R} allows told told' before now file name (Err (S.Refused other why)) h =
     (h.0, (exactly (codes "TooLong"), h.3, inr (inl (h.1, ap (λ f. long_of R f) h.2))))
   where
-    long_of : (P : Type 0) → File → Outcome P (List ℕ)
+    long_of : (P : Type 0) → File → PlanOutcome P (List ℕ)
     long_of P f = refused f (exactly (codes "TooLong"))
 
 pub fetch_walks : {R : Type 0} {allows : R → List ℕ → Type 0} {S : Type 0} {held : S → Tells} {faults : S → Counts} {leads : S → FetchCall → S →
@@ -167,7 +167,7 @@ later_then : (told told' told'' : Tells) (before mid now : Counts) → IsSame to
 later_then told told' told'' before mid now first next =
     record { told = λ n. next.told n ∙ first.told n; counts = λ n. omega (arith, first.counts n, next.counts n) }
 
-ends_on : {R A B : Type 0} (told told' : Tells) (before mid now : Counts) (plan : Plan R A) (f : A → Plan R B) (a : A) (outcome : Outcome R B) →
+ends_on : {R A B : Type 0} (told told' : Tells) (before mid now : Counts) (plan : Plan R A) (f : A → Plan R B) (a : A) (outcome : PlanOutcome R B) →
     IsSame told told' before mid → ((n : List ℕ) → mid n ≤ now n) → Ends told before mid plan (ready a) → Ends told' mid now (f a) outcome →
     Ends told before now (plan >>= f) outcome
 ends_on told told' before mid now plan f a outcome same later first next =
@@ -265,7 +265,7 @@ told_read told file (Ok v) = tt
 told_read told file (Err why) = tt
 
 -- a plan ends over the texts as over a shelf that tells them, without a fault
-ends_with_texts : {R V : Type 0} (told told' : Tells) (before now before' : Counts) (plan : Plan R V) (outcome : Outcome R V) → AllTold told plan →
+ends_with_texts : {R V : Type 0} (told told' : Tells) (before now before' : Counts) (plan : Plan R V) (outcome : PlanOutcome R V) → AllTold told plan →
     ((name : List ℕ) → IsSome (told name) → Rose (before name) (now name) → ⊥) → Ends told before now plan outcome →
     Ends told' before' before' (with_texts told plan) outcome
 ends_with_texts told told' before now before' (end v) outcome all calm h = h

@@ -3,10 +3,10 @@ use Rattle.std.specs.Prelude.{◌≡◌, ℕ, List, codes, Option, Some, None, I
 use Rattle.bs_top_plan.specs.declared.status.Status.{Status}
 use Rattle.bs_top_plan.specs.declared.status.Status.TheVariants.{Words, ReadFault}
 use Rattle.bs_top_plan.specs.Files.{refusal_status, refusal_line}
-use Rattle.bs_top_plan.specs.Plan.{Tells, Counts, Says, Plan, Outcome, ready, refused, faulted, Ends, told_end}
+use Rattle.bs_top_plan.specs.Plan.{Tells, Counts, Says, Plan, PlanOutcome, ready, refused, faulted, Ends, told_end}
 
 -- the status and whole text that an outcome calls for, where `finishes` says them of work that is done
-abbrev pub Answers : {R W : Type 0} → (R → List ℕ → Type 0) → (W → Status → List ℕ → Type 0) → Outcome R W → Status → List ℕ → Type 0
+abbrev pub Answers : {R W : Type 0} → (R → List ℕ → Type 0) → (W → Status → List ℕ → Type 0) → PlanOutcome R W → Status → List ℕ → Type 0
 Answers allows finishes (ready work) status text = finishes work status text
 Answers allows finishes (refused file reason) status text =
     (status ≡ refusal_status file) × ((why : List ℕ) × Says allows reason why × (text ≡ refusal_line file why))
@@ -19,7 +19,7 @@ RefusesWords status text = (status ≡ Words) × (text ≡ codes "refused words\
 -- the plan ended in some way that agrees with the shelf, and calls for this
 pub record Serves {R W : Type 0} (allows : R → List ℕ → Type 0) (finishes : W → Status → List ℕ → Type 0) (told : Tells) (before now : Counts)
     (plan : Plan R W) (status : Status) (text : List ℕ) : Type 0 where
-  pub outcome : Outcome R W
+  pub outcome : PlanOutcome R W
   pub ends : Ends told before now plan outcome
   pub answers : Answers allows finishes outcome status text
 

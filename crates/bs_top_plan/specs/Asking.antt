@@ -9,7 +9,7 @@ use Rattle.bs_top_plan.specs.declared.walk.JobFault.{JobFault}
 use Rattle.bs_top_plan.specs.declared.walk.JobFault.TheVariants.{NoMemory, Faulted, Refused}
 use Rattle.bs_top_plan.specs.Files.{limit_of}
 use Rattle.bs_top_plan.specs.Answers.{Answers, RefusesWords}
-use Rattle.bs_top_plan.specs.Plan.{Wanted, Reason, exactly, Says, Plan, fetch, refuse, end, Outcome, ready, refused, faulted}
+use Rattle.bs_top_plan.specs.Plan.{Wanted, Reason, exactly, Says, Plan, fetch, refuse, end, PlanOutcome, ready, refused, faulted}
 
 -- the fetch is of this file, with its limit
 pub record AsksFor (w : Wanted) (call : FetchCall) : Type 0 where
@@ -17,18 +17,18 @@ pub record AsksFor (w : Wanted) (call : FetchCall) : Type 0 where
   pub limit : call.limit ≡ limit_of w.file
 
 -- after a file that came the plan goes on, and any other answer ends it; no outcome stands for out of memory
-abbrev pub AfterFetch : {R V : Type 0} → Wanted → Fetch → List FetchCall → Option (Outcome R V) → (goes_on : Type 0) → Type 0
+abbrev pub AfterFetch : {R V : Type 0} → Wanted → Fetch → List FetchCall → Option (PlanOutcome R V) → (goes_on : Type 0) → Type 0
 AfterFetch w F.Done calls outcome goes_on = goes_on
 AfterFetch w F.TooLong calls outcome goes_on = (calls ≡ []) × IfSome outcome (λ o. o ≡ refused w.file (exactly (codes "TooLong")))
 AfterFetch w F.Failed calls outcome goes_on = (calls ≡ []) × IfSome outcome (λ o. o ≡ faulted w.file)
 AfterFetch w F.NoMemory calls outcome goes_on = (calls ≡ []) × (outcome ≡ None)
 
-abbrev pub FromFetch : {R V : Type 0} → Wanted → List FetchCall → Option (Outcome R V) → (List ℕ → List FetchCall → Type 0) → Type 0
+abbrev pub FromFetch : {R V : Type 0} → Wanted → List FetchCall → Option (PlanOutcome R V) → (List ℕ → List FetchCall → Type 0) → Type 0
 FromFetch w [] outcome go_on = outcome ≡ None
 FromFetch w (call ∷ calls) outcome go_on = AsksFor w call × AfterFetch w call.answer calls outcome (go_on call.bytes calls)
 
 -- These are the fetches along the plan up to this end of it, or, where there is none since memory ran out, the first of them.
-abbrev pub Along : {R V : Type 0} → Plan R V → List FetchCall → Option (Outcome R V) → Type 0
+abbrev pub Along : {R V : Type 0} → Plan R V → List FetchCall → Option (PlanOutcome R V) → Type 0
 Along (end v) calls outcome = (calls ≡ []) × IfSome outcome (λ o. o ≡ ready v)
 Along (refuse file why) calls outcome = (calls ≡ []) × IfSome outcome (λ o. o ≡ refused file why)
 Along (fetch w next) calls outcome = FromFetch w calls outcome (λ bytes rest. Along (next bytes) rest outcome)
@@ -51,7 +51,7 @@ GoesTo {R = R} allows plan view calls (Err (Refused file why)) =
 -- the fetches go along the plan to an end that calls for this status and text
 pub record AsksTo {R W : Type 0} (allows : R → List ℕ → Type 0) (finishes : W → Status → List ℕ → Type 0) (plan : Plan R W) (calls : List FetchCall)
     (status : Status) (text : List ℕ) : Type 0 where
-  pub outcome : Outcome R W
+  pub outcome : PlanOutcome R W
   pub along : Along plan calls (Some outcome)
   pub answers : Answers allows finishes outcome status text
 

@@ -8,7 +8,7 @@ use Rattle.bs_top_plan.specs.declared.file.File.{File}
 use Rattle.bs_top_plan.specs.declared.status.Status.{Status}
 use Rattle.bs_top_plan.specs.declared.status.Status.TheVariants.{Words, ReadFault, WriteFault}
 use Rattle.bs_top_plan.specs.Files.{refusal_line, refusal_status}
-use Rattle.bs_top_plan.specs.Plan.{Tells, Counts, Wanted, Reason, Plan, Outcome, refused, Ends, told_end, Reaches}
+use Rattle.bs_top_plan.specs.Plan.{Tells, Counts, Wanted, Reason, Plan, PlanOutcome, refused, Ends, told_end, Reaches}
 use Rattle.bs_top_plan.specs.Answers.{CallsFor, CallsByTold}
 use Rattle.bs_top_plan.specs.Asking.{AsksWhole, AsksShort}
 use Rattle.bs_top_plan.specs.Delivery.{PutsLines}
@@ -37,7 +37,7 @@ pub record IsWordsOnlyFor {J : Type 0} (job : Option J) (status : Status) : Type
   pub only : status ≡ Words → job ≡ None
 
 -- the outcome refuses this file, or this state
-abbrev pub Refuses : {R W : Type 0} → Outcome R W → File → Type 0
+abbrev pub Refuses : {R W : Type 0} → PlanOutcome R W → File → Type 0
 Refuses {R = R} outcome file = (reason : Reason R) × (outcome ≡ refused file reason)
 
 -- A refusal status comes exactly where the walk's first refusal is of that file: as the shelf tells, where it tells the files

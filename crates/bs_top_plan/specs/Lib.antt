@@ -4,7 +4,7 @@ pub mod Plan
 pub mod Answers
 pub mod Asking
 pub mod Walks
-pub mod Told
+pub mod Diagnostic
 pub mod Telling
 pub mod Prepared
 pub mod Delivery

@@ -66,10 +66,10 @@ read_as file (Ok v) = end v
 read_as file (Err why) = refuse file why
 
 -- how a plan may end
-pub data Outcome (R V : Type 0) : Type 0 where
-  ready : V → Outcome R V
-  refused : File → Reason R → Outcome R V
-  faulted : File → Outcome R V
+pub data PlanOutcome (R V : Type 0) : Type 0 where
+  ready : V → PlanOutcome R V
+  refused : File → Reason R → PlanOutcome R V
+  faulted : File → PlanOutcome R V
 
 -- these bytes came of the file: they are within its limit, and those that the shelf tells
 pub record Comes (told : Tells) (w : Wanted) (bytes : List ℕ) : Type 0 where
@@ -82,7 +82,7 @@ IsLong told w = IfSome (told w.name) (λ all. limit_of w.file < length all)
 
 -- The plan may end so, where each file comes, is too long or fails: what comes is what the shelf tells, as far as it tells,
 -- and where it fails its count rose or stands at the greatest `u64`.
-abbrev pub Ends : {R V : Type 0} → Tells → (before now : Counts) → Plan R V → Outcome R V → Type 0
+abbrev pub Ends : {R V : Type 0} → Tells → (before now : Counts) → Plan R V → PlanOutcome R V → Type 0
 Ends told before now (end v) outcome = outcome ≡ ready v
 Ends told before now (refuse file why) outcome = outcome ≡ refused file why
 Ends told before now (fetch w next) outcome =
@@ -91,12 +91,12 @@ Ends told before now (fetch w next) outcome =
     ⊎ (Rose (before w.name) (now w.name) × (outcome ≡ faulted w.file)))
 
 -- how a file goes on by what the shelf tells
-abbrev pub told_next : {R V : Type 0} → Wanted → Option (List ℕ) → (List ℕ → Option (Outcome R V)) → Option (Outcome R V)
+abbrev pub told_next : {R V : Type 0} → Wanted → Option (List ℕ) → (List ℕ → Option (PlanOutcome R V)) → Option (PlanOutcome R V)
 told_next w None go_on = None
 told_next w (Some bytes) go_on = if nat_lt (limit_of w.file) (length bytes) then Some (refused w.file (exactly (codes "TooLong"))) else go_on bytes
 
 -- how the plan ends by what the shelf tells, where it tells each file that the plan comes to
-abbrev pub told_end : {R V : Type 0} → Tells → Plan R V → Option (Outcome R V)
+abbrev pub told_end : {R V : Type 0} → Tells → Plan R V → Option (PlanOutcome R V)
 told_end told (end v) = Some (ready v)
 told_end told (refuse file why) = Some (refused file why)
 told_end told (fetch w next) = told_next w (told w.name) (λ bytes. told_end told (next bytes))

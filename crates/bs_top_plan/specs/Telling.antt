@@ -4,14 +4,14 @@ use Rattle.bs_outside.specs.Calls.{FetchCall, InTurn}
 use Rattle.bs_top_plan.specs.Plan.{Tells, Counts, Plan}
 use Rattle.bs_top_plan.specs.Walks.{WalksTo}
 use Rattle.bs_top_plan.specs.Asking.{GoesTo}
-use Rattle.bs_top_plan.specs.Told.{lined, note_seen}
-use Rattle.bs_top_plan.specs.declared.told.Stop.{Stop}
+use Rattle.bs_top_plan.specs.Diagnostic.{lined, note_seen}
+use Rattle.bs_top_plan.specs.declared.diagnostic.WalkStop.{WalkStop}
 
 -- The walk followed one plan, whose refusals `says` gives the lines of, and in the same fetches another, whose refusals `notes` gives the
 -- notes on: what stopped it has a line that goes with the first and a note that goes with the second, on the very bytes that came.
-pub record WalksTold {S R Q T V W : Type 0} (says : R → List ℕ → Type 0) (notes : Q → List ℕ → Type 0) (held : S → Tells) (faults : S → Counts)
+pub record WalksDiagnosed {S R Q T V W : Type 0} (says : R → List ℕ → Type 0) (notes : Q → List ℕ → Type 0) (held : S → Tells) (faults : S → Counts)
     (leads : S → FetchCall → S → Type 0) (before now : S) (plan : Plan R V) (looked : Plan Q W) (view : T → V) (seen : T → W)
-    (result : Result T Stop) : Type 0 where
+    (result : Result T WalkStop) : Type 0 where
   pub line : WalksTo says (held before) (held now) (faults before) (faults now) plan view (lined result)
   pub note : WalksTo notes (held before) (held now) (faults before) (faults now) looked seen (note_seen result)
   pub fetches : List FetchCall

@@ -8,10 +8,10 @@ use Rattle.bs_bits.specs.Lines.{number_in}
 use Rattle.bs_stim.specs.declared.limits.TheConstants.{MAX_RUNS, MAX_CYCLES}
 use Rattle.bs_top_words.specs.declared.limits.TheConstants.{MAX_STEPS, MAX_CANDIDATES, MAX_CONFLICTS, MAX_BOUND}
 use Rattle.bs_top_words.specs.declared.limits.TheConstants.{DEFAULT_STEPS, DEFAULT_CANDIDATES, DEFAULT_CONFLICTS}
-use Rattle.bs_top_words.specs.declared.options.Kind.{Kind}
-use Rattle.bs_top_words.specs.declared.options.Kind.TheVariants.{Steps, Candidates, Conflicts}
+use Rattle.bs_top_words.specs.declared.options.BudgetKind.{BudgetKind}
+use Rattle.bs_top_words.specs.declared.options.BudgetKind.TheVariants.{Steps, Candidates, Conflicts}
 use Rattle.bs_top_words.specs.Options.{number_between, value_in, has_dash, is_option}
-use Rattle.bs_top_words.specs.Line.{Line, once, set_to, read_line}
+use Rattle.bs_top_words.specs.CommandLine.{CommandLine, once, set_to, read_line}
 use Rattle.bs_top_words.proofs.Taking.{Mode, Plain, Wants, Names, State, behind, kind_of, set_if, set_by, add_to, in_mode, option_step, plain_step, step}
 use Rattle.bs_top_words.proofs.Taking.{finish, read_all, start, same_line}
 use Rattle.bs_top_words.specs.Job.{RunJob, ReachJob, Job, Run, Audit, Dump, Demo, Wave, Reach, run_job, run_at, audit_at, audit_job, dump_of, dump_at}
@@ -64,7 +64,7 @@ value_fits high word n e = by (number_in word) e
 
 -- ---- lines
 
-pub record Fits (l : Line) : Type 0 where
+pub record Fits (l : CommandLine) : Type 0 where
   pub steps : InRangeIf MAX_STEPS l.steps
   pub candidates : InRangeIf MAX_CANDIDATES l.candidates
   pub conflicts : InRangeIf MAX_CONFLICTS l.conflicts
@@ -75,9 +75,9 @@ once_fits high None v p fits e n k =
     let m = mapped ℕ (Option ℕ) (λ (n : ℕ). Some n) v p e in
     fits n (subst (λ (a : ℕ). v ≡ Some a) (some_same ℕ m.value n (subst (λ (x : Option ℕ). x ≡ Some n) (sym m.is) k)) m.there)
 
-set_fits : (l : Line) (kind : Kind) (word : List ℕ) (new : Line) → Fits l → set_to l kind word ≡ Some new → Fits new
+set_fits : (l : CommandLine) (kind : BudgetKind) (word : List ℕ) (new : CommandLine) → Fits l → set_to l kind word ≡ Some new → Fits new
 set_fits l Steps word new fits e =
-    let m = mapped (Option ℕ) Line (λ (o : Option ℕ). record l { steps = o }) (once l.steps (value_in Steps word)) new e in
+    let m = mapped (Option ℕ) CommandLine (λ (o : Option ℕ). record l { steps = o }) (once l.steps (value_in Steps word)) new e in
     subst Fits m.is (record {
       steps = once_fits MAX_CANDIDATES l.steps (value_in Steps word) m.value
           (value_fits MAX_CANDIDATES word) m.there;
@@ -85,7 +85,7 @@ set_fits l Steps word new fits e =
       conflicts = fits.conflicts;
     })
 set_fits l Candidates word new fits e =
-    let m = mapped (Option ℕ) Line (λ (o : Option ℕ). record l { candidates = o }) (once l.candidates (value_in Candidates word)) new e in
+    let m = mapped (Option ℕ) CommandLine (λ (o : Option ℕ). record l { candidates = o }) (once l.candidates (value_in Candidates word)) new e in
     subst Fits m.is (record {
       steps = fits.steps;
       candidates = once_fits MAX_CANDIDATES l.candidates (value_in Candidates word) m.value
@@ -93,7 +93,7 @@ set_fits l Candidates word new fits e =
       conflicts = fits.conflicts;
     })
 set_fits l Conflicts word new fits e =
-    let m = mapped (Option ℕ) Line (λ (o : Option ℕ). record l { conflicts = o }) (once l.conflicts (value_in Conflicts word)) new e in
+    let m = mapped (Option ℕ) CommandLine (λ (o : Option ℕ). record l { conflicts = o }) (once l.conflicts (value_in Conflicts word)) new e in
     subst Fits m.is (record {
       steps = fits.steps;
       candidates = fits.candidates;
@@ -101,32 +101,32 @@ set_fits l Conflicts word new fits e =
           (value_in Conflicts word) m.value (value_fits MAX_CONFLICTS word) m.there;
     })
 
-if_fits : (l : Line) (kind : Kind) (o : Option (List ℕ)) (other : Option Line) (new : Line) → Fits l → (other ≡ Some new → Fits new) →
+if_fits : (l : CommandLine) (kind : BudgetKind) (o : Option (List ℕ)) (other : Option CommandLine) (new : CommandLine) → Fits l → (other ≡ Some new → Fits new) →
     set_if l kind o other ≡ Some new → Fits new
 if_fits l kind None other new fits rest e = rest e
 if_fits l kind (Some word) other new fits rest e = set_fits l kind word new fits e
 
-by_fits : (l : Line) (word : List ℕ) (new : Line) → Fits l → set_by l word ≡ Some new → Fits new
+by_fits : (l : CommandLine) (word : List ℕ) (new : CommandLine) → Fits l → set_by l word ≡ Some new → Fits new
 by_fits l word new fits e =
     if_fits l Steps (behind Steps word) _ new fits
     (if_fits l Candidates (behind Candidates word) _ new fits
-    (if_fits l Conflicts (behind Conflicts word) None new fits (λ k. absurd (no_some Line new k)))) e
+    (if_fits l Conflicts (behind Conflicts word) None new fits (λ k. absurd (no_some CommandLine new k)))) e
 
 -- ---- states
 
-moded_fits : (mode : Mode) (o : Option Line) (s : State) → ((new : Line) → o ≡ Some new → Fits new) → in_mode mode o ≡ Some s → Fits s.line
+moded_fits : (mode : Mode) (o : Option CommandLine) (s : State) → ((new : CommandLine) → o ≡ Some new → Fits new) → in_mode mode o ≡ Some s → Fits s.line
 moded_fits mode o s fits e =
-    let m = mapped Line State (λ (l : Line). record { mode = mode; line = l }) o s e in
+    let m = mapped CommandLine State (λ (l : CommandLine). record { mode = mode; line = l }) o s e in
     subst (λ (t : State). Fits t.line) m.is (fits m.value m.there)
 
-option_fits : (l : Line) (word : List ℕ) (kind : Option Kind) (s : State) → Fits l → option_step l word kind ≡ Some s → Fits s.line
+option_fits : (l : CommandLine) (word : List ℕ) (kind : Option BudgetKind) (s : State) → Fits l → option_step l word kind ≡ Some s → Fits s.line
 option_fits l word None s fits e = moded_fits Plain (set_by l word) s (λ new k. by_fits l word new fits k) e
 option_fits l word (Some kind) s fits e = subst (λ (t : State). Fits t.line) (some_same State (record { mode = Wants kind; line = l }) s e) fits
 
-added_fits : (l : Line) (word : List ℕ) → Fits l → Fits (add_to l word)
+added_fits : (l : CommandLine) (word : List ℕ) → Fits l → Fits (add_to l word)
 added_fits l word fits = record { steps = fits.steps; candidates = fits.candidates; conflicts = fits.conflicts }
 
-plain_fits : (options : Bool) (l : Line) (word : List ℕ) (s : State) → Fits l → plain_step options l word ≡ Some s → Fits s.line
+plain_fits : (options : Bool) (l : CommandLine) (word : List ℕ) (s : State) → Fits l → plain_step options l word ≡ Some s → Fits s.line
 plain_fits options l word s fits e = dashes (bytes_eq word (codes "--")) e
   where
     inner : (b : Bool) → (if b then option_step l word (kind_of word) else None) ≡ some_in State s → Fits s.line
@@ -148,7 +148,7 @@ plain_fits options l word s fits e = dashes (bytes_eq word (codes "--")) e
     dashes true k = subst (λ (t : State). Fits t.line) (some_same State (record { mode = Names; line = l }) s k) fits
     dashes false k = outer (is_option word) k
 
-step_fits : (options : Bool) (mode : Mode) (l : Line) (word : List ℕ) (s : State) → Fits l → step options mode l word ≡ Some s → Fits s.line
+step_fits : (options : Bool) (mode : Mode) (l : CommandLine) (word : List ℕ) (s : State) → Fits l → step options mode l word ≡ Some s → Fits s.line
 step_fits options Plain l word s fits e = plain_fits options l word s fits e
 step_fits options (Wants kind) l word s fits e = by (has_dash word) e
   where
@@ -158,19 +158,19 @@ step_fits options (Wants kind) l word s fits e = by (has_dash word) e
 step_fits options Names l word s fits e =
     subst (λ (t : State). Fits t.line) (some_same State (record { mode = Names; line = add_to l word }) s e) (added_fits l word fits)
 
-finish_fits : (mode : Mode) (l new : Line) → Fits l → finish mode l ≡ Some new → Fits new
-finish_fits Plain l new fits e = subst Fits (some_same Line l new e) fits
-finish_fits (Wants kind) l new fits e = absurd (no_some Line new e)
-finish_fits Names l new fits e = subst Fits (some_same Line l new e) fits
+finish_fits : (mode : Mode) (l new : CommandLine) → Fits l → finish mode l ≡ Some new → Fits new
+finish_fits Plain l new fits e = subst Fits (some_same CommandLine l new e) fits
+finish_fits (Wants kind) l new fits e = absurd (no_some CommandLine new e)
+finish_fits Names l new fits e = subst Fits (some_same CommandLine l new e) fits
 
-all_fits : (options : Bool) (words : List (List ℕ)) (s : State) (new : Line) → Fits s.line → read_all options words s ≡ Some new → Fits new
+all_fits : (options : Bool) (words : List (List ℕ)) (s : State) (new : CommandLine) → Fits s.line → read_all options words s ≡ Some new → Fits new
 all_fits options [] s new fits e = finish_fits s.mode s.line new fits e
 all_fits options (word ∷ words) s new fits e =
     by (step options s.mode s.line word) (λ t k. step_fits options s.mode s.line word t fits k) (λ t f k. all_fits options words t new f k) e
   where
     by : (o : Option State) → ((t : State) → o ≡ Some t → Fits t.line) → ((t : State) → Fits t.line → read_all options words t ≡ Some new → Fits new) →
         option_and_then (λ (t : State). read_all options words t) o ≡ Some new → Fits new
-    by None h rest k = absurd (no_some Line new k)
+    by None h rest k = absurd (no_some CommandLine new k)
     by (Some t) h rest k = rest t (h t refl) k
 
 start_fits : Fits start.line
@@ -204,7 +204,7 @@ or_default high default (Some n) fits h = h n refl
 abbrev FitsIf : Option Job → Type 0
 FitsIf o = IfSome o FitsJob
 
-run_fits : (l : Line) (positions : List (List ℕ)) → Fits l → FitsIf (run_at l positions)
+run_fits : (l : CommandLine) (positions : List (List ℕ)) → Fits l → FitsIf (run_at l positions)
 run_fits l (netlist ∷ signature ∷ stimulus ∷ dump ∷ []) fits = record {
   steps = or_default MAX_STEPS DEFAULT_STEPS l.steps (record { low = omega arith; most = omega arith }) fits.steps;
   candidates = or_default MAX_CANDIDATES DEFAULT_CANDIDATES l.candidates (record { low = omega arith; most = omega arith }) fits.candidates;
@@ -216,7 +216,7 @@ run_fits l (a ∷ b ∷ []) fits = tt
 run_fits l (a ∷ b ∷ c ∷ []) fits = tt
 run_fits l (a ∷ b ∷ c ∷ d ∷ x ∷ xs) fits = tt
 
-reach_fits : (l : Line) (positions : List (List ℕ)) → Fits l → FitsIf (reach_at l positions)
+reach_fits : (l : CommandLine) (positions : List (List ℕ)) → Fits l → FitsIf (reach_at l positions)
 reach_fits l (netlist ∷ state ∷ cycles ∷ []) fits = by (is_state state) (number_between 0 MAX_BOUND cycles) refl
   where
     by : (b : Bool) (o : Option ℕ) → number_between 0 MAX_BOUND cycles ≡ o → FitsIf (reach_of netlist state (unwrap_or l.conflicts DEFAULT_CONFLICTS) b o)
@@ -231,7 +231,7 @@ reach_fits l (a ∷ []) fits = tt
 reach_fits l (a ∷ b ∷ []) fits = tt
 reach_fits l (a ∷ b ∷ c ∷ d ∷ ds) fits = tt
 
-asked_fits : (l : Line) (steps candidates : Option ℕ) → Fits l → FitsIf (reach_if l steps candidates)
+asked_fits : (l : CommandLine) (steps candidates : Option ℕ) → Fits l → FitsIf (reach_if l steps candidates)
 asked_fits l None None fits = reach_fits l l.positions fits
 asked_fits l None (Some n) fits = tt
 asked_fits l (Some n) candidates fits = tt
@@ -277,7 +277,7 @@ demo_fits (a ∷ []) = numbered_fits (number_between 0 (2 ^ 64 - 1) a)
 demo_fits [] = tt
 demo_fits (a ∷ b ∷ bs) = tt
 
-command_fits : (command : List ℕ) (l : Line) → Fits l → FitsIf (command_job command l)
+command_fits : (command : List ℕ) (l : CommandLine) → Fits l → FitsIf (command_job command l)
 command_fits command l fits =
     by (bytes_eq command (codes "run")) (bytes_eq command (codes "reach")) (bytes_eq command (codes "audit")) (bytes_eq command (codes "dump"))
     (bytes_eq command (codes "demo")) (bytes_eq command (codes "wave"))
@@ -299,7 +299,7 @@ job_fits_if (command ∷ words) =
     by (read_line (has_budget command) words)
     (λ l k. all_fits (has_budget command) words start l start_fits (sym (same_line (has_budget command) words) ∙ k))
   where
-    by : (o : Option Line) → ((l : Line) → o ≡ Some l → Fits l) → FitsIf (option_and_then (command_job command) o)
+    by : (o : Option CommandLine) → ((l : CommandLine) → o ≡ Some l → Fits l) → FitsIf (option_and_then (command_job command) o)
     by None h = tt
     by (Some l) h = command_fits command l (h l refl)
 

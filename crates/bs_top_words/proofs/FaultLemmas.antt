@@ -9,13 +9,13 @@ use Rattle.std.proofs.lemmas.Slice.Eq.{bytes_eq-Decides}
 use Rattle.std.proofs.lemmas.Bool.{eqb-true, eqb-false, false≢true}
 use Rattle.std.proofs.lemmas.List.{length-append}
 use Rattle.bs_bits.specs.Reading.{◌>>=◌}
-use Rattle.bs_top_words.specs.declared.options.Kind.{Kind}
-use Rattle.bs_top_words.specs.declared.options.Kind.TheVariants.{Steps, Candidates, Conflicts}
+use Rattle.bs_top_words.specs.declared.options.BudgetKind.{BudgetKind}
+use Rattle.bs_top_words.specs.declared.options.BudgetKind.TheVariants.{Steps, Candidates, Conflicts}
 use Rattle.bs_top_words.specs.declared.flags.Flag.TheVariants.{Budget}
 use Rattle.bs_top_words.specs.declared.fault.WordFault.{WordFault}
 use Rattle.bs_top_words.specs.declared.fault.WordFault.TheVariants as W
-use Rattle.bs_top_words.specs.declared.fault.Due.{Due}
-use Rattle.bs_top_words.specs.declared.fault.Due.TheVariants as D
+use Rattle.bs_top_words.specs.declared.fault.NextWord.{NextWord}
+use Rattle.bs_top_words.specs.declared.fault.NextWord.TheVariants as D
 use Rattle.bs_top_words.specs.declared.fault.Opening.{Opening}
 use Rattle.bs_top_words.specs.declared.fault.Opening.TheVariants as O
 use Rattle.bs_top_words.specs.Options.{is_option, value_in}
@@ -32,20 +32,20 @@ use Rattle.bs_top_words.proofs.SpellingLemmas.{value_is, behind_is}
 abbrev Opens : List ℕ → List ℕ → Opening → Type 0
 Opens command word (O.Waits kind) = (takes command kind ≡ true) × (word ≡ kind_name kind)
 Opens command word O.Whole =
-    (kind : Kind) × (value : ℕ) × (takes command kind ≡ true) × IsBudget kind value × (word ≡ kind_name kind ++ (codes "=" ++ decimal value))
+    (kind : BudgetKind) × (value : ℕ) × (takes command kind ≡ true) × IsBudget kind value × (word ≡ kind_name kind ++ (codes "=" ++ decimal value))
 Opens command word O.Bad =
-    (kind : Kind) × (value : List ℕ) × (takes command kind ≡ true) × (word ≡ kind_name kind ++ (codes "=" ++ value)) × (value_in kind value ≡ None)
+    (kind : BudgetKind) × (value : List ℕ) × (takes command kind ≡ true) × (word ≡ kind_name kind ++ (codes "=" ++ value)) × (value_in kind value ≡ None)
 Opens command word O.Unknown = ⊥
 
 -- it is one, or the other, and then the word is none of this budget
-abbrev OpensOr : List ℕ → Kind → List ℕ → Opening → Opening → Type 0
+abbrev OpensOr : List ℕ → BudgetKind → List ℕ → Opening → Opening → Type 0
 OpensOr command kind word other o = Opens command word o ⊎ ((o ≡ other) × (takes command kind ≡ true → IsNotOf kind word))
 
 -- no budget of the command is named
 abbrev NamesNone : List ℕ → List ℕ → Type 0
-NamesNone command word = (kind : Kind) → takes command kind ≡ true → IsNotOf kind word
+NamesNone command word = (kind : BudgetKind) → takes command kind ≡ true → IsNotOf kind word
 
-opens_value : (command : List ℕ) (kind : Kind) (word value : List ℕ) → takes command kind ≡ true → word ≡ kind_name kind ++ (codes "=" ++ value) →
+opens_value : (command : List ℕ) (kind : BudgetKind) (word value : List ℕ) → takes command kind ≡ true → word ≡ kind_name kind ++ (codes "=" ++ value) →
     Opens command word (opening_value (value_in kind value))
 opens_value command kind word value own is = by (value_in kind value) refl
   where
@@ -55,12 +55,12 @@ opens_value command kind word value own is = by (value_in kind value) refl
         let v = value_is kind value n some in
         (kind, n, own, v.1, is ∙ ap (λ d. kind_name kind ++ (codes "=" ++ d)) v.0)
 
-found_behind : (kind : Kind) (value : List ℕ) → value_behind (Budget kind) (kind_name kind ++ (codes "=" ++ value)) ≡ Some value
+found_behind : (kind : BudgetKind) (value : List ℕ) → value_behind (Budget kind) (kind_name kind ++ (codes "=" ++ value)) ≡ Some value
 found_behind Steps value = refl
 found_behind Candidates value = refl
 found_behind Conflicts value = refl
 
-not_behind : (kind : Kind) (word : List ℕ) → value_behind (Budget kind) word ≡ None → (value : List ℕ) → word ≢ kind_name kind ++ (codes "=" ++ value)
+not_behind : (kind : BudgetKind) (word : List ℕ) → value_behind (Budget kind) word ≡ None → (value : List ℕ) → word ≢ kind_name kind ++ (codes "=" ++ value)
 not_behind kind word none value is = differ (sym none ∙ (ap (value_behind (Budget kind)) is ∙ found_behind kind value))
   where
     no_value : Option (List ℕ)
@@ -69,7 +69,7 @@ not_behind kind word none value is = differ (sym none ∙ (ap (value_behind (Bud
     differ : no_value ≡ Some value → ⊥
     differ e = cc
 
-opens_behind : (command : List ℕ) (kind : Kind) (word : List ℕ) (other : Opening) → takes command kind ≡ true → word ≢ kind_name kind →
+opens_behind : (command : List ℕ) (kind : BudgetKind) (word : List ℕ) (other : Opening) → takes command kind ≡ true → word ≢ kind_name kind →
     OpensOr command kind word other (opening_behind kind (value_behind (Budget kind) word) other)
 opens_behind command kind word other own not = by (value_behind (Budget kind) word) refl
   where
@@ -77,7 +77,7 @@ opens_behind command kind word other own not = by (value_behind (Budget kind) wo
     by None none = inr (refl, λ yes. record { apart = not; joined = not_behind kind word none })
     by (Some value) some = inl (opens_value command kind word value own (behind_is kind word value some))
 
-opens_by : (command : List ℕ) (kind : Kind) (word : List ℕ) (other : Opening) → takes command kind ≡ true →
+opens_by : (command : List ℕ) (kind : BudgetKind) (word : List ℕ) (other : Opening) → takes command kind ≡ true →
     OpensOr command kind word other (opening_by kind word other)
 opens_by command kind word other own = by (bytes_eq word (kind_name kind)) refl
   where
@@ -87,7 +87,7 @@ opens_by command kind word other own = by (bytes_eq word (kind_name kind)) refl
     by false isnt =
         opens_behind command kind word other own (λ same. false≢true (sym isnt ∙ (bytes_eq-Decides word (kind_name kind)).1 same))
 
-opens_if : (command : List ℕ) (kind : Kind) (word : List ℕ) (other : Opening) → OpensOr command kind word other (opening_if command kind word other)
+opens_if : (command : List ℕ) (kind : BudgetKind) (word : List ℕ) (other : Opening) → OpensOr command kind word other (opening_if command kind word other)
 opens_if command kind word other = by (takes command kind) refl
   where
     by : (b : Bool) → takes command kind ≡ b → OpensOr command kind word other (cond b (opening_by kind word other) other)
@@ -154,7 +154,7 @@ record HasNoValue (command : List ℕ) (at : ℕ) (words : List (List ℕ)) (pla
   word : List ℕ
   rest : List (List ℕ)
   is : IsAt command at words place word rest
-  kind : Kind
+  kind : BudgetKind
   own : takes command kind ≡ true
   lacks : LacksValue kind word rest
 
@@ -224,7 +224,7 @@ finds_more command at next count more words behind piece (Err (W.Positions given
 finds_more command at next count more words behind piece (Err W.Rest) right is later counts h = absurd h
 
 -- the same by what may stand next
-abbrev From : List ℕ → ℕ → Due → ℕ → List (List ℕ) → Result ℕ WordFault → Type 0
+abbrev From : List ℕ → ℕ → NextWord → ℕ → List (List ℕ) → Result ℕ WordFault → Type 0
 From command at D.Any count words r = Finds command at count words r
 From command at (D.Value place kind) count words r =
     ((r ≡ Err (W.Value place)) × (option_and_then (value_in kind) (slice_get words 0) ≡ None))
@@ -233,13 +233,13 @@ From command at D.Position count words r = r ≡ Ok (count + length words)
 
 -- what the words behind one more give
 abbrev Later : List ℕ → List (List ℕ) → Type 0
-Later command words = (at : ℕ) (due : Due) (count : ℕ) → From command at due count words (scan_all command at words (scanned due count))
+Later command words = (at : ℕ) (due : NextWord) (count : ℕ) → From command at due count words (scan_all command at words (scanned due count))
 
 here : (command : List ℕ) (at : ℕ) (word : List ℕ) (words : List (List ℕ)) → IsAt command at (word ∷ words) at word words
 here command at word words = record { pieces = []; right = tt; spelled = refl; placed = omega arith }
 
 -- the name of a budget
-waits : (command : List ℕ) (at count : ℕ) (word : List ℕ) (words : List (List ℕ)) (kind : Kind) (r : Result ℕ WordFault) →
+waits : (command : List ℕ) (at count : ℕ) (word : List ℕ) (words : List (List ℕ)) (kind : BudgetKind) (r : Result ℕ WordFault) →
     takes command kind ≡ true → word ≡ kind_name kind → From command (at + 1) (D.Value at kind) count words r → Finds command at count (word ∷ words) r
 waits command at count word words kind r own is (inl h) =
     let wrong : HasNoValue command at (word ∷ words) at =
@@ -301,7 +301,7 @@ any_scanned command at count word words later = by (bytes_eq word (codes "--")) 
         option_scanned command at count word words p (λ same. false≢true (sym d ∙ (bytes_eq-Decides word (codes "--")).1 same)) later
         (opening_of command word) (opens_of command word)
 
-value_scanned : (command : List ℕ) (at place : ℕ) (kind : Kind) (count : ℕ) (word : List ℕ) (words : List (List ℕ)) → Later command words →
+value_scanned : (command : List ℕ) (at place : ℕ) (kind : BudgetKind) (count : ℕ) (word : List ℕ) (words : List (List ℕ)) → Later command words →
     From command at (D.Value place kind) count (word ∷ words)
     (value_word place count (value_in kind word) >>= λ next. scan_all command (at + 1) words next)
 value_scanned command at place kind count word words later = by (value_in kind word) refl

@@ -11,10 +11,10 @@ use Rattle.std.proofs.lemmas.Bool.{and_parts, eqb-true}
 use Rattle.bs_bits.specs.Text.{digit_of, bits_text}
 use Rattle.bs_stim.specs.declared.limits.TheConstants.{MAX_RUNS, MAX_CYCLES}
 use Rattle.bs_top_words.specs.declared.limits.TheConstants.{DEFAULT_STEPS, DEFAULT_CANDIDATES, DEFAULT_CONFLICTS, MAX_BOUND}
-use Rattle.bs_top_words.specs.declared.options.Kind.{Kind}
-use Rattle.bs_top_words.specs.declared.options.Kind.TheVariants.{Steps, Candidates, Conflicts}
+use Rattle.bs_top_words.specs.declared.options.BudgetKind.{BudgetKind}
+use Rattle.bs_top_words.specs.declared.options.BudgetKind.TheVariants.{Steps, Candidates, Conflicts}
 use Rattle.bs_top_words.specs.Options.{number_between}
-use Rattle.bs_top_words.specs.Line.{Line, plain, read_line}
+use Rattle.bs_top_words.specs.CommandLine.{CommandLine, plain, read_line}
 use Rattle.bs_top_words.proofs.Taking.{Plain, state, read_all, start, same_line}
 use Rattle.bs_top_words.specs.Job.{RunJob, AuditJob, DumpJob, ReachJob, Job, Run, Audit, Dump, Demo, Wave, Reach}
 use Rattle.bs_top_words.specs.Job.{is_bit, is_state, reach_of, reach_at, reach_if, reach_job, wave_at, wave_job, run_at, run_job, audit_at, audit_job}
@@ -28,12 +28,12 @@ use Rattle.bs_top_words.proofs.SpellingLemmas.{fresh_from, listed_same, own_valu
 
 -- ---- lines
 
-start_gives_none : (kind : Kind) → listed (given start.line kind) ≡ []
+start_gives_none : (kind : BudgetKind) → listed (given start.line kind) ≡ []
 start_gives_none Steps = refl
 start_gives_none Candidates = refl
 start_gives_none Conflicts = refl
 
-line_same : (a b : Line) → a.positions ≡ b.positions → ((kind : Kind) → listed (given a kind) ≡ listed (given b kind)) → a ≡ b
+line_same : (a b : CommandLine) → a.positions ≡ b.positions → ((kind : BudgetKind) → listed (given a kind) ≡ listed (given b kind)) → a ≡ b
 line_same a b p g =
     let s : a.steps ≡ b.steps = listed_same a.steps b.steps (g Steps) in
     let c : a.candidates ≡ b.candidates = listed_same a.candidates b.candidates (g Candidates) in
@@ -41,7 +41,7 @@ line_same a b p g =
     λ i. record { positions = p i; steps = s i; candidates = c i; conflicts = m i }
 
 -- the line that is read is spelled
-line_is : (options : Bool) (words : List (List ℕ)) (line : Line) → Rest options start.line words line → IsLine words line
+line_is : (options : Bool) (words : List (List ℕ)) (line : CommandLine) → Rest options start.line words line → IsLine words line
 line_is options words line r =
     record {
       pieces = r.pieces;
@@ -53,35 +53,35 @@ line_is options words line r =
     }
 
 -- a line without options
-plain_is : (words : List (List ℕ)) (line : Line) → Rest false start.line words line → line ≡ plain line.positions
+plain_is : (words : List (List ℕ)) (line : CommandLine) → Rest false start.line words line → line ≡ plain line.positions
 plain_is words line r =
     line_same line (plain line.positions) refl
     (λ kind. r.given_more kind
     ∙ (ap (λ xs. xs ++ values_of kind (options_of r.pieces)) (start_gives_none kind) ∙ (ap (values_of kind) (r.none_here refl) ∙ none kind)))
   where
-    none : (kind : Kind) → values_of kind [] ≡ listed (given (plain line.positions) kind)
+    none : (kind : BudgetKind) → values_of kind [] ≡ listed (given (plain line.positions) kind)
     none Steps = refl
     none Candidates = refl
     none Conflicts = refl
 
-no_options : (options : List (Kind × ℕ)) → ((kind : Kind) → values_of kind options ≡ []) → options ≡ []
+no_options : (options : List (BudgetKind × ℕ)) → ((kind : BudgetKind) → values_of kind options ≡ []) → options ≡ []
 no_options [] h = refl
 no_options (option ∷ options) h =
     let clash : option.1 ∷ values_of option.0 options ≡ [] = sym (own_values option.0 option.1 (values_of option.0 options)) ∙ h option.0 in
     absurd cc
 
 -- a line that is spelled is read
-line_read : (options : Bool) (words : List (List ℕ)) (line : Line) → IsLine words line →
-    (options ≡ true) ⊎ ((kind : Kind) → listed (given line kind) ≡ []) → read_line options words ≡ Some line
+line_read : (options : Bool) (words : List (List ℕ)) (line : CommandLine) → IsLine words line →
+    (options ≡ true) ⊎ ((kind : BudgetKind) → listed (given line kind) ≡ []) → read_line options words ≡ Some line
 line_read options words line h allowed =
     let once : Once start.line h.pieces =
     λ kind. (given line kind, h.options kind ∙ ap (λ xs. xs ++ values_of kind (options_of h.pieces)) (sym (start_gives_none kind))) in
     let fresh : Fresh start.line h.pieces = fresh_from h.pieces start.line once in
     let allows : (options ≡ true) ⊎ (options_of h.pieces ≡ []) =
     ⊎_elim (λ (on : options ≡ true). inl on)
-    (λ (none : (kind : Kind) → listed (given line kind) ≡ []). inr (no_options (options_of h.pieces) (λ kind. sym (h.options kind) ∙ none kind))) allowed in
-    let end : Line = after start.line h.pieces in
-    let gives : (kind : Kind) → listed (given end kind) ≡ listed (given line kind) =
+    (λ (none : (kind : BudgetKind) → listed (given line kind) ≡ []). inr (no_options (options_of h.pieces) (λ kind. sym (h.options kind) ∙ none kind))) allowed in
+    let end : CommandLine = after start.line h.pieces in
+    let gives : (kind : BudgetKind) → listed (given end kind) ≡ listed (given line kind) =
     λ kind. after_given h.pieces start.line kind fresh
     ∙ (ap (λ xs. xs ++ values_of kind (options_of h.pieces)) (start_gives_none kind) ∙ sym (h.options kind)) in
     let read : (rest : List (List ℕ)) → read_all options (flat_map spelling h.pieces ++ rest) start ≡ read_all options rest (state Plain end) =
@@ -102,12 +102,12 @@ line_read options words line h allowed =
     (ap (λ ps. ps ++ h.behind) (after_positions h.pieces start.line) ∙ sym h.positions) (λ kind. same end h.behind kind ∙ gives kind)))))
     h.spelled
   where
-    same : (l : Line) (behind : List (List ℕ)) (kind : Kind) → listed (given (record l { positions = l.positions ++ behind }) kind) ≡ listed (given l kind)
+    same : (l : CommandLine) (behind : List (List ℕ)) (kind : BudgetKind) → listed (given (record l { positions = l.positions ++ behind }) kind) ≡ listed (given l kind)
     same l behind Steps = refl
     same l behind Candidates = refl
     same l behind Conflicts = refl
 
-plain_gives_none : (positions : List (List ℕ)) (kind : Kind) → listed (given (plain positions) kind) ≡ []
+plain_gives_none : (positions : List (List ℕ)) (kind : BudgetKind) → listed (given (plain positions) kind) ≡ []
 plain_gives_none positions Steps = refl
 plain_gives_none positions Candidates = refl
 plain_gives_none positions Conflicts = refl
@@ -148,7 +148,7 @@ state_again word h = ap is_state h.spelled ∙ again h.bits h.some
 
 -- ---- from what is read to the job
 
-run_said : (words : List (List ℕ)) (line : Line) (positions : List (List ℕ)) (job : Job) → line.positions ≡ positions → IsLine words line →
+run_said : (words : List (List ℕ)) (line : CommandLine) (positions : List (List ℕ)) (job : Job) → line.positions ≡ positions → IsLine words line →
     run_at line positions ≡ Some job → IsJob (codes "run" ∷ words) job
 run_said words line (netlist ∷ signature ∷ stimulus ∷ dump ∷ []) job p is e =
     let run : RunJob = record {
@@ -226,7 +226,7 @@ demo_said words (a ∷ []) job is e = by (number_between 0 (2 ^ 64 - 1) a) refl 
 demo_said words [] job is e = absurd cc
 demo_said words (a ∷ b ∷ bs) job is e = absurd cc
 
-reach_said : (words : List (List ℕ)) (line : Line) (positions : List (List ℕ)) (job : Job) → line.positions ≡ positions → IsLine words line →
+reach_said : (words : List (List ℕ)) (line : CommandLine) (positions : List (List ℕ)) (job : Job) → line.positions ≡ positions → IsLine words line →
     line.steps ≡ None → line.candidates ≡ None → reach_at line positions ≡ Some job → IsJob (codes "reach" ∷ words) job
 reach_said words line (netlist ∷ state ∷ k ∷ []) job p is steps candidates e = by (is_state state) refl (number_between 0 MAX_BOUND k) refl e
   where
@@ -256,7 +256,7 @@ reach_said words line (a ∷ []) job p is steps candidates e = absurd cc
 reach_said words line (a ∷ b ∷ []) job p is steps candidates e = absurd cc
 reach_said words line (a ∷ b ∷ c ∷ d ∷ ds) job p is steps candidates e = absurd cc
 
-reach_asked : (words : List (List ℕ)) (line : Line) (job : Job) → IsLine words line → (steps : Option ℕ) → line.steps ≡ steps →
+reach_asked : (words : List (List ℕ)) (line : CommandLine) (job : Job) → IsLine words line → (steps : Option ℕ) → line.steps ≡ steps →
     (candidates : Option ℕ) → line.candidates ≡ candidates → reach_if line steps candidates ≡ Some job → IsJob (codes "reach" ∷ words) job
 reach_asked words line job is None s None c e = reach_said words line line.positions job refl is s c e
 reach_asked words line job is None s (Some n) c e = absurd cc
@@ -270,13 +270,13 @@ job_said (command ∷ words) job e =
     named : (name : List ℕ) → bytes_eq command name ≡ true → IsJob (name ∷ words) job → IsJob (command ∷ words) job
     named name is h = subst (λ (c : List ℕ). IsJob (c ∷ words) job) (sym ((bytes_eq-Decides command name).0 is)) h
 
-    read : (options : Bool) (line : Line) → read_line options words ≡ Some line → Rest options start.line words line
+    read : (options : Bool) (line : CommandLine) → read_line options words ≡ Some line → Rest options start.line words line
     read options line e = read_sound options words Plain start.line line (sym (same_line options words) ∙ e)
 
-    bare : (line : Line) → read_line false words ≡ Some line → IsLine words (plain line.positions)
+    bare : (line : CommandLine) → read_line false words ≡ Some line → IsLine words (plain line.positions)
     bare line e = subst (IsLine words) (plain_is words line (read false line e)) (line_is false words line (read false line e))
 
-    others : (line : Line) → read_line false words ≡ Some line → (a : Bool) → bytes_eq command (codes "audit") ≡ a → (d : Bool) →
+    others : (line : CommandLine) → read_line false words ≡ Some line → (a : Bool) → bytes_eq command (codes "audit") ≡ a → (d : Bool) →
         bytes_eq command (codes "dump") ≡ d → (m : Bool) → bytes_eq command (codes "demo") ≡ m → (v : Bool) → bytes_eq command (codes "wave") ≡ v →
         cond a (audit_job line) (cond d (dump_job line) (cond m (demo_job line) (cond v (wave_job line) None))) ≡ Some job → IsJob (command ∷ words) job
     others line is true a d f m g v h e = named (codes "audit") a (audit_said words line.positions job (bare line is) e)
@@ -285,17 +285,17 @@ job_said (command ∷ words) job e =
     others line is false a false f false g true h e = named (codes "wave") h (wave_said words line.positions job (bare line is) e)
     others line is false a false f false g false h e = absurd cc
 
-    on_run : (o : Option Line) → read_line true words ≡ o → option_and_then run_job o ≡ Some job → IsJob (codes "run" ∷ words) job
+    on_run : (o : Option CommandLine) → read_line true words ≡ o → option_and_then run_job o ≡ Some job → IsJob (codes "run" ∷ words) job
     on_run None is e = absurd cc
     on_run (Some line) is e = run_said words line line.positions job refl (line_is true words line (read true line is)) e
 
-    on_reach : (o : Option Line) → read_line true words ≡ o → option_and_then reach_job o ≡ Some job → IsJob (codes "reach" ∷ words) job
+    on_reach : (o : Option CommandLine) → read_line true words ≡ o → option_and_then reach_job o ≡ Some job → IsJob (codes "reach" ∷ words) job
     on_reach None is e = absurd cc
     on_reach (Some line) is e =
         reach_asked words line job (line_is true words line (read true line is)) line.steps refl line.candidates refl e
 
-    on_others : (o : Option Line) → read_line false words ≡ o →
-        option_and_then (λ (line : Line). cond (bytes_eq command (codes "audit")) (audit_job line)
+    on_others : (o : Option CommandLine) → read_line false words ≡ o →
+        option_and_then (λ (line : CommandLine). cond (bytes_eq command (codes "audit")) (audit_job line)
         (cond (bytes_eq command (codes "dump")) (dump_job line)
         (cond (bytes_eq command (codes "demo")) (demo_job line)
         (cond (bytes_eq command (codes "wave")) (wave_job line) None)))) o ≡ Some job →
@@ -306,7 +306,7 @@ job_said (command ∷ words) job e =
         (bytes_eq command (codes "demo")) refl (bytes_eq command (codes "wave")) refl e
 
     by : (r : Bool) → bytes_eq command (codes "run") ≡ r → (h : Bool) → bytes_eq command (codes "reach") ≡ h →
-        option_and_then (λ (line : Line). cond r (run_job line)
+        option_and_then (λ (line : CommandLine). cond r (run_job line)
         (cond h (reach_job line)
         (cond (bytes_eq command (codes "audit")) (audit_job line)
         (cond (bytes_eq command (codes "dump")) (dump_job line)

@@ -6,13 +6,13 @@ use Rattle.std.specs.List.{AllByRecursion, flat_map}
 use Rattle.std.specs.Option.{option_and_then}
 use Rattle.std.specs.Str.{bytes_eq}
 use Rattle.bs_bits.specs.Reading.{◌>>=◌}
-use Rattle.bs_top_words.specs.declared.options.Kind.{Kind}
-use Rattle.bs_top_words.specs.declared.options.Kind.TheVariants.{Steps, Candidates, Conflicts}
+use Rattle.bs_top_words.specs.declared.options.BudgetKind.{BudgetKind}
+use Rattle.bs_top_words.specs.declared.options.BudgetKind.TheVariants.{Steps, Candidates, Conflicts}
 use Rattle.bs_top_words.specs.declared.flags.Flag.TheVariants.{Budget}
 use Rattle.bs_top_words.specs.declared.fault.WordFault.{WordFault}
 use Rattle.bs_top_words.specs.declared.fault.WordFault.TheVariants as W
-use Rattle.bs_top_words.specs.declared.fault.Due.{Due}
-use Rattle.bs_top_words.specs.declared.fault.Due.TheVariants as D
+use Rattle.bs_top_words.specs.declared.fault.NextWord.{NextWord}
+use Rattle.bs_top_words.specs.declared.fault.NextWord.TheVariants as D
 use Rattle.bs_top_words.specs.declared.fault.Opening.{Opening}
 use Rattle.bs_top_words.specs.declared.fault.Opening.TheVariants as O
 use Rattle.bs_top_words.specs.declared.fault.Scan.{Scan}
@@ -39,7 +39,7 @@ taken command =
     else None)))))
 
 -- which budgets a command takes: `run` all, and `reach` that of lemmas
-abbrev pub takes : List ℕ → Kind → Bool
+abbrev pub takes : List ℕ → BudgetKind → Bool
 takes command Conflicts = has_budget command
 takes command Steps = bytes_eq command (codes "run")
 takes command Candidates = bytes_eq command (codes "run")
@@ -75,7 +75,7 @@ pub record AreRight (words : List (List ℕ)) (count : ℕ) : Type 0 where
 -- ---- words that are wrong
 
 -- the word is neither the name of the budget, nor that with `=` and a value
-pub record IsNotOf (kind : Kind) (word : List ℕ) : Type 0 where
+pub record IsNotOf (kind : BudgetKind) (word : List ℕ) : Type 0 where
   pub apart : word ≢ kind_name kind
   pub joined : (value : List ℕ) → word ≢ kind_name kind ++ (codes "=" ++ value)
 
@@ -86,10 +86,10 @@ pub record IsNoOption (words : List (List ℕ)) (at : ℕ) : Type 0 where
   pub reached : IsReached words at word rest
   pub form : is_option word ≡ true
   pub no_mark : word ≢ codes "--"
-  pub none : (kind : Kind) → takes (command_of words) kind ≡ true → IsNotOf kind word
+  pub none : (kind : BudgetKind) → takes (command_of words) kind ≡ true → IsNotOf kind word
 
 -- the word is the name of the budget and the next word, if there is one, no value of it; or what stands behind its `=` is none
-abbrev pub LacksValue : Kind → List ℕ → List (List ℕ) → Type 0
+abbrev pub LacksValue : BudgetKind → List ℕ → List (List ℕ) → Type 0
 LacksValue kind word rest =
     ((word ≡ kind_name kind) × (option_and_then (value_in kind) (slice_get rest 0) ≡ None))
     ⊎ ((value : List ℕ) × (word ≡ kind_name kind ++ (codes "=" ++ value)) × (value_in kind value ≡ None))
@@ -99,7 +99,7 @@ pub record IsNoValue (words : List (List ℕ)) (at : ℕ) : Type 0 where
   pub word : List ℕ
   pub rest : List (List ℕ)
   pub reached : IsReached words at word rest
-  pub kind : Kind
+  pub kind : BudgetKind
   pub own : takes (command_of words) kind ≡ true
   pub lacks : LacksValue kind word rest
 
@@ -132,22 +132,22 @@ abbrev pub opening_value : Option ℕ → Opening
 opening_value None = O.Bad
 opening_value (Some value) = O.Whole
 
-abbrev pub opening_behind : Kind → Option (List ℕ) → Opening → Opening
+abbrev pub opening_behind : BudgetKind → Option (List ℕ) → Opening → Opening
 opening_behind kind None other = other
 opening_behind kind (Some value) other = opening_value (value_in kind value)
 
-abbrev pub opening_by : Kind → List ℕ → Opening → Opening
+abbrev pub opening_by : BudgetKind → List ℕ → Opening → Opening
 opening_by kind word other =
     if bytes_eq word (kind_name kind) then O.Waits kind else opening_behind kind (value_behind (Budget kind) word) other
 
-abbrev pub opening_if : List ℕ → Kind → List ℕ → Opening → Opening
+abbrev pub opening_if : List ℕ → BudgetKind → List ℕ → Opening → Opening
 opening_if command kind word other = if takes command kind then opening_by kind word other else other
 
 abbrev pub opening_of : List ℕ → List ℕ → Opening
 opening_of command word = opening_if command Steps word (opening_if command Candidates word (opening_if command Conflicts word O.Unknown))
 
 -- what may come, and how many words by position have come
-abbrev pub scanned : Due → ℕ → Scan
+abbrev pub scanned : NextWord → ℕ → Scan
 scanned due count = record { due = due; count = count }
 
 abbrev pub option_word : ℕ → ℕ → Opening → Result Scan WordFault
@@ -165,7 +165,7 @@ abbrev pub value_word : ℕ → ℕ → Option ℕ → Result Scan WordFault
 value_word place count None = Err (W.Value place)
 value_word place count (Some value) = Ok (scanned D.Any count)
 
-abbrev pub due_word : List ℕ → ℕ → Due → ℕ → List ℕ → Result Scan WordFault
+abbrev pub due_word : List ℕ → ℕ → NextWord → ℕ → List ℕ → Result Scan WordFault
 due_word command at D.Any count word = any_word command at count word
 due_word command at (D.Value place kind) count word = value_word place count (value_in kind word)
 due_word command at D.Position count word = Ok (scanned D.Position (count + 1))
@@ -175,7 +175,7 @@ abbrev pub scan_word : List ℕ → ℕ → Scan → List ℕ → Result Scan Wo
 scan_word command at scan word = due_word command at scan.due scan.count word
 
 -- no value is due at the end
-abbrev pub end_of : Due → ℕ → Result ℕ WordFault
+abbrev pub end_of : NextWord → ℕ → Result ℕ WordFault
 end_of D.Any count = Ok count
 end_of (D.Value place kind) count = Err (W.Value place)
 end_of D.Position count = Ok count

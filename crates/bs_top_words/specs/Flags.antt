@@ -4,13 +4,13 @@ use Rattle.std.specs.Option.{option_and_then}
 use Rattle.std.specs.List.{find}
 use Rattle.std.specs.Str.{bytes_eq}
 use Rattle.bs_top_words.specs.Options.{rest_of}
-use Rattle.bs_top_words.specs.declared.options.Kind.{Kind}
-use Rattle.bs_top_words.specs.declared.options.Kind.TheVariants.{Steps, Candidates, Conflicts}
+use Rattle.bs_top_words.specs.declared.options.BudgetKind.{BudgetKind}
+use Rattle.bs_top_words.specs.declared.options.BudgetKind.TheVariants.{Steps, Candidates, Conflicts}
 use Rattle.bs_top_words.specs.declared.flags.Flag.{Flag}
 use Rattle.bs_top_words.specs.declared.flags.Flag.TheVariants.{Budget, All, Only, Clock, Scope, Map, Bits, From, Time, Cycle, Signature, Csv, Most, At, Depth, Flops, Step}
 
 -- the name of a budget
-abbrev pub kind_name : Kind → List ℕ
+abbrev pub kind_name : BudgetKind → List ℕ
 kind_name Steps = codes "--steps"
 kind_name Candidates = codes "--candidates"
 kind_name Conflicts = codes "--conflicts"
@@ -43,7 +43,7 @@ has_value Flops = false
 has_value _ = true
 
 -- whether two budgets, or options, are the same
-abbrev pub is_kind : Kind → Kind → Bool
+abbrev pub is_kind : BudgetKind → BudgetKind → Bool
 is_kind Steps Steps = true
 is_kind Candidates Candidates = true
 is_kind Conflicts Conflicts = true

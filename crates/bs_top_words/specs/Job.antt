@@ -6,7 +6,7 @@ use Rattle.std.specs.Str.{bytes_eq}
 use Rattle.bs_stim.specs.declared.limits.TheConstants.{MAX_RUNS, MAX_CYCLES}
 use Rattle.bs_top_words.specs.declared.limits.TheConstants.{DEFAULT_STEPS, DEFAULT_CANDIDATES, DEFAULT_CONFLICTS, MAX_BOUND}
 use Rattle.bs_top_words.specs.Options.{number_between}
-use Rattle.bs_top_words.specs.Line.{Line, read_line}
+use Rattle.bs_top_words.specs.CommandLine.{CommandLine, read_line}
 
 -- the files and budgets of `run`
 pub record RunJob : Type 0 where
@@ -50,7 +50,7 @@ pub data Job : Type 0 where
   Reach : ReachJob → Job
 
 -- `run` has four file names, and a budget that is not given has its default
-abbrev pub run_at : Line → List (List ℕ) → Option Job
+abbrev pub run_at : CommandLine → List (List ℕ) → Option Job
 run_at line (netlist ∷ signature ∷ stimulus ∷ dump ∷ []) = Some (Run record {
   netlist = netlist;
   signature = signature;
@@ -62,7 +62,7 @@ run_at line (netlist ∷ signature ∷ stimulus ∷ dump ∷ []) = Some (Run rec
 })
 run_at line _ = None
 
-abbrev pub run_job : Line → Option Job
+abbrev pub run_job : CommandLine → Option Job
 run_job line = run_at line line.positions
 
 -- `audit` has five file names
@@ -71,7 +71,7 @@ audit_at (netlist ∷ signature ∷ stimulus ∷ dump ∷ report ∷ []) =
     Some (Audit record { netlist = netlist; signature = signature; stimulus = stimulus; dump = dump; report = report })
 audit_at _ = None
 
-abbrev pub audit_job : Line → Option Job
+abbrev pub audit_job : CommandLine → Option Job
 audit_job line = audit_at line.positions
 
 abbrev pub dump_of : List ℕ → List ℕ → List ℕ → Option ℕ → Option ℕ → Option Job
@@ -86,7 +86,7 @@ dump_at (netlist ∷ signature ∷ stimulus ∷ run ∷ cycle ∷ []) =
     dump_of netlist signature stimulus (number_between 1 MAX_RUNS run) (number_between 0 MAX_CYCLES cycle)
 dump_at _ = None
 
-abbrev pub dump_job : Line → Option Job
+abbrev pub dump_job : CommandLine → Option Job
 dump_job line = dump_at line.positions
 
 -- `demo` has one number below 2 ^ 64
@@ -94,7 +94,7 @@ abbrev pub demo_at : List (List ℕ) → Option Job
 demo_at (number ∷ []) = option_map (λ (n : ℕ). Demo n) (number_between 0 (2 ^ 64 - 1) number)
 demo_at _ = None
 
-abbrev pub demo_job : Line → Option Job
+abbrev pub demo_job : CommandLine → Option Job
 demo_job line = demo_at line.positions
 
 -- `wave` has the five file names of `audit`
@@ -103,7 +103,7 @@ wave_at (netlist ∷ signature ∷ stimulus ∷ dump ∷ report ∷ []) =
     Some (Wave record { netlist = netlist; signature = signature; stimulus = stimulus; dump = dump; report = report })
 wave_at _ = None
 
-abbrev pub wave_job : Line → Option Job
+abbrev pub wave_job : CommandLine → Option Job
 wave_job line = wave_at line.positions
 
 -- a state: one or more characters 0 and 1
@@ -122,18 +122,18 @@ reach_of netlist state conflicts true None = None
 reach_of netlist state conflicts false cycles = None
 
 -- `reach` has a file name, a state and a number of cycles, and its budget has a default
-abbrev pub reach_at : Line → List (List ℕ) → Option Job
+abbrev pub reach_at : CommandLine → List (List ℕ) → Option Job
 reach_at line (netlist ∷ state ∷ cycles ∷ []) =
     reach_of netlist state (unwrap_or line.conflicts DEFAULT_CONFLICTS) (is_state state) (number_between 0 MAX_BOUND cycles)
 reach_at line _ = None
 
 -- the other options belong to `run`
-abbrev pub reach_if : Line → (steps candidates : Option ℕ) → Option Job
+abbrev pub reach_if : CommandLine → (steps candidates : Option ℕ) → Option Job
 reach_if line None None = reach_at line line.positions
 reach_if line None (Some n) = None
 reach_if line (Some n) candidates = None
 
-abbrev pub reach_job : Line → Option Job
+abbrev pub reach_job : CommandLine → Option Job
 reach_job line = reach_if line line.steps line.candidates
 
 -- the command takes options
@@ -141,7 +141,7 @@ abbrev pub has_budget : List ℕ → Bool
 has_budget command = bytes_eq command (codes "run") || bytes_eq command (codes "reach")
 
 -- the job of a command and what stands behind it
-abbrev pub command_job : List ℕ → Line → Option Job
+abbrev pub command_job : List ℕ → CommandLine → Option Job
 command_job command line =
     if bytes_eq command (codes "run") then run_job line
     else (if bytes_eq command (codes "reach") then reach_job line

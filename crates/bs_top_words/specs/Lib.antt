@@ -1,7 +1,7 @@
 pub mod Options
 pub mod Flags
 pub mod Given
-pub mod Line
+pub mod CommandLine
 pub mod Job
 pub mod Spelling
 pub mod Shown

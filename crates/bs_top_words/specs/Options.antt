@@ -5,21 +5,21 @@ use Rattle.std.specs.Str.{bytes_eq}
 use Rattle.std.specs.List.{starts_with}
 use Rattle.bs_bits.specs.Lines.{number_in}
 use Rattle.bs_top_words.specs.declared.limits.TheConstants.{MAX_STEPS, MAX_CANDIDATES, MAX_CONFLICTS}
-use Rattle.bs_top_words.specs.declared.options.Kind.{Kind}
-use Rattle.bs_top_words.specs.declared.options.Kind.TheVariants.{Steps, Candidates, Conflicts}
+use Rattle.bs_top_words.specs.declared.options.BudgetKind.{BudgetKind}
+use Rattle.bs_top_words.specs.declared.options.BudgetKind.TheVariants.{Steps, Candidates, Conflicts}
 
 -- the number that a word is, if it lies between two bounds, both included
 abbrev pub number_between : ℕ → ℕ → List ℕ → Option ℕ
 number_between low high word = option_and_then (λ (n : ℕ). if nat_le low n && nat_le n high then Some n else None) (number_in word)
 
 -- the greatest value of a budget
-abbrev pub greatest : Kind → ℕ
+abbrev pub greatest : BudgetKind → ℕ
 greatest Steps = MAX_STEPS
 greatest Candidates = MAX_CANDIDATES
 greatest Conflicts = MAX_CONFLICTS
 
 -- the value that a word gives a budget
-abbrev pub value_in : Kind → List ℕ → Option ℕ
+abbrev pub value_in : BudgetKind → List ℕ → Option ℕ
 value_in kind word = number_between 1 (greatest kind) word
 
 -- it begins with `-`

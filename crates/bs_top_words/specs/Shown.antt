@@ -1,15 +1,15 @@
 -- Lines and jobs of the code as the definitions see them.
 use Rattle.std.specs.Prelude.{◌≡◌, Bool, true, false, map, Option, Some, None}
-use Rattle.bs_top_words.specs.declared.line.Line.{Line as CodeLine}
+use Rattle.bs_top_words.specs.declared.line.CommandLine.{CommandLine as CodeCommandLine}
 use Rattle.bs_top_words.specs.declared.job.Job.{Job as CodeJob}
 use Rattle.bs_top_words.specs.declared.job.Job.TheVariants as J
-use Rattle.bs_top_words.specs.Line.{Line}
+use Rattle.bs_top_words.specs.CommandLine.{CommandLine}
 use Rattle.bs_top_words.specs.Job.{Job, Run, Audit, Dump, Demo, Wave, Reach}
 
-abbrev pub line_in : CodeLine → Line
+abbrev pub line_in : CodeCommandLine → CommandLine
 line_in l = record { positions = map (λ s. s.now) l.positions.items; steps = l.steps; candidates = l.candidates; conflicts = l.conflicts }
 
-abbrev pub shown : Option CodeLine → Option Line
+abbrev pub shown : Option CodeCommandLine → Option CommandLine
 shown None = None
 shown (Some l) = Some (line_in l)
 

@@ -5,11 +5,11 @@ use Rattle.std.specs.Option.{unwrap_or}
 use Rattle.bs_bits.specs.Text.{bits_text}
 use Rattle.bs_stim.specs.declared.limits.TheConstants.{MAX_RUNS, MAX_CYCLES}
 use Rattle.bs_top_words.specs.declared.limits.TheConstants.{DEFAULT_STEPS, DEFAULT_CANDIDATES, DEFAULT_CONFLICTS, MAX_BOUND}
-use Rattle.bs_top_words.specs.declared.options.Kind.{Kind}
-use Rattle.bs_top_words.specs.declared.options.Kind.TheVariants.{Steps, Candidates, Conflicts}
+use Rattle.bs_top_words.specs.declared.options.BudgetKind.{BudgetKind}
+use Rattle.bs_top_words.specs.declared.options.BudgetKind.TheVariants.{Steps, Candidates, Conflicts}
 use Rattle.bs_top_words.specs.Options.{greatest, is_option}
 use Rattle.bs_top_words.specs.Flags.{kind_name}
-use Rattle.bs_top_words.specs.Line.{Line, plain}
+use Rattle.bs_top_words.specs.CommandLine.{CommandLine, plain}
 use Rattle.bs_top_words.specs.Job.{RunJob, AuditJob, DumpJob, ReachJob, Job, Run, Audit, Dump, Demo, Wave, Reach, job_of}
 
 -- ---- pieces
@@ -17,8 +17,8 @@ use Rattle.bs_top_words.specs.Job.{RunJob, AuditJob, DumpJob, ReachJob, Job, Run
 -- what may stand before a word `--`: a word by position, or an option with its value in one of two spellings
 pub data Piece : Type 0 where
   Word : List ℕ → Piece
-  Apart : Kind → ℕ → Piece
-  Joined : Kind → ℕ → Piece
+  Apart : BudgetKind → ℕ → Piece
+  Joined : BudgetKind → ℕ → Piece
 
 -- its words: `--steps 5` are two, and `--steps=5` is one
 abbrev pub spelling : Piece → List (List ℕ)
@@ -27,7 +27,7 @@ spelling (Apart kind value) = kind_name kind ∷ decimal value ∷ []
 spelling (Joined kind value) = (kind_name kind ++ (codes "=" ++ decimal value)) ∷ []
 
 -- the value of an option is at least 1 and not too great
-abbrev pub IsBudget : Kind → ℕ → Type 0
+abbrev pub IsBudget : BudgetKind → ℕ → Type 0
 IsBudget kind value = (1 ≤ value) × (value ≤ greatest kind)
 
 -- a word by position does not begin with `-`, unless it is the single `-`
@@ -44,7 +44,7 @@ positions_of (Apart kind value ∷ pieces) = positions_of pieces
 positions_of (Joined kind value ∷ pieces) = positions_of pieces
 
 -- the options with their values, in order
-abbrev pub options_of : List Piece → List (Kind × ℕ)
+abbrev pub options_of : List Piece → List (BudgetKind × ℕ)
 options_of [] = []
 options_of (Word word ∷ pieces) = options_of pieces
 options_of (Apart kind value ∷ pieces) = (kind, value) ∷ options_of pieces
@@ -53,19 +53,19 @@ options_of (Joined kind value ∷ pieces) = (kind, value) ∷ options_of pieces
 -- ---- lines
 
 -- the value that a line gives an option
-abbrev pub given : Line → Kind → Option ℕ
+abbrev pub given : CommandLine → BudgetKind → Option ℕ
 given line Steps = line.steps
 given line Candidates = line.candidates
 given line Conflicts = line.conflicts
 
 -- the values of an option among options
-abbrev pub values_if : Kind → Kind → ℕ → List ℕ → List ℕ
+abbrev pub values_if : BudgetKind → BudgetKind → ℕ → List ℕ → List ℕ
 values_if Steps Steps value values = value ∷ values
 values_if Candidates Candidates value values = value ∷ values
 values_if Conflicts Conflicts value values = value ∷ values
 values_if _ _ value values = values
 
-abbrev pub values_of : Kind → List (Kind × ℕ) → List ℕ
+abbrev pub values_of : BudgetKind → List (BudgetKind × ℕ) → List ℕ
 values_of kind [] = []
 values_of kind (option ∷ options) = values_if kind option.0 option.1 (values_of kind options)
 
@@ -76,19 +76,19 @@ listed (Some value) = value ∷ []
 
 -- Words behind the command: first words by position and options in any order, and then nothing, or `--` and words by position
 -- alone. Each option is given at most once.
-pub record IsLine (words : List (List ℕ)) (line : Line) : Type 0 where
+pub record IsLine (words : List (List ℕ)) (line : CommandLine) : Type 0 where
   pub pieces : List Piece
   pub behind : List (List ℕ)
   pub spelled : ((words ≡ flat_map spelling pieces) × (behind ≡ [])) ⊎ (words ≡ flat_map spelling pieces ++ (codes "--" ∷ behind))
   pub right : AllByRecursion IsPiece pieces
   pub positions : line.positions ≡ positions_of pieces ++ behind
-  pub options : (kind : Kind) → listed (given line kind) ≡ values_of kind (options_of pieces)
+  pub options : (kind : BudgetKind) → listed (given line kind) ≡ values_of kind (options_of pieces)
 
 -- ---- jobs
 
 -- `run`: four file names, and the budgets that are given; the others have their defaults
 pub record IsRun (words : List (List ℕ)) (job : RunJob) : Type 0 where
-  pub line : Line
+  pub line : CommandLine
   pub is : IsLine words line
   pub files : line.positions ≡ job.netlist ∷ job.signature ∷ job.stimulus ∷ job.dump ∷ []
   pub steps : job.steps ≡ unwrap_or line.steps DEFAULT_STEPS
@@ -118,7 +118,7 @@ pub record IsStateWord (word : List ℕ) : Type 0 where
 
 -- `reach`: a file name, a state and a number of cycles, and the budget of lemmas, which has its default where none is given
 pub record IsReach (words : List (List ℕ)) (job : ReachJob) : Type 0 where
-  pub line : Line
+  pub line : CommandLine
   pub is : IsLine words line
   pub places : line.positions ≡ job.netlist ∷ job.state ∷ decimal job.cycles ∷ []
   pub state : IsStateWord job.state

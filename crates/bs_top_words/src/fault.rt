@@ -4,11 +4,11 @@ ghost use Rattle.std.specs.Option.{option_copied};
 ghost use Rattle.bs_top_words.specs.Faults.{any_word, end_of, fault_behind, fault_if, fault_of, IsWordFault, opening_behind, opening_by, opening_if, opening_of};
 ghost use Rattle.bs_top_words.specs.Faults.{opening_value, option_word, scan_all, scan_word, scanned, taken, takes, value_word};
 ghost use Rattle.bs_top_words.specs.Options.{value_in};
-ghost use Rattle.bs_top_words.specs.declared.fault.Due.TheVariants.{Any as TheAny};
+ghost use Rattle.bs_top_words.specs.declared.fault.NextWord.TheVariants.{Any as TheAny};
 
 use crate::flags::{Flag, kind_name, value_behind};
 use crate::job::has_budget;
-use crate::options::{Kind, is_option, value_in};
+use crate::options::{BudgetKind, is_option, value_in};
 
 /// What is wrong with words that are no job. Places count from 0.
 #[derive(Clone, Copy)]
@@ -29,11 +29,11 @@ pub enum WordFault {
 
 /// What the next word may be.
 #[derive(Clone, Copy)]
-pub enum Due {
+pub enum NextWord {
     /// A word by position, or an option.
     Any,
     /// The value of this budget, whose name stands at the place.
-    Value(usize, Kind),
+    Value(usize, BudgetKind),
     /// A word by position: a word `--` has come.
     Position,
 }
@@ -41,7 +41,7 @@ pub enum Due {
 /// What the next word may be, and how many words by position have come.
 #[derive(Clone, Copy)]
 pub struct Scan {
-    pub due: Due,
+    pub due: NextWord,
     pub count: usize,
 }
 
@@ -49,7 +49,7 @@ pub struct Scan {
 #[derive(Clone, Copy)]
 pub enum Opening {
     /// The name of a budget, whose value is the next word.
-    Waits(Kind),
+    Waits(BudgetKind),
     /// A budget with its value.
     Whole,
     /// A budget with a value that it does not take.
@@ -84,13 +84,13 @@ fn taken(command: &str) -> Option<usize>
 }
 
 /// Whether a command takes a budget.
-fn takes(command: &str, kind: Kind) -> bool
+fn takes(command: &str, kind: BudgetKind) -> bool
     ensures { result ≡ takes command.now kind }
 {
     match kind {
-        Kind::Conflicts => has_budget(command),
-        Kind::Steps => command == "run",
-        Kind::Candidates => command == "run",
+        BudgetKind::Conflicts => has_budget(command),
+        BudgetKind::Steps => command == "run",
+        BudgetKind::Candidates => command == "run",
     }
 }
 
@@ -105,7 +105,7 @@ fn opening_value(value: Option<u64>) -> Opening
 }
 
 /// What a word is with this text behind the name of a budget and `=`, or else the other.
-fn opening_behind(kind: Kind, value: Option<&str>, other: Opening) -> Opening
+fn opening_behind(kind: BudgetKind, value: Option<&str>, other: Opening) -> Opening
     ensures { result ≡ opening_behind kind (option_copied value.entry) other }
 {
     match value {
@@ -115,7 +115,7 @@ fn opening_behind(kind: Kind, value: Option<&str>, other: Opening) -> Opening
 }
 
 /// What a word is as an option of this budget, or else the other.
-fn opening_by(kind: Kind, word: &str, other: Opening) -> Opening
+fn opening_by(kind: BudgetKind, word: &str, other: Opening) -> Opening
     ensures { result ≡ opening_by kind word.now other }
 {
     if word == kind_name(kind) {
@@ -125,7 +125,7 @@ fn opening_by(kind: Kind, word: &str, other: Opening) -> Opening
 }
 
 /// The same where the command takes the budget.
-fn opening_if(command: &str, kind: Kind, word: &str, other: Opening) -> Opening
+fn opening_if(command: &str, kind: BudgetKind, word: &str, other: Opening) -> Opening
     ensures { result ≡ opening_if command.now kind word.now other }
 {
     if takes(command, kind) {
@@ -139,9 +139,9 @@ fn opening_if(command: &str, kind: Kind, word: &str, other: Opening) -> Opening
 fn opening_of(command: &str, word: &str) -> Opening
     ensures { result ≡ opening_of command.now word.now }
 {
-    let conflicts = opening_if(command, Kind::Conflicts, word, Opening::Unknown);
-    let candidates = opening_if(command, Kind::Candidates, word, conflicts);
-    opening_if(command, Kind::Steps, word, candidates)
+    let conflicts = opening_if(command, BudgetKind::Conflicts, word, Opening::Unknown);
+    let candidates = opening_if(command, BudgetKind::Candidates, word, conflicts);
+    opening_if(command, BudgetKind::Steps, word, candidates)
 }
 
 /// Takes the word at a place that begins as an option.
@@ -151,11 +151,11 @@ fn option_word(at: usize, count: usize, opening: Opening) -> Result<Scan, WordFa
 {
     match opening {
         Opening::Waits(kind) => Ok(Scan {
-            due: Due::Value(at, kind),
+            due: NextWord::Value(at, kind),
             count,
         }),
         Opening::Whole => Ok(Scan {
-            due: Due::Any,
+            due: NextWord::Any,
             count,
         }),
         Opening::Bad => Err(WordFault::Value(at)),
@@ -171,13 +171,13 @@ fn any_word(command: &str, at: usize, count: usize, word: &str) -> Result<Scan, 
 {
     if word == "--" {
         return Ok(Scan {
-            due: Due::Position,
+            due: NextWord::Position,
             count,
         });
     }
     if !is_option(word) {
         return Ok(Scan {
-            due: Due::Any,
+            due: NextWord::Any,
             count: count + 1,
         });
     }
@@ -191,7 +191,7 @@ fn value_word(place: usize, count: usize, value: Option<u64>) -> Result<Scan, Wo
 {
     match value {
         Some(_) => Ok(Scan {
-            due: Due::Any,
+            due: NextWord::Any,
             count,
         }),
         None => Err(WordFault::Value(place)),
@@ -205,10 +205,10 @@ fn scan_word(command: &str, at: usize, scan: Scan, word: &str) -> Result<Scan, W
     ensures few { IfOk result (λ next. next.count ≤ at) }
 {
     match scan.due {
-        Due::Any => any_word(command, at, scan.count, word),
-        Due::Value(place, kind) => value_word(place, scan.count, value_in(kind, word)),
-        Due::Position => Ok(Scan {
-            due: Due::Position,
+        NextWord::Any => any_word(command, at, scan.count, word),
+        NextWord::Value(place, kind) => value_word(place, scan.count, value_in(kind, word)),
+        NextWord::Position => Ok(Scan {
+            due: NextWord::Position,
             count: scan.count + 1,
         }),
     }
@@ -219,9 +219,9 @@ fn end_of(scan: Scan) -> Result<usize, WordFault>
     ensures { result ≡ end_of scan.due scan.count }
 {
     match scan.due {
-        Due::Any => Ok(scan.count),
-        Due::Value(place, _) => Err(WordFault::Value(place)),
-        Due::Position => Ok(scan.count),
+        NextWord::Any => Ok(scan.count),
+        NextWord::Value(place, _) => Err(WordFault::Value(place)),
+        NextWord::Position => Ok(scan.count),
     }
 }
 
@@ -230,7 +230,7 @@ fn scan_all(command: &str, words: &[String]) -> Result<usize, WordFault>
     ensures { result ≡ scan_all command.now 1 (map string_bytes words.now) (scanned TheAny 0) }
 {
     let mut scan = Scan {
-        due: Due::Any,
+        due: NextWord::Any,
         count: 0,
     };
     'words: for (i, word) in words.iter().enumerate() {

@@ -3,13 +3,13 @@ ghost use Rattle.std.specs.Prelude.{◌≡◌};
 ghost use Rattle.std.specs.Option.{option_copied};
 ghost use Rattle.bs_top_words.specs.Flags.{flag_of, has_value, is_flag, is_kind, is_named, kind_name, name_of, value_behind};
 
-use crate::options::{Kind, rest_of};
+use crate::options::{BudgetKind, rest_of};
 
 /// An option.
 #[derive(Clone, Copy, Debug, PartialEq, Eq)]
 pub enum Flag {
     /// A budget.
-    Budget(Kind),
+    Budget(BudgetKind),
     /// All flip-flops in each cycle; it has no value.
     All,
     /// Names; it has one value or more.
@@ -45,13 +45,13 @@ pub enum Flag {
 }
 
 /// The name of a budget.
-pub fn kind_name(kind: Kind) -> &'static str
+pub fn kind_name(kind: BudgetKind) -> &'static str
     ensures { result.now ≡ kind_name kind }
 {
     match kind {
-        Kind::Steps => "--steps",
-        Kind::Candidates => "--candidates",
-        Kind::Conflicts => "--conflicts",
+        BudgetKind::Steps => "--steps",
+        BudgetKind::Candidates => "--candidates",
+        BudgetKind::Conflicts => "--conflicts",
     }
 }
 
@@ -91,13 +91,13 @@ pub fn has_value(flag: Flag) -> bool
 }
 
 /// Whether two budgets are the same.
-fn is_kind(one: Kind, other: Kind) -> bool
+fn is_kind(one: BudgetKind, other: BudgetKind) -> bool
     ensures { result ≡ is_kind one other }
 {
     match (one, other) {
-        (Kind::Steps, Kind::Steps) => true,
-        (Kind::Candidates, Kind::Candidates) => true,
-        (Kind::Conflicts, Kind::Conflicts) => true,
+        (BudgetKind::Steps, BudgetKind::Steps) => true,
+        (BudgetKind::Candidates, BudgetKind::Candidates) => true,
+        (BudgetKind::Conflicts, BudgetKind::Conflicts) => true,
         _ => false,
     }
 }

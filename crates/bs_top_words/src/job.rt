@@ -7,7 +7,7 @@ ghost use Rattle.bs_top_words.specs.Shown.{line_in, shown_job};
 ghost use Rattle.bs_top_words.specs.Spelling.{IsJob, IsNoJob};
 
 use crate::limits::{DEFAULT_CANDIDATES, DEFAULT_CONFLICTS, DEFAULT_STEPS, MAX_BOUND};
-use crate::line::{Line, read_line};
+use crate::line::{CommandLine, read_line};
 use crate::options::number_between;
 use bs_stim::{MAX_CYCLES, MAX_RUNS};
 use std::alloc::{AllocError, Global};
@@ -66,7 +66,7 @@ pub enum Job<'a> {
 }
 
 /// The run of four file names and the budgets that are given.
-fn run_job<'a>(line: &Line<'a>) -> Option<Job<'a>>
+fn run_job<'a>(line: &CommandLine<'a>) -> Option<Job<'a>>
     ensures { shown_job result ≡ run_job (line_in line.now) }
 {
     match line.positions.as_slice() {
@@ -84,7 +84,7 @@ fn run_job<'a>(line: &Line<'a>) -> Option<Job<'a>>
 }
 
 /// The audit of five file names.
-fn audit_job<'a>(line: &Line<'a>) -> Option<Job<'a>>
+fn audit_job<'a>(line: &CommandLine<'a>) -> Option<Job<'a>>
     ensures { shown_job result ≡ audit_job (line_in line.now) }
 {
     match line.positions.as_slice() {
@@ -100,7 +100,7 @@ fn audit_job<'a>(line: &Line<'a>) -> Option<Job<'a>>
 }
 
 /// The dump of three file names, a run and a cycle.
-fn dump_job<'a>(line: &Line<'a>) -> Option<Job<'a>>
+fn dump_job<'a>(line: &CommandLine<'a>) -> Option<Job<'a>>
     ensures { shown_job result ≡ dump_job (line_in line.now) }
 {
     match line.positions.as_slice() {
@@ -124,7 +124,7 @@ fn dump_job<'a>(line: &Line<'a>) -> Option<Job<'a>>
 }
 
 /// The demo of a number.
-fn demo_job<'a>(line: &Line<'a>) -> Option<Job<'a>>
+fn demo_job<'a>(line: &CommandLine<'a>) -> Option<Job<'a>>
     ensures { shown_job result ≡ demo_job (line_in line.now) }
 {
     match line.positions.as_slice() {
@@ -137,7 +137,7 @@ fn demo_job<'a>(line: &Line<'a>) -> Option<Job<'a>>
 }
 
 /// The wave of five file names.
-fn wave_job<'a>(line: &Line<'a>) -> Option<Job<'a>>
+fn wave_job<'a>(line: &CommandLine<'a>) -> Option<Job<'a>>
     ensures { shown_job result ≡ wave_job (line_in line.now) }
 {
     match line.positions.as_slice() {
@@ -186,7 +186,7 @@ fn reach_of<'a>(netlist: &'a str, state: &'a str, cycles: &str, conflicts: u64) 
 }
 
 /// The search of a file name, a state and a number of cycles.
-fn reach_at<'a>(line: &Line<'a>) -> Option<Job<'a>>
+fn reach_at<'a>(line: &CommandLine<'a>) -> Option<Job<'a>>
     ensures { shown_job result ≡ reach_at (line_in line.now) (line_in line.now).positions }
 {
     match line.positions.as_slice() {
@@ -201,7 +201,7 @@ fn reach_at<'a>(line: &Line<'a>) -> Option<Job<'a>>
 }
 
 /// The same, where no option is given but the budget of lemmas.
-fn reach_job<'a>(line: &Line<'a>) -> Option<Job<'a>>
+fn reach_job<'a>(line: &CommandLine<'a>) -> Option<Job<'a>>
     ensures { shown_job result ≡ reach_job (line_in line.now) }
 {
     match (line.steps, line.candidates) {
@@ -243,7 +243,7 @@ pub fn read_words(alloc: Global, words: &[String]) -> Result<Option<Job<'_>>, Al
 }
 
 /// The job of a command and what stands behind it.
-fn job_in<'a>(command: &str, line: &Line<'a>) -> Option<Job<'a>>
+fn job_in<'a>(command: &str, line: &CommandLine<'a>) -> Option<Job<'a>>
     ensures { shown_job result ≡ command_job command.now (line_in line.now) }
 {
     if command == "run" {

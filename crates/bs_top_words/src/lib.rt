@@ -5,7 +5,7 @@
 //! no job). Used above: `read_words` answers the job that the words spell (`specs/Spelling`, a
 //! relation without an order of reading); `job_of` is it as a function, for plans; `IsWordFault`
 //! (`specs/Faults`) says in the same pieces what is wrong. A command: a record and a variant of
-//! `Job`, and a line in `command_job`. An option: a variant of `Kind`, a field of `Line`, and a line
+//! `Job`, and a line in `command_job`. An option: a variant of `BudgetKind`, a field of `CommandLine`, and a line
 //! in each table of `specs/Options`. The companion's words are parted by the same `read_given`.
 #![tactic(auto)]
 
@@ -27,4 +27,4 @@ pub use limits::{
     DEFAULT_CANDIDATES, DEFAULT_CONFLICTS, DEFAULT_STEPS, MAX_BITS, MAX_BOUND, MAX_CANDIDATES,
     MAX_CONFLICTS, MAX_STEPS,
 };
-pub use options::{Kind, number_between};
+pub use options::{BudgetKind, number_between};

@@ -3,17 +3,17 @@ ghost use Rattle.std.specs.Prelude.{◌≡◌, map, string_bytes, IfOk};
 ghost use Rattle.bs_top_words.specs.Asked.{given_in, setting_of, shown as shown_given};
 ghost use Rattle.bs_top_words.specs.Flags.{budgets_if};
 ghost use Rattle.bs_top_words.specs.Given.{read_all, start};
-ghost use Rattle.bs_top_words.specs.Line.{line_of, read_line, set_all, set_flag, set_to};
+ghost use Rattle.bs_top_words.specs.CommandLine.{line_of, read_line, set_all, set_flag, set_to};
 ghost use Rattle.bs_top_words.specs.Shown.{line_in, shown, Takes};
 
 use crate::flags::Flag;
 use crate::given::{Given, Setting, read_given};
-use crate::options::{Kind, value_in};
+use crate::options::{BudgetKind, value_in};
 use std::alloc::{AllocError, Global};
 
 /// The words by position, and the values of the options that are given.
 #[derive(Drop)]
-pub struct Line<'a> {
+pub struct CommandLine<'a> {
     pub positions: Vec<&'a str>,
     pub steps: Option<u64>,
     pub candidates: Option<u64>,
@@ -21,13 +21,13 @@ pub struct Line<'a> {
 }
 
 /// Gives a budget its value, unless it has one.
-fn set_to(line: &mut Line<'_>, kind: Kind, word: &str) -> bool
+fn set_to(line: &mut CommandLine<'_>, kind: BudgetKind, word: &str) -> bool
     ensures { Takes result (line_in line.new) (set_to (line_in line.old) kind word.now) }
 {
     let slot = match kind {
-        Kind::Steps => line.steps,
-        Kind::Candidates => line.candidates,
-        Kind::Conflicts => line.conflicts,
+        BudgetKind::Steps => line.steps,
+        BudgetKind::Candidates => line.candidates,
+        BudgetKind::Conflicts => line.conflicts,
     };
     if slot.is_some() {
         return false;
@@ -36,15 +36,15 @@ fn set_to(line: &mut Line<'_>, kind: Kind, word: &str) -> bool
         return false;
     };
     match kind {
-        Kind::Steps => line.steps = Some(value),
-        Kind::Candidates => line.candidates = Some(value),
-        Kind::Conflicts => line.conflicts = Some(value),
+        BudgetKind::Steps => line.steps = Some(value),
+        BudgetKind::Candidates => line.candidates = Some(value),
+        BudgetKind::Conflicts => line.conflicts = Some(value),
     }
     true
 }
 
 /// Gives an option its value, if it is a budget.
-fn set_flag(line: &mut Line<'_>, flag: Flag, word: &str) -> bool
+fn set_flag(line: &mut CommandLine<'_>, flag: Flag, word: &str) -> bool
     ensures { Takes result (line_in line.new) (set_flag (line_in line.old) flag word.now) }
 {
     match flag {
@@ -54,7 +54,7 @@ fn set_flag(line: &mut Line<'_>, flag: Flag, word: &str) -> bool
 }
 
 /// Gives the options their values, one after another.
-fn set_all(line: &mut Line<'_>, settings: &[Setting<'_>]) -> bool
+fn set_all(line: &mut CommandLine<'_>, settings: &[Setting<'_>]) -> bool
     ensures { Takes result (line_in line.new) (set_all (line_in line.old) (map setting_of settings.now)) }
 {
     'settings: for setting in settings {
@@ -66,10 +66,10 @@ fn set_all(line: &mut Line<'_>, settings: &[Setting<'_>]) -> bool
 }
 
 /// The line of what was read.
-fn line_of(given: Given<'_>) -> Option<Line<'_>>
+fn line_of(given: Given<'_>) -> Option<CommandLine<'_>>
     ensures { shown result ≡ line_of (given_in given.entry) }
 {
-    let mut line = Line {
+    let mut line = CommandLine {
         positions: given.positions,
         steps: None,
         candidates: None,
@@ -92,9 +92,9 @@ fn read_budgets<'a>(
 {
     if options {
         let budgets = [
-            Flag::Budget(Kind::Steps),
-            Flag::Budget(Kind::Candidates),
-            Flag::Budget(Kind::Conflicts),
+            Flag::Budget(BudgetKind::Steps),
+            Flag::Budget(BudgetKind::Candidates),
+            Flag::Budget(BudgetKind::Conflicts),
         ];
         return read_given(alloc, &budgets, words);
     }
@@ -107,7 +107,7 @@ pub fn read_line<'a>(
     alloc: Global,
     options: bool,
     words: &'a [String],
-) -> Result<Option<Line<'a>>, AllocError>
+) -> Result<Option<CommandLine<'a>>, AllocError>
     ensures { IfOk result (λ line. shown line ≡ read_line options (map string_bytes words.now)) }
 {
     match read_budgets(alloc, options, words)? {

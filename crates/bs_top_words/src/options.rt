@@ -8,7 +8,7 @@ use bs_bits::read_number;
 
 /// A budget of a run or of a search.
 #[derive(Clone, Copy, Debug, PartialEq, Eq)]
-pub enum Kind {
+pub enum BudgetKind {
     Steps,
     Candidates,
     Conflicts,
@@ -25,18 +25,18 @@ pub fn number_between(low: u64, high: u64, word: &str) -> Option<u64>
 }
 
 /// The greatest value of a budget. The least is 1.
-fn greatest(kind: Kind) -> u64
+fn greatest(kind: BudgetKind) -> u64
     ensures { result ≡ greatest kind }
 {
     match kind {
-        Kind::Steps => MAX_STEPS,
-        Kind::Candidates => MAX_CANDIDATES,
-        Kind::Conflicts => MAX_CONFLICTS,
+        BudgetKind::Steps => MAX_STEPS,
+        BudgetKind::Candidates => MAX_CANDIDATES,
+        BudgetKind::Conflicts => MAX_CONFLICTS,
     }
 }
 
 /// The value that a word gives a budget.
-pub fn value_in(kind: Kind, word: &str) -> Option<u64>
+pub fn value_in(kind: BudgetKind, word: &str) -> Option<u64>
     ensures { result ≡ value_in kind word.now }
 {
     number_between(1, greatest(kind), word)

@@ -10,15 +10,15 @@ use Rattle.bs_bits.specs.Reading.{◌>>=◌}
 use Rattle.bs_net_names.specs.Keys.{key_parts}
 use Rattle.bs_vcd_header.specs.declared.fault.VcdFault.{VcdFault}
 use Rattle.bs_vcd_header.specs.declared.fault.VcdFault.TheVariants.{NoClock, NoCycle}
-use Rattle.bs_vcd_header.specs.declared.sources.Source.{Source}
-use Rattle.bs_vcd_header.specs.Header.{Declared, header_of}
+use Rattle.bs_vcd_header.specs.declared.sources.BitSource.{BitSource}
+use Rattle.bs_vcd_header.specs.Header.{HeaderDeclarations, header_of}
 use Rattle.bs_vcd_header.specs.Sources.{input_at, inputs_from, or_fault, scope_of, source_in}
 use Rattle.bs_vcd_header.specs.Tokens.{tokens_from}
 use Rattle.bs_vcd.specs.declared.cycles.When.{When}
 use Rattle.bs_vcd.specs.History.{History, history_of}
 use Rattle.bs_vcd.specs.Levels.{Known, is_bit, is_unknown, known_by, level}
-use Rattle.bs_vcd.specs.Sampled.{Asked, Cut, is_within, line_at, line_or, lines_asked, numbered_lines, stops_of, wanted, or_fault as or_end}
-use Rattle.bs_vcd.specs.Stimulus.{Sampling, sampling_of}
+use Rattle.bs_vcd.specs.Sampled.{SamplingRequest, Cut, is_within, line_at, line_or, lines_asked, numbered_lines, stops_of, wanted, or_fault as or_end}
+use Rattle.bs_vcd.specs.Stimulus.{ClockAndInputs, sampling_of}
 use Rattle.bs_vcd.specs.Cycles.{cycle_ends, cycle_in, states_at, states_in, states_of, states_when, window}
 
 abbrev Lines : Type 0
@@ -81,11 +81,11 @@ abbrev AreStates : ℕ → Lines → Type 0
 AreStates width lines = (0 < length lines) × All (λ s. length s ≡ width) lines
 
 -- a line has a bit for each source
-line_wide : (time : ℕ) (known : Known) (inputs : List Source) (o : Option ℕ) → Gives (IsLong (length inputs)) (line_or time known inputs o)
+line_wide : (time : ℕ) (known : Known) (inputs : List BitSource) (o : Option ℕ) → Gives (IsLong (length inputs)) (line_or time known inputs o)
 line_wide time known inputs (Some k) = gives_err (IsLong (length inputs)) _
 line_wide time known inputs None = gives_ok (IsLong (length inputs)) _ (length-map inputs (λ s. is_bit true (level known s)))
 
-line_at_wide : (inputs : List Source) (c : Cut) → Gives (IsLong (length inputs)) (line_at inputs c)
+line_at_wide : (inputs : List BitSource) (c : Cut) → Gives (IsLong (length inputs)) (line_at inputs c)
 line_at_wide inputs c = line_wide c.moment.time (known_by c.earlier) inputs (position (is_unknown (known_by c.earlier)) inputs)
 
 -- lines from one number on up to another
@@ -93,10 +93,10 @@ abbrev WideIn : ℕ → ℕ → ℕ → Lines → Type 0
 WideIn width first behind lines = All (λ s. length s ≡ width) (drop first (take behind lines))
 
 -- the numbers of these lie in the span
-record Within (a : Asked) (n first behind : ℕ) : Type 0 where
+record Within (a : SamplingRequest) (n first behind : ℕ) : Type 0 where
   is : (j : ℕ) → first ≤ j → j < behind → is_within a.span (n + j) ≡ true
 
-here_wide : (a : Asked) (n : ℕ) (c : Cut) → is_within a.span n ≡ true → Gives (IsLong (length a.inputs)) (line_at (wanted a n) c)
+here_wide : (a : SamplingRequest) (n : ℕ) (c : Cut) → is_within a.span n ≡ true → Gives (IsLong (length a.inputs)) (line_at (wanted a n) c)
 here_wide a n c e =
     subst (λ (b : Bool). Gives (IsLong (length a.inputs)) (line_at (cond b a.inputs []) c)) (sym e) (line_at_wide a.inputs c)
 
@@ -111,20 +111,20 @@ up_to_none width zero lines = All-nil (λ (s : List Bool). length s ≡ width)
 up_to_none width (suc first) lines = All-nil (λ (s : List Bool). length s ≡ width)
 
 -- the same one line on
-next_within : (a : Asked) (n first behind : ℕ) → Within a n (suc first) (suc behind) → Within a (n + 1) first behind
+next_within : (a : SamplingRequest) (n first behind : ℕ) → Within a n (suc first) (suc behind) → Within a (n + 1) first behind
 next_within a n first behind w = record {
   is = λ j le lt. subst (λ (k : ℕ). is_within a.span k ≡ true) (omega arith) (w.is (suc j) (omega (arith, le)) (omega (arith, lt)));
 }
 
-after_within : (a : Asked) (n behind : ℕ) → Within a n zero (suc behind) → Within a (n + 1) zero behind
+after_within : (a : SamplingRequest) (n behind : ℕ) → Within a n zero (suc behind) → Within a (n + 1) zero behind
 after_within a n behind w = record {
   is = λ j le lt. subst (λ (k : ℕ). is_within a.span k ≡ true) (omega arith) (w.is (suc j) (omega arith) (omega (arith, lt)));
 }
 
-abbrev later : Asked → ℕ → List Cut → List Bool → Result Lines VcdFault
+abbrev later : SamplingRequest → ℕ → List Cut → List Bool → Result Lines VcdFault
 later a n cs x = numbered_lines a (n + 1) cs >>= λ xs. Ok (x ∷ xs)
 
-lines_wide : (a : Asked) (cuts : List Cut) (n first behind : ℕ) → Within a n first behind →
+lines_wide : (a : SamplingRequest) (cuts : List Cut) (n first behind : ℕ) → Within a n first behind →
     Gives (WideIn (length a.inputs) first behind) (numbered_lines a n cuts)
 lines_wide a [] n first behind w = gives_ok (WideIn (length a.inputs) first behind) [] (none_wide (length a.inputs) first behind)
 lines_wide a (c ∷ cs) n first zero w =
@@ -154,10 +154,10 @@ end_wide P None lines p = gives_ok P lines p
 end_wide P (Some fault) lines p = gives_err P fault
 
 -- the lines of a cycle and of so many before it
-asked_wide : (s : Sampling) (h : History) (cycle back : ℕ) →
+asked_wide : (s : ClockAndInputs) (h : History) (cycle back : ℕ) →
     Gives (WideIn (length s.inputs) (cycle - back) (cycle + 1)) (lines_asked (cycle_ends s cycle back) h)
 asked_wide s h cycle back =
-    let a : Asked = cycle_ends s cycle back in
+    let a : SamplingRequest = cycle_ends s cycle back in
     let P = WideIn (length s.inputs) (cycle - back) (cycle + 1) in
     let cuts : List Cut = stops_of a [] 0 h in
     gives_then P P (numbered_lines a 0 cuts) (λ lines. or_end h.fault lines)
@@ -180,7 +180,7 @@ window_wide width cycle back lines all = by (nat_lt cycle (length lines)) refl
         (omega (arith, length-drop (cycle - back) (take (cycle + 1) lines), length-take-le (cycle + 1) lines (omega (arith, there))), all)
     by false e = gives_err (AreStates width) (NoCycle (length lines - 1))
 
-when_wide : (s : Sampling) (h : History) (at : When) (back : ℕ) → Gives (AreStates (length s.inputs)) (states_when s h at back)
+when_wide : (s : ClockAndInputs) (h : History) (at : When) (back : ℕ) → Gives (AreStates (length s.inputs)) (states_when s h at back)
 when_wide s h at back =
     let R = AreStates (length s.inputs) in
     gives_then (λ _. Unit {0}) R (cycle_in s.clock h at) (λ cycle. states_at s h back cycle) (gives_any (cycle_in s.clock h at))
@@ -190,22 +190,22 @@ when_wide s h at back =
     (λ lines all. window_wide (length s.inputs) cycle back lines all))
 
 -- a source for each name
-abbrev more_sources : ℕ → Declared → List ℕ → List (List ℕ) → Source → Result (List Source) VcdFault
+abbrev more_sources : ℕ → HeaderDeclarations → List ℕ → List (List ℕ) → BitSource → Result (List BitSource) VcdFault
 more_sources k d path keys s = inputs_from (k + 1) d path keys >>= λ more. Ok (s ∷ more)
 
-sources_each : (k : ℕ) (d : Declared) (path : List ℕ) (keys : List (List ℕ)) → Gives (IsLong (length keys)) (inputs_from k d path keys)
+sources_each : (k : ℕ) (d : HeaderDeclarations) (path : List ℕ) (keys : List (List ℕ)) → Gives (IsLong (length keys)) (inputs_from k d path keys)
 sources_each k d path [] = gives_ok (IsLong 0) [] refl
 sources_each k d path (key ∷ keys) =
-    let R : List Source → Type 0 = λ (sources : List Source). length sources ≡ suc (length keys) in
+    let R : List BitSource → Type 0 = λ (sources : List BitSource). length sources ≡ suc (length keys) in
     gives_then (λ _. Unit {0}) R (input_at k d path key) (more_sources k d path keys) (gives_any (input_at k d path key))
     (λ s u.
     gives_then (IsLong (length keys)) R (inputs_from (k + 1) d path keys) (λ more. Ok (s ∷ more)) (sources_each (k + 1) d path keys)
     (λ more e. gives_ok R (s ∷ more) (ap suc e)))
 
-sampling_each : (d : Declared) (scope : Option (List ℕ)) (clock : List ℕ) (keys : List (List ℕ)) →
-    Gives (λ (s : Sampling). length s.inputs ≡ length keys) (sampling_of d scope clock keys)
+sampling_each : (d : HeaderDeclarations) (scope : Option (List ℕ)) (clock : List ℕ) (keys : List (List ℕ)) →
+    Gives (λ (s : ClockAndInputs). length s.inputs ≡ length keys) (sampling_of d scope clock keys)
 sampling_each d scope clock keys =
-    let R : Sampling → Type 0 = λ (s : Sampling). length s.inputs ≡ length keys in
+    let R : ClockAndInputs → Type 0 = λ (s : ClockAndInputs). length s.inputs ≡ length keys in
     gives_then (λ _. Unit {0}) R (or_fault NoClock (scope_of scope (key_parts clock) d)) _ (gives_any (or_fault NoClock (scope_of scope (key_parts clock) d)))
     (λ path u.
     gives_then (λ _. Unit {0}) R (or_fault NoClock (source_in d.paths path (key_parts clock) d.variables)) _
@@ -220,7 +220,7 @@ states_are text scope clock keys at back =
     let R = AreStates (length keys) in
     gives_then (λ _. Unit {0}) R (header_of (tokens_from 1 text)) (λ h. states_of h scope clock keys at back) (gives_any (header_of (tokens_from 1 text)))
     (λ h u.
-    gives_then (λ (s : Sampling). length s.inputs ≡ length keys) R (sampling_of h.declared scope clock keys) (λ s. states_when s (history_of h.rest) at back)
+    gives_then (λ (s : ClockAndInputs). length s.inputs ≡ length keys) R (sampling_of h.declared scope clock keys) (λ s. states_when s (history_of h.rest) at back)
     (sampling_each h.declared scope clock keys)
     (λ s e. subst (λ (n : ℕ). Gives (AreStates n) (states_when s (history_of h.rest) at back)) e (when_wide s (history_of h.rest) at back)))
 

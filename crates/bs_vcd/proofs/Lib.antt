@@ -1,4 +1,4 @@
 pub mod LevelLemmas
-pub mod WatchLemmas
+pub mod SamplingLemmas
 pub mod TakingLemmas
 pub mod CycleLemmas

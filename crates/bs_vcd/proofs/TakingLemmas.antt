@@ -3,35 +3,35 @@ use Rattle.std.proofs.Common.{◌≡◌, ℕ, List, [], ◌∷◌, map, ap, sym,
 use Rattle.bs_bits.specs.Reading.{◌>>=◌}
 use Rattle.bs_vcd_header.specs.declared.fault.VcdFault.{VcdFault}
 use Rattle.bs_vcd_header.specs.declared.fault.VcdFault.TheVariants.{NoMemory}
-use Rattle.bs_vcd.specs.Sampled.{Asked}
-use Rattle.bs_vcd_header.specs.Tokens.{Token}
-use Rattle.bs_vcd.specs.declared.changes.Change.{Change as CodeChange}
-use Rattle.bs_vcd.specs.History.{Mode, step, change_in}
+use Rattle.bs_vcd.specs.Sampled.{SamplingRequest}
+use Rattle.bs_vcd_header.specs.Tokens.{VcdToken}
+use Rattle.bs_vcd.specs.declared.changes.ValueChange.{ValueChange as CodeValueChange}
+use Rattle.bs_vcd.specs.History.{WordPlace, step, change_in}
 use Rattle.bs_vcd.specs.Levels.{Known}
-use Rattle.bs_vcd.specs.Watching.{Watch, known_after, closed, moved, took, finished, watched_from}
+use Rattle.bs_vcd.specs.Watching.{SamplingState, known_after, closed, moved, took, finished, watched_from}
 use Rattle.std.specs.Prelude.{Bool}
 
 abbrev Lines : Type 0
 Lines = Result (List (List Bool)) VcdFault
 
 -- the rest of the words behind one
-abbrev on : Asked → List Token → Result (Mode × Watch) VcdFault → Lines
+abbrev on : SamplingRequest → List VcdToken → Result (WordPlace × SamplingState) VcdFault → Lines
 on a ts r = r >>= λ next. watched_from a next.0 next.1 ts
 
-pub word_taken : (all : Lines) (a : Asked) (mode behind : Mode) (w after : Watch) (words ts : List Token) (t : Token) →
+pub word_taken : (all : Lines) (a : SamplingRequest) (mode behind : WordPlace) (w after : SamplingState) (words ts : List VcdToken) (t : VcdToken) →
     all ≡ watched_from a mode w words → words ≡ t ∷ ts → took a t.line (step mode t.text) w ≡ Ok (behind, after) →
     all ≡ watched_from a behind after ts
 word_taken all a mode behind w after words ts t e f g =
     e ∙ (ap (watched_from a mode w) f ∙ ap (on a ts) g)
 
-pub word_faulty : (all : Lines) (a : Asked) (mode : Mode) (w : Watch) (words ts : List Token) (t : Token) (fault : VcdFault) →
+pub word_faulty : (all : Lines) (a : SamplingRequest) (mode : WordPlace) (w : SamplingState) (words ts : List VcdToken) (t : VcdToken) (fault : VcdFault) →
     all ≡ watched_from a mode w words → words ≡ t ∷ ts →
     (fault ≡ NoMemory) ⊎ (took a t.line (step mode t.text) w ≡ Err fault) → (fault ≡ NoMemory) ⊎ (all ≡ Err fault)
 word_faulty all a mode w words ts t fault e f (inl want) = inl want
 word_faulty all a mode w words ts t fault e f (inr g) =
     inr (e ∙ (ap (watched_from a mode w) f ∙ ap (on a ts) g))
 
-pub words_end : (all : Lines) (a : Asked) (mode : Mode) (w : Watch) (words : List Token) →
+pub words_end : (all : Lines) (a : SamplingRequest) (mode : WordPlace) (w : SamplingState) (words : List VcdToken) →
     all ≡ watched_from a mode w words → words ≡ [] → all ≡ finished a mode w
 words_end all a mode w words e f = e ∙ ap (watched_from a mode w) f
 
@@ -40,26 +40,26 @@ end_faulty all last fault e (inl want) = inl want
 end_faulty all last fault e (inr g) = inr (e ∙ g)
 
 -- the moment behind these lines
-abbrev next_of : ℕ → Known → Lines → Result Watch VcdFault
+abbrev next_of : ℕ → Known → Lines → Result SamplingState VcdFault
 next_of time known r = r >>= λ lines. Ok record { time = time; known = known; changes = []; lines = lines }
 
 -- the next moment, from its parts
-pub moved_on : (a : Asked) (time at : ℕ) (known behind : Known) (items one two none : List CodeChange)
+pub moved_on : (a : SamplingRequest) (time at : ℕ) (known behind : Known) (items one two none : List CodeValueChange)
     (old lines : List (List Bool)) → one ≡ items → two ≡ items → closed a at known (map change_in one) old ≡ Ok lines →
     behind ≡ known_after known (map change_in two) → none ≡ [] →
     moved a time (record { time = at; known = known; changes = map change_in items; lines = old })
     ≡ Ok (record { time = time; known = behind; changes = map change_in none; lines = lines })
 moved_on a time at known behind items one two none old lines e f done after empty =
-    ap (λ (xs : List CodeChange). next_of time (known_after known (map change_in items)) (closed a at known (map change_in xs) old)) (sym e)
+    ap (λ (xs : List CodeValueChange). next_of time (known_after known (map change_in items)) (closed a at known (map change_in xs) old)) (sym e)
     ∙ (ap (next_of time (known_after known (map change_in items))) done
     ∙ λ i. Ok record {
       time = time;
-      known = (ap (λ (xs : List CodeChange). known_after known (map change_in xs)) (sym f) ∙ sym after) i;
+      known = (ap (λ (xs : List CodeValueChange). known_after known (map change_in xs)) (sym f) ∙ sym after) i;
       changes = map change_in (sym empty i);
       lines = lines;
     })
 
 -- the end of the text, from its parts
-pub tail_known : (known behind : Known) (items slice : List CodeChange) → slice ≡ items → behind ≡ known_after known (map change_in slice) →
+pub tail_known : (known behind : Known) (items slice : List CodeValueChange) → slice ≡ items → behind ≡ known_after known (map change_in slice) →
     behind ≡ known_after known (map change_in items)
-tail_known known behind items slice same after = after ∙ ap (λ (xs : List CodeChange). known_after known (map change_in xs)) same
+tail_known known behind items slice same after = after ∙ ap (λ (xs : List CodeValueChange). known_after known (map change_in xs)) same

@@ -4,30 +4,30 @@ use Rattle.std.specs.Prelude.{ℕ, ◌+◌, ◌-◌, nat_lt, Bool, true, false, 
 use Rattle.bs_bits.specs.Reading.{◌>>=◌}
 use Rattle.bs_vcd_header.specs.declared.fault.VcdFault.{VcdFault}
 use Rattle.bs_vcd_header.specs.declared.fault.VcdFault.TheVariants.{NoCycle}
-use Rattle.bs_vcd_header.specs.declared.sources.Source.{Source}
-use Rattle.bs_vcd_header.specs.Header.{Header, Begun, header_of, header_from}
-use Rattle.bs_vcd_header.specs.Tokens.{Token, tokens_from}
+use Rattle.bs_vcd_header.specs.declared.sources.BitSource.{BitSource}
+use Rattle.bs_vcd_header.specs.Header.{Header, HeaderState, header_of, header_from}
+use Rattle.bs_vcd_header.specs.Tokens.{VcdToken, tokens_from}
 use Rattle.bs_vcd.specs.declared.cycles.When.{When}
 use Rattle.bs_vcd.specs.declared.cycles.When.TheVariants.{Time, Cycle}
-use Rattle.bs_vcd.specs.declared.watch.Span.{Span}
+use Rattle.bs_vcd.specs.declared.sampling.LineSpan.{LineSpan}
 use Rattle.bs_vcd.specs.History.{History, history_of}
-use Rattle.bs_vcd.specs.Sampled.{Asked, lines_asked}
-use Rattle.bs_vcd.specs.Stimulus.{Sampling, sampling_of}
+use Rattle.bs_vcd.specs.Sampled.{SamplingRequest, lines_asked}
+use Rattle.bs_vcd.specs.Stimulus.{ClockAndInputs, sampling_of}
 
 -- the edges up to a time
-abbrev pub edges_until : Source → ℕ → Asked
+abbrev pub edges_until : BitSource → ℕ → SamplingRequest
 edges_until clock time = record { clock = clock; inputs = []; span = None; until = Some time; tail = false }
 
 -- the number of the cycle, from 0: as many edges are before the cycle under way at a time, and at it
-abbrev pub cycle_in : Source → History → When → Result ℕ VcdFault
+abbrev pub cycle_in : BitSource → History → When → Result ℕ VcdFault
 cycle_in clock h (Time time) = lines_asked (edges_until clock time) h >>= λ lines. Ok (length lines)
 cycle_in clock h (Cycle cycle) = Ok cycle
 
-abbrev pub span : ℕ → ℕ → Span
+abbrev pub span : ℕ → ℕ → LineSpan
 span cycle back = record { first = cycle - back; last = cycle }
 
 -- the end of each cycle, and the bits of these sources at those of a cycle and so many before it
-abbrev pub cycle_ends : Sampling → ℕ → ℕ → Asked
+abbrev pub cycle_ends : ClockAndInputs → ℕ → ℕ → SamplingRequest
 cycle_ends s cycle back = record { clock = s.clock; inputs = s.inputs; span = Some (span cycle back); until = None; tail = true }
 
 -- the lines of a cycle and of so many before it, where there are that many
@@ -35,10 +35,10 @@ abbrev pub window : ℕ → ℕ → List (List Bool) → Result (List (List Bool
 window cycle back lines =
     if nat_lt cycle (length lines) then Ok (drop (cycle - back) (take (cycle + 1) lines)) else Err (NoCycle (length lines - 1))
 
-abbrev pub states_at : Sampling → History → ℕ → ℕ → Result (List (List Bool)) VcdFault
+abbrev pub states_at : ClockAndInputs → History → ℕ → ℕ → Result (List (List Bool)) VcdFault
 states_at s h back cycle = lines_asked (cycle_ends s cycle back) h >>= λ lines. window cycle back lines
 
-abbrev pub states_when : Sampling → History → When → ℕ → Result (List (List Bool)) VcdFault
+abbrev pub states_when : ClockAndInputs → History → When → ℕ → Result (List (List Bool)) VcdFault
 states_when s h at back = cycle_in s.clock h at >>= λ cycle. states_at s h back cycle
 
 abbrev pub states_of : Header → Option (List ℕ) → List ℕ → List (List ℕ) → When → ℕ → Result (List (List Bool)) VcdFault
@@ -50,5 +50,5 @@ abbrev pub states_in : List ℕ → Option (List ℕ) → List ℕ → List (Lis
 states_in text scope clock keys at back = header_of (tokens_from 1 text) >>= λ h. states_of h scope clock keys at back
 
 -- the same, where so much is read of the declarations
-abbrev pub states_from : Begun → List Token → Option (List ℕ) → List ℕ → List (List ℕ) → When → ℕ → Result (List (List Bool)) VcdFault
+abbrev pub states_from : HeaderState → List VcdToken → Option (List ℕ) → List ℕ → List (List ℕ) → When → ℕ → Result (List (List Bool)) VcdFault
 states_from b tokens scope clock keys at back = header_from b tokens >>= λ h. states_of h scope clock keys at back

@@ -1,25 +1,25 @@
 -- What the value changes of a VCD say: moments in time, each with its changes (docs/FORMATS.md, "Value changes (VCD)").
 use Rattle.std.specs.Prelude.{ℕ, nat_lt, ◌==◌, List, [], ◌∷◌, ◌++◌, codes, Option, Some, None, if◌then◌else◌}
 use Rattle.std.specs.Str.{bytes_eq}
-use Rattle.bs_vcd.specs.declared.changes.Change.{Change as CodeChange}
-use Rattle.bs_vcd.specs.declared.changes.Mode.{Mode as CodeMode}
-use Rattle.bs_vcd.specs.declared.changes.Mode.TheVariants as M
-use Rattle.bs_vcd.specs.declared.changes.Step.{Step as CodeStep}
-use Rattle.bs_vcd.specs.declared.changes.Step.TheVariants as T
+use Rattle.bs_vcd.specs.declared.changes.ValueChange.{ValueChange as CodeValueChange}
+use Rattle.bs_vcd.specs.declared.changes.WordPlace.{WordPlace as CodeWordPlace}
+use Rattle.bs_vcd.specs.declared.changes.WordPlace.TheVariants as M
+use Rattle.bs_vcd.specs.declared.changes.WordEffect.{WordEffect as CodeWordEffect}
+use Rattle.bs_vcd.specs.declared.changes.WordEffect.TheVariants as T
 use Rattle.bs_vcd_header.specs.declared.fault.VcdFault.{VcdFault}
 use Rattle.bs_vcd_header.specs.declared.fault.VcdFault.TheVariants.{Line, Ended}
-use Rattle.bs_vcd_header.specs.Tokens.{Token}
+use Rattle.bs_vcd_header.specs.Tokens.{VcdToken}
 use Rattle.bs_vcd_header.specs.Words.{Said, Time, Scalar, Vector, Passed, Comment, Nothing, id_in, said_of}
 
 -- the new value of the variables with this code, a character a bit, the lowest last
-pub record Change : Type 0 where
+pub record ValueChange : Type 0 where
   pub id : ℕ
   pub bits : List ℕ
 
 -- a time, and its changes in order
 pub record Moment : Type 0 where
   pub time : ℕ
-  pub changes : List Change
+  pub changes : List ValueChange
 
 -- the moments up to the end of the text, or up to the first fault
 pub record History : Type 0 where
@@ -29,22 +29,22 @@ pub record History : Type 0 where
 -- ---- a word
 
 -- where a word stands: where a change may begin, behind the bits of a vector, behind a value without bits, or in a comment
-pub data Mode : Type 0 where
-  Plain : Mode
-  Value : List ℕ → Mode
-  Skip : Mode
-  Remark : Mode
+pub data WordPlace : Type 0 where
+  Plain : WordPlace
+  Value : List ℕ → WordPlace
+  Skip : WordPlace
+  Remark : WordPlace
 
 -- what comes of a word: a place for the next one, a change, or a time
-pub data Step : Type 0 where
-  Goes : Mode → Step
-  Changes : Change → Step
-  Begins : ℕ → Step
+pub data WordEffect : Type 0 where
+  Goes : WordPlace → WordEffect
+  Changes : ValueChange → WordEffect
+  Begins : ℕ → WordEffect
 
-abbrev pub change : List ℕ → ℕ → Change
+abbrev pub change : List ℕ → ℕ → ValueChange
 change bits id = record { id = id; bits = bits }
 
-abbrev pub step_of : Option Said → Option Step
+abbrev pub step_of : Option Said → Option WordEffect
 step_of None = None
 step_of (Some (Time time)) = Some (Begins time)
 step_of (Some (Scalar bits id)) = Some (Changes (change bits id))
@@ -53,15 +53,15 @@ step_of (Some Passed) = Some (Goes Skip)
 step_of (Some Comment) = Some (Goes Remark)
 step_of (Some Nothing) = Some (Goes Plain)
 
-abbrev pub named_step : List ℕ → Option ℕ → Option Step
+abbrev pub named_step : List ℕ → Option ℕ → Option WordEffect
 named_step bits None = None
 named_step bits (Some id) = Some (Changes (change bits id))
 
-abbrev pub remark_step : List ℕ → Step
+abbrev pub remark_step : List ℕ → WordEffect
 remark_step text = if bytes_eq text (codes "$end") then Goes Plain else Goes Remark
 
 -- what comes of a word at its place, if it may stand there
-abbrev pub step : Mode → List ℕ → Option Step
+abbrev pub step : WordPlace → List ℕ → Option WordEffect
 step Plain text = step_of (said_of text)
 step (Value bits) text = named_step bits (id_in text)
 step Skip text = Some (Goes Plain)
@@ -78,11 +78,11 @@ before now later = record { moments = now ∷ later.moments; fault = later.fault
 abbrev pub moment : ℕ → Moment
 moment time = record { time = time; changes = [] }
 
-abbrev pub with_change : Moment → Change → Moment
+abbrev pub with_change : Moment → ValueChange → Moment
 with_change now c = record { time = now.time; changes = now.changes ++ c ∷ [] }
 
 -- the text may end where a change may begin
-abbrev pub ended : Mode → Moment → History
+abbrev pub ended : WordPlace → Moment → History
 ended Plain now = before now record { moments = []; fault = None }
 ended (Value bits) now = stopped Ended
 ended Skip now = stopped Ended
@@ -93,37 +93,37 @@ abbrev pub begun : Moment → ℕ → ℕ → (Moment → History) → History
 begun now line time on =
     if nat_lt time now.time then stopped (Line line) else (if time == now.time then on now else before now (on (moment time)))
 
-abbrev pub stepped : Option Step → Moment → ℕ → (Mode → Moment → History) → History
+abbrev pub stepped : Option WordEffect → Moment → ℕ → (WordPlace → Moment → History) → History
 stepped None now line on = stopped (Line line)
 stepped (Some (Goes mode)) now line on = on mode now
 stepped (Some (Changes c)) now line on = on Plain (with_change now c)
 stepped (Some (Begins time)) now line on = begun now line time (on Plain)
 
 -- the moments of these words, the first of which is under way
-abbrev pub history_from : Mode → Moment → List Token → History
+abbrev pub history_from : WordPlace → Moment → List VcdToken → History
 history_from mode now [] = ended mode now
 history_from mode now (t ∷ ts) = stepped (step mode t.text) now t.line (λ m n. history_from m n ts)
 
 -- the moments of the words behind the declarations; what stands before the first time is of time 0
-abbrev pub history_of : List Token → History
+abbrev pub history_of : List VcdToken → History
 history_of tokens = history_from Plain (moment 0) tokens
 
 -- ---- the code's values
 
-abbrev pub change_in : CodeChange → Change
+abbrev pub change_in : CodeValueChange → ValueChange
 change_in c = record { id = c.id; bits = c.bits.now }
 
-abbrev pub mode_in : CodeMode → Mode
+abbrev pub mode_in : CodeWordPlace → WordPlace
 mode_in M.Plain = Plain
 mode_in (M.Value bits) = Value bits.now
 mode_in M.Skip = Skip
 mode_in M.Remark = Remark
 
-abbrev pub step_in : CodeStep → Step
+abbrev pub step_in : CodeWordEffect → WordEffect
 step_in (T.Goes mode) = Goes (mode_in mode)
 step_in (T.Changes c) = Changes (change_in c)
 step_in (T.Begins time) = Begins time
 
-abbrev pub maybe_step : Option CodeStep → Option Step
+abbrev pub maybe_step : Option CodeWordEffect → Option WordEffect
 maybe_step None = None
 maybe_step (Some s) = Some (step_in s)

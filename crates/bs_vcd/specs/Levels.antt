@@ -3,26 +3,26 @@ use Rattle.std.specs.Prelude.{ℕ, ◌-◌, nat_lt, ◌==◌, Bool, true, false,
 use Rattle.std.specs.Option.{option_map}
 use Rattle.std.specs.Borrow.{Bor}
 use Rattle.std.specs.HashMap.{get, HashMap}
-use Rattle.bs_vcd_header.specs.declared.sources.Source.{Source}
-use Rattle.bs_vcd.specs.History.{Change}
+use Rattle.bs_vcd_header.specs.declared.sources.BitSource.{BitSource}
+use Rattle.bs_vcd.specs.History.{ValueChange}
 
 -- what the variables with each code are known to be
 abbrev pub Known : Type 0
 Known = ℕ → Option (List ℕ)
 
-abbrev pub is_of : ℕ → Change → Bool
+abbrev pub is_of : ℕ → ValueChange → Bool
 is_of id c = c.id == id
 
-abbrev pub bits_of : Option Change → Option (List ℕ)
+abbrev pub bits_of : Option ValueChange → Option (List ℕ)
 bits_of None = None
 bits_of (Some c) = Some c.bits
 
 -- the bits of the last of these changes that has this code
-abbrev pub latest : ℕ → List Change → Option (List ℕ)
+abbrev pub latest : ℕ → List ValueChange → Option (List ℕ)
 latest id changes = bits_of (find (is_of id) (reverse changes))
 
 -- what is known by changes
-abbrev pub known_by : List Change → Known
+abbrev pub known_by : List ValueChange → Known
 known_by changes = λ id. latest id changes
 
 -- the bit of a character, where it is known
@@ -44,7 +44,7 @@ level_of place None = None
 level_of place (Some bits) = bit_at place bits
 
 -- the bit of a source, where it is known
-abbrev pub level : Known → Source → Option Bool
+abbrev pub level : Known → BitSource → Option Bool
 level known s = level_of s.place (known s.id)
 
 -- whether a bit is known to be this one
@@ -53,7 +53,7 @@ is_bit b None = false
 is_bit true (Some b) = b
 is_bit false (Some b) = not b
 
-abbrev pub is_unknown : Known → Source → Bool
+abbrev pub is_unknown : Known → BitSource → Bool
 is_unknown known s = not (is_bit false (level known s)) && not (is_bit true (level known s))
 
 -- what the code's table knows

@@ -4,39 +4,39 @@ use Rattle.std.specs.List.{position}
 use Rattle.bs_bits.specs.Reading.{◌>>=◌}
 use Rattle.bs_vcd_header.specs.declared.fault.VcdFault.{VcdFault}
 use Rattle.bs_vcd_header.specs.declared.fault.VcdFault.TheVariants.{Unknown}
-use Rattle.bs_vcd_header.specs.declared.sources.Source.{Source}
-use Rattle.bs_vcd.specs.declared.watch.Span.{Span}
-use Rattle.bs_vcd.specs.declared.watch.Asked.{Asked as CodeAsked}
-use Rattle.bs_vcd.specs.History.{Change, Moment, History}
+use Rattle.bs_vcd_header.specs.declared.sources.BitSource.{BitSource}
+use Rattle.bs_vcd.specs.declared.sampling.LineSpan.{LineSpan}
+use Rattle.bs_vcd.specs.declared.sampling.SamplingRequest.{SamplingRequest as CodeSamplingRequest}
+use Rattle.bs_vcd.specs.History.{ValueChange, Moment, History}
 use Rattle.bs_vcd.specs.Levels.{Known, known_by, level, is_bit, is_unknown}
 
 -- a moment, and all changes before it
 pub record Cut : Type 0 where
-  pub earlier : List Change
+  pub earlier : List ValueChange
   pub moment : Moment
 
 -- each of these moments with all changes before it
-abbrev pub cuts_from : List Change → List Moment → List Cut
+abbrev pub cuts_from : List ValueChange → List Moment → List Cut
 cuts_from earlier [] = []
 cuts_from earlier (m ∷ ms) = (record { earlier = earlier; moment = m }) ∷ cuts_from (earlier ++ m.changes) ms
 
 -- a clock rises where it is 0 before a moment and 1 at its end
-abbrev pub rises : Source → Known → Known → Bool
+abbrev pub rises : BitSource → Known → Known → Bool
 rises clock before behind = is_bit false (level before clock) && is_bit true (level behind clock)
 
-abbrev pub is_edge : Source → Cut → Bool
+abbrev pub is_edge : BitSource → Cut → Bool
 is_edge clock cut = rises clock (known_by cut.earlier) (known_by (cut.earlier ++ cut.moment.changes))
 
-abbrev pub line_or : ℕ → Known → List Source → Option ℕ → Result (List Bool) VcdFault
+abbrev pub line_or : ℕ → Known → List BitSource → Option ℕ → Result (List Bool) VcdFault
 line_or time known inputs (Some k) = Err (Unknown k time)
 line_or time known inputs None = Ok (map (λ s. is_bit true (level known s)) inputs)
 
 -- the bit of each input by what is known, or the first input whose bit is not
-abbrev pub line_of : ℕ → Known → List Source → Result (List Bool) VcdFault
+abbrev pub line_of : ℕ → Known → List BitSource → Result (List Bool) VcdFault
 line_of time known inputs = line_or time known inputs (position (is_unknown known) inputs)
 
 -- the inputs just before a moment
-abbrev pub line_at : List Source → Cut → Result (List Bool) VcdFault
+abbrev pub line_at : List BitSource → Cut → Result (List Bool) VcdFault
 line_at inputs cut = line_of cut.moment.time (known_by cut.earlier) inputs
 
 -- all values, or the first fault
@@ -49,29 +49,29 @@ or_fault None lines = Ok lines
 or_fault (Some fault) lines = Err fault
 
 -- the line of each moment in which the clock rises
-abbrev pub lines_of : Source → List Source → List Change → List Moment → Result (List (List Bool)) VcdFault
+abbrev pub lines_of : BitSource → List BitSource → List ValueChange → List Moment → Result (List (List Bool)) VcdFault
 lines_of clock inputs earlier moments = all_ok (map (line_at inputs) (filter (is_edge clock) (cuts_from earlier moments)))
 
 -- The lines of all rising edges of a clock, in order; or the first fault in the order of the text.
-abbrev pub sampled : Source → List Source → History → Result (List (List Bool)) VcdFault
+abbrev pub sampled : BitSource → List BitSource → History → Result (List (List Bool)) VcdFault
 sampled clock inputs h = lines_of clock inputs [] h.moments >>= λ lines. or_fault h.fault lines
 
 -- ---- the same of some edges
 
 -- The edges of a clock, up to a time, where one is given, and the end of the text, where that is asked for; and the sources whose bits
 -- stand in the lines of a span, or in all.
-pub record Asked : Type 0 where
-  pub clock : Source
-  pub inputs : List Source
-  pub span : Option Span
+pub record SamplingRequest : Type 0 where
+  pub clock : BitSource
+  pub inputs : List BitSource
+  pub span : Option LineSpan
   pub until : Option ℕ
   pub tail : Bool
 
-abbrev pub asked_in : CodeAsked → Asked
+abbrev pub asked_in : CodeSamplingRequest → SamplingRequest
 asked_in a = record { clock = a.clock; inputs = a.inputs.now; span = a.span; until = a.until; tail = a.tail }
 
 -- the number of a line lies in a span
-abbrev pub is_within : Option Span → ℕ → Bool
+abbrev pub is_within : Option LineSpan → ℕ → Bool
 is_within None n = true
 is_within (Some s) n = nat_le s.first n && nat_le n s.last
 
@@ -81,35 +81,35 @@ is_until None time = true
 is_until (Some until) time = nat_le time until
 
 -- the sources whose bits stand in the line with this number; a line outside the span has none
-abbrev pub wanted : Asked → ℕ → List Source
+abbrev pub wanted : SamplingRequest → ℕ → List BitSource
 wanted a n = if is_within a.span n then a.inputs else []
 
 -- an edge that is asked for
-abbrev pub is_stop : Asked → Cut → Bool
+abbrev pub is_stop : SamplingRequest → Cut → Bool
 is_stop a cut = is_until a.until cut.moment.time && is_edge a.clock cut
 
 -- the end of a text without a fault, where that is asked for
-abbrev pub tail_here : Asked → Option VcdFault → Cut → List Cut
+abbrev pub tail_here : SamplingRequest → Option VcdFault → Cut → List Cut
 tail_here a None cut = if a.tail then cut ∷ [] else []
 tail_here a (Some fault) cut = []
 
 -- the same behind moments, before which this time was
-abbrev pub tail_of : Asked → Option VcdFault → List Change → ℕ → List Moment → List Cut
+abbrev pub tail_of : SamplingRequest → Option VcdFault → List ValueChange → ℕ → List Moment → List Cut
 tail_of a fault earlier time [] = tail_here a fault record { earlier = earlier; moment = record { time = time; changes = [] } }
 tail_of a fault earlier time (m ∷ ms) = tail_of a fault (earlier ++ m.changes) m.time ms
 
-abbrev pub stops_of : Asked → List Change → ℕ → History → List Cut
+abbrev pub stops_of : SamplingRequest → List ValueChange → ℕ → History → List Cut
 stops_of a earlier time h = filter (is_stop a) (cuts_from earlier h.moments) ++ tail_of a h.fault earlier time h.moments
 
 -- the lines of these, the first of which has this number
-abbrev pub numbered_lines : Asked → ℕ → List Cut → Result (List (List Bool)) VcdFault
+abbrev pub numbered_lines : SamplingRequest → ℕ → List Cut → Result (List (List Bool)) VcdFault
 numbered_lines a n [] = Ok []
 numbered_lines a n (cut ∷ cuts) = line_at (wanted a n) cut >>= λ x. numbered_lines a (n + 1) cuts >>= λ xs. Ok (x ∷ xs)
 
 -- The lines that are asked for, in order; or the first fault in the order of the text.
-abbrev pub lines_asked : Asked → History → Result (List (List Bool)) VcdFault
+abbrev pub lines_asked : SamplingRequest → History → Result (List (List Bool)) VcdFault
 lines_asked a h = numbered_lines a 0 (stops_of a [] 0 h) >>= λ lines. or_fault h.fault lines
 
 -- all edges of a clock, and the bits of these sources in each line
-abbrev pub all_edges : Source → List Source → Asked
+abbrev pub all_edges : BitSource → List BitSource → SamplingRequest
 all_edges clock inputs = record { clock = clock; inputs = inputs; span = None; until = None; tail = false }

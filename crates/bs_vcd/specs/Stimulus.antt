@@ -4,24 +4,24 @@ use Rattle.bs_bits.specs.Reading.{◌>>=◌}
 use Rattle.bs_net_names.specs.Keys.{key_parts}
 use Rattle.bs_vcd_header.specs.declared.fault.VcdFault.{VcdFault}
 use Rattle.bs_vcd_header.specs.declared.fault.VcdFault.TheVariants.{NoClock}
-use Rattle.bs_vcd_header.specs.declared.sources.Source.{Source}
-use Rattle.bs_vcd_header.specs.Header.{Declared, Header, Begun, header_of, header_from}
+use Rattle.bs_vcd_header.specs.declared.sources.BitSource.{BitSource}
+use Rattle.bs_vcd_header.specs.Header.{HeaderDeclarations, Header, HeaderState, header_of, header_from}
 use Rattle.bs_vcd_header.specs.Sources.{inputs_from, or_fault, scope_of, source_in}
-use Rattle.bs_vcd_header.specs.Tokens.{Token, tokens_from}
-use Rattle.bs_vcd.specs.declared.edges.Sampling.{Sampling as CodeSampling}
+use Rattle.bs_vcd_header.specs.Tokens.{VcdToken, tokens_from}
+use Rattle.bs_vcd.specs.declared.edges.ClockAndInputs.{ClockAndInputs as CodeClockAndInputs}
 use Rattle.bs_vcd.specs.History.{history_of}
 use Rattle.bs_vcd.specs.Sampled.{sampled}
 
 -- a clock, and the sources of names
-pub record Sampling : Type 0 where
-  pub clock : Source
-  pub inputs : List Source
+pub record ClockAndInputs : Type 0 where
+  pub clock : BitSource
+  pub inputs : List BitSource
 
-abbrev pub sampling_in : CodeSampling → Sampling
+abbrev pub sampling_in : CodeClockAndInputs → ClockAndInputs
 sampling_in s = record { clock = s.clock; inputs = s.inputs.items }
 
 -- the clock in its scope, and these names there
-abbrev pub sampling_of : Declared → Option (List ℕ) → List ℕ → List (List ℕ) → Result Sampling VcdFault
+abbrev pub sampling_of : HeaderDeclarations → Option (List ℕ) → List ℕ → List (List ℕ) → Result ClockAndInputs VcdFault
 sampling_of d scope clock keys = do
   path ← or_fault NoClock (scope_of scope (key_parts clock) d)
   source ← or_fault NoClock (source_in d.paths path (key_parts clock) d.variables)
@@ -38,5 +38,5 @@ abbrev pub stimulus_in : List ℕ → Option (List ℕ) → List ℕ → List (L
 stimulus_in text scope clock keys = header_of (tokens_from 1 text) >>= λ h. edges_of h scope clock keys
 
 -- the same, where so much is read of the declarations
-abbrev pub read_from : Begun → List Token → Option (List ℕ) → List ℕ → List (List ℕ) → Result (List (List Bool)) VcdFault
+abbrev pub read_from : HeaderState → List VcdToken → Option (List ℕ) → List ℕ → List (List ℕ) → Result (List (List Bool)) VcdFault
 read_from b tokens scope clock keys = header_from b tokens >>= λ h. edges_of h scope clock keys

@@ -7,14 +7,14 @@ use bs_vcd_header::{Said, id_in, is_text, said_of};
 
 /// The new value of the variables with a code: a character a bit, the lowest last.
 #[derive(Clone, Copy)]
-pub struct Change<'a> {
+pub struct ValueChange<'a> {
     pub id: u64,
     pub bits: &'a [u8],
 }
 
 /// Where a word stands.
 #[derive(Clone, Copy)]
-pub enum Mode<'a> {
+pub enum WordPlace<'a> {
     /// Where a change may begin.
     Plain,
     /// Behind the bits of a vector.
@@ -27,59 +27,59 @@ pub enum Mode<'a> {
 
 /// What comes of a word.
 #[derive(Clone, Copy)]
-pub enum Step<'a> {
+pub enum WordEffect<'a> {
     /// A place for the next one.
-    Goes(Mode<'a>),
+    Goes(WordPlace<'a>),
     /// A change.
-    Changes(Change<'a>),
+    Changes(ValueChange<'a>),
     /// A time.
     Begins(u64),
 }
 
 /// What comes of a word where a change may begin.
-fn plain_step(text: &[u8]) -> Option<Step<'_>>
+fn plain_step(text: &[u8]) -> Option<WordEffect<'_>>
     ensures { maybe_step result ≡ step_of (said_of text.now) }
 {
     match said_of(text) {
         None => None,
-        Some(Said::Time(time)) => Some(Step::Begins(time)),
-        Some(Said::Scalar(bits, id)) => Some(Step::Changes(Change { id, bits })),
-        Some(Said::Vector(bits)) => Some(Step::Goes(Mode::Value(bits))),
-        Some(Said::Passed) => Some(Step::Goes(Mode::Skip)),
-        Some(Said::Comment) => Some(Step::Goes(Mode::Remark)),
-        Some(Said::Nothing) => Some(Step::Goes(Mode::Plain)),
+        Some(Said::Time(time)) => Some(WordEffect::Begins(time)),
+        Some(Said::Scalar(bits, id)) => Some(WordEffect::Changes(ValueChange { id, bits })),
+        Some(Said::Vector(bits)) => Some(WordEffect::Goes(WordPlace::Value(bits))),
+        Some(Said::Passed) => Some(WordEffect::Goes(WordPlace::Skip)),
+        Some(Said::Comment) => Some(WordEffect::Goes(WordPlace::Remark)),
+        Some(Said::Nothing) => Some(WordEffect::Goes(WordPlace::Plain)),
     }
 }
 
 /// The change of the variable that a word names.
-fn named_step<'a>(bits: &'a [u8], text: &[u8]) -> Option<Step<'a>>
+fn named_step<'a>(bits: &'a [u8], text: &[u8]) -> Option<WordEffect<'a>>
     ensures { maybe_step result ≡ named_step bits.now (id_in text.now) }
 {
     match id_in(text) {
-        Some(id) => Some(Step::Changes(Change { id, bits })),
+        Some(id) => Some(WordEffect::Changes(ValueChange { id, bits })),
         None => None,
     }
 }
 
 /// What comes of a word in a comment.
-fn remark_step<'a>(text: &[u8]) -> Step<'a>
+fn remark_step<'a>(text: &[u8]) -> WordEffect<'a>
     ensures { step_in result ≡ remark_step text.now }
 {
     if is_text(text, b"$end") {
-        Step::Goes(Mode::Plain)
+        WordEffect::Goes(WordPlace::Plain)
     } else {
-        Step::Goes(Mode::Remark)
+        WordEffect::Goes(WordPlace::Remark)
     }
 }
 
 /// What comes of a word at its place, if it may stand there.
-pub fn word_step<'a>(mode: Mode<'a>, text: &'a [u8]) -> Option<Step<'a>>
+pub fn word_step<'a>(mode: WordPlace<'a>, text: &'a [u8]) -> Option<WordEffect<'a>>
     ensures { maybe_step result ≡ step (mode_in mode.entry) text.now }
 {
     match mode {
-        Mode::Plain => plain_step(text),
-        Mode::Value(bits) => named_step(bits, text),
-        Mode::Skip => Some(Step::Goes(Mode::Plain)),
-        Mode::Remark => Some(remark_step(text)),
+        WordPlace::Plain => plain_step(text),
+        WordPlace::Value(bits) => named_step(bits, text),
+        WordPlace::Skip => Some(WordEffect::Goes(WordPlace::Plain)),
+        WordPlace::Remark => Some(remark_step(text)),
     }
 }

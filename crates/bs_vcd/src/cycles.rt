@@ -9,10 +9,12 @@ ghost use Rattle.bs_vcd.specs.History.{history_of};
 ghost use Rattle.bs_vcd.specs.Sampled.{lines_asked};
 ghost use Rattle.bs_vcd.specs.Stimulus.{sampling_in};
 
-use crate::edges::{Sampling, sampling_of};
-use crate::watch::{Asked, Span, watch_lines};
+use crate::edges::{ClockAndInputs, sampling_of};
+use crate::sampling::{LineSpan, SamplingRequest, watch_lines};
 use bs_bits::{Bits, List, NoMemory};
-use bs_vcd_header::{Begun, Behind, Declared, Source, VcdFault, nothing, take_words};
+use bs_vcd_header::{
+    Behind, BitSource, HeaderDeclarations, HeaderState, VcdFault, nothing, take_words,
+};
 use std::alloc::Global;
 
 /// When a state is taken: in the cycle under way at a time, or in the cycle with a number, from 0.
@@ -25,14 +27,14 @@ pub enum When {
 /// The edges of a clock up to a time.
 fn edges_until(
     alloc: Global,
-    clock: Source,
+    clock: BitSource,
     time: u64,
     behind: Behind<'_>,
 ) -> Result<List<Bits>, VcdFault>
     requires { behind.line + length behind.rest.now < 2 ^ 64 }
     ensures { Answers Want (λ lines. lines) result (lines_asked (edges_until clock time) (history_of (tokens_from behind.entry.line behind.entry.rest.now))) }
 {
-    let asked = Asked {
+    let asked = SamplingRequest {
         clock,
         inputs: &[],
         span: None,
@@ -44,7 +46,7 @@ fn edges_until(
 }
 
 /// The number of the cycle.
-fn cycle_in(alloc: Global, clock: Source, behind: Behind<'_>, at: When) -> Result<u64, VcdFault>
+fn cycle_in(alloc: Global, clock: BitSource, behind: Behind<'_>, at: When) -> Result<u64, VcdFault>
     requires { behind.line + length behind.rest.now < 2 ^ 64 }
     ensures { Answers Want (λ cycle. cycle) result (cycle_in clock (history_of (tokens_from behind.entry.line behind.entry.rest.now)) at) }
 {
@@ -60,7 +62,7 @@ fn cycle_in(alloc: Global, clock: Source, behind: Behind<'_>, at: When) -> Resul
 /// The end of each cycle, with bits at those of a cycle and of so many before it.
 fn cycle_ends(
     alloc: Global,
-    sampling: &Sampling,
+    sampling: &ClockAndInputs,
     behind: Behind<'_>,
     back: u64,
     cycle: u64,
@@ -68,10 +70,10 @@ fn cycle_ends(
     requires { behind.line + length behind.rest.now < 2 ^ 64 }
     ensures { Answers Want (λ lines. lines) result (lines_asked (cycle_ends (sampling_in sampling.now) cycle back) (history_of (tokens_from behind.entry.line behind.entry.rest.now))) }
 {
-    let asked = Asked {
+    let asked = SamplingRequest {
         clock: sampling.clock,
         inputs: sampling.inputs.as_slice(),
-        span: Some(Span {
+        span: Some(LineSpan {
             first: cycle.saturating_sub(back),
             last: cycle,
         }),
@@ -127,7 +129,7 @@ fn window(alloc: Global, lines: &List<Bits>, back: u64, cycle: u64) -> Result<Li
 /// The states of a cycle and of so many before it.
 fn states_at(
     alloc: Global,
-    sampling: &Sampling,
+    sampling: &ClockAndInputs,
     behind: Behind<'_>,
     back: u64,
     cycle: u64,
@@ -143,7 +145,7 @@ fn states_at(
 /// The same by when it is.
 fn states_when(
     alloc: Global,
-    sampling: &Sampling,
+    sampling: &ClockAndInputs,
     behind: Behind<'_>,
     at: When,
     back: u64,
@@ -159,7 +161,7 @@ fn states_when(
 /// The same by what is declared and the text behind that.
 fn states_of(
     alloc: Global,
-    declared: &Declared<'_>,
+    declared: &HeaderDeclarations<'_>,
     behind: Behind<'_>,
     scope: Option<&[u8]>,
     clock: &[u8],
@@ -184,7 +186,7 @@ fn states_from<'a>(
     keys: &[&[u8]],
     at: When,
     back: u64,
-    begun: &mut Begun<'a>,
+    begun: &mut HeaderState<'a>,
 ) -> Result<List<Bits>, VcdFault>
     requires { length text.now < 2 ^ 63 }
     ensures { Answers Want (λ states. states) result (states_from (begun_in begun.old) (tokens_from 1 text.now) (option_map (λ path. path.now) scope.entry) clock.now (map (λ key. key.now) keys.now) at back) }

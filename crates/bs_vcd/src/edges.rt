@@ -8,24 +8,27 @@ ghost use Rattle.bs_vcd_header.specs.Sources.{inputs_from, or_fault, scope_of, s
 ghost use Rattle.bs_vcd_header.specs.Tokens.{tokens_from};
 ghost use Rattle.bs_vcd.specs.Stimulus.{edges_of, read_from, sampling_in, sampling_of, stimulus_in};
 
-use crate::watch::sample;
+use crate::sampling::sample;
 use bs_bits::{Bits, List};
 use bs_net_names::{KeyParts, key_parts};
-use bs_vcd_header::{Begun, Behind, Declared, Source, VcdFault, nothing, scope_of, source_in, take_inputs, take_words};
+use bs_vcd_header::{
+    Behind, BitSource, HeaderDeclarations, HeaderState, VcdFault, nothing, scope_of, source_in,
+    take_inputs, take_words,
+};
 use std::alloc::Global;
 
 /// A clock, and the sources of names.
 #[derive(Drop)]
-pub struct Sampling {
-    pub clock: Source,
-    pub inputs: Vec<Source>,
+pub struct ClockAndInputs {
+    pub clock: BitSource,
+    pub inputs: Vec<BitSource>,
 }
 
 /// The path of the clock's scope.
 fn clock_scope<'a>(
     scope: Option<&'a [u8]>,
     clock: KeyParts<'_>,
-    declared: &'a Declared<'_>,
+    declared: &'a HeaderDeclarations<'_>,
 ) -> Result<&'a [u8], VcdFault>
     ensures { Answers Want (λ path. path.now) result (or_fault NoClock (scope_of (option_map (λ path. path.now) scope.entry) (parts_in clock.entry) (declared_in declared.now))) }
 {
@@ -37,10 +40,10 @@ fn clock_scope<'a>(
 
 /// The bit of the clock.
 fn clock_source(
-    declared: &Declared<'_>,
+    declared: &HeaderDeclarations<'_>,
     path: &[u8],
     clock: KeyParts<'_>,
-) -> Result<Source, VcdFault>
+) -> Result<BitSource, VcdFault>
     ensures { Answers Want (λ source. source) result (or_fault NoClock (source_in (declared_in declared.now).paths path.now (parts_in clock.entry) (declared_in declared.now).variables)) }
 {
     match source_in(&declared.paths, path, clock, declared.variables.as_slice()) {
@@ -52,11 +55,11 @@ fn clock_source(
 /// The clock in its scope, and these names there.
 pub fn sampling_of(
     alloc: Global,
-    declared: &Declared<'_>,
+    declared: &HeaderDeclarations<'_>,
     scope: Option<&[u8]>,
     clock: &[u8],
     keys: &[&[u8]],
-) -> Result<Sampling, VcdFault>
+) -> Result<ClockAndInputs, VcdFault>
     ensures { Answers Want sampling_in result (sampling_of (declared_in declared.now) (option_map (λ path. path.now) scope.entry) clock.now (map (λ key. key.now) keys.now)) }
 {
     let clock = key_parts(clock);
@@ -64,7 +67,7 @@ pub fn sampling_of(
     let source = clock_source(declared, path, clock)?;
     let mut inputs = Vec::new(alloc);
     take_inputs(alloc, declared, path, keys, &mut inputs)?;
-    Ok(Sampling {
+    Ok(ClockAndInputs {
         clock: source,
         inputs,
     })
@@ -73,7 +76,7 @@ pub fn sampling_of(
 /// The lines of a clock's rising edges by what is declared and the text behind that.
 fn edges_of(
     alloc: Global,
-    declared: &Declared<'_>,
+    declared: &HeaderDeclarations<'_>,
     behind: Behind<'_>,
     scope: Option<&[u8]>,
     clock: &[u8],
@@ -100,7 +103,7 @@ fn read_from<'a>(
     scope: Option<&[u8]>,
     clock: &[u8],
     keys: &[&[u8]],
-    begun: &mut Begun<'a>,
+    begun: &mut HeaderState<'a>,
 ) -> Result<List<Bits>, VcdFault>
     requires { length text.now < 2 ^ 63 }
     ensures { Answers Want (λ lines. lines) result (read_from (begun_in begun.old) (tokens_from 1 text.now) (option_map (λ path. path.now) scope.entry) clock.now (map (λ key. key.now) keys.now)) }

@@ -7,9 +7,9 @@ ghost use Rattle.bs_vcd.specs.Levels.{bit_at, extension, is_bit, is_unknown, kno
 ghost use Rattle.bs_vcd.specs.Watching.{known_after};
 ghost use Rattle.bs_vcd.specs.Sampled.{rises};
 
-use crate::changes::Change;
+use crate::changes::ValueChange;
 use bs_bits::{Bits, NoMemory};
-use bs_vcd_header::Source;
+use bs_vcd_header::BitSource;
 use std::alloc::Global;
 use std::collections::HashMap;
 
@@ -45,7 +45,7 @@ fn bit_at(place: u64, bits: &[u8]) -> Option<bool>
 }
 
 /// The bit of a source, where it is known.
-pub fn level(known: &HashMap<u64, &[u8]>, source: Source) -> Option<bool>
+pub fn level(known: &HashMap<u64, &[u8]>, source: BitSource) -> Option<bool>
     ensures { result ≡ level (known_in known.now) source }
 {
     match known.get(&source.id) {
@@ -65,7 +65,7 @@ fn is_bit(bit: bool, level: Option<bool>) -> bool
 }
 
 /// Whether the bit of a source is not known.
-fn is_unknown(known: &HashMap<u64, &[u8]>, source: Source) -> bool
+fn is_unknown(known: &HashMap<u64, &[u8]>, source: BitSource) -> bool
     ensures { result ≡ is_unknown (known_in known.now) source }
 {
     let level = level(known, source);
@@ -75,14 +75,14 @@ fn is_unknown(known: &HashMap<u64, &[u8]>, source: Source) -> bool
 }
 
 /// The first source whose bit is not known.
-pub fn first_unknown(known: &HashMap<u64, &[u8]>, inputs: &[Source]) -> Option<usize>
+pub fn first_unknown(known: &HashMap<u64, &[u8]>, inputs: &[BitSource]) -> Option<usize>
     ensures { result ≡ position (is_unknown (known_in known.now)) inputs.now }
 {
     inputs.iter().position(|input| is_unknown(known, *input))
 }
 
 /// Whether the bit of a source is 1.
-fn is_high(known: &HashMap<u64, &[u8]>, source: Source) -> bool
+fn is_high(known: &HashMap<u64, &[u8]>, source: BitSource) -> bool
     ensures { result ≡ is_bit true (level (known_in known.now) source) }
 {
     is_bit(true, level(known, source))
@@ -92,7 +92,7 @@ fn is_high(known: &HashMap<u64, &[u8]>, source: Source) -> bool
 pub fn high_bits(
     alloc: Global,
     known: &HashMap<u64, &[u8]>,
-    inputs: &[Source],
+    inputs: &[BitSource],
 ) -> Result<Bits, NoMemory>
     ensures { IfOk result (λ bits. bits ≡ map (λ s. is_bit true (level (known_in known.now) s)) inputs.now) }
 {
@@ -105,7 +105,7 @@ pub fn high_bits(
 
 /// The bits of the last of these changes that has this code.
 #[tactic(auto, using(crate::proofs::LevelLemmas::latest_other, crate::proofs::LevelLemmas::latest_same))]
-fn latest<'a>(changes: &[Change<'a>], id: u64) -> Option<&'a [u8]>
+fn latest<'a>(changes: &[ValueChange<'a>], id: u64) -> Option<&'a [u8]>
     ensures { option_map (λ bits. bits.now) result ≡ latest id (map change_in changes.now) }
 {
     let mut found = None;
@@ -118,7 +118,11 @@ fn latest<'a>(changes: &[Change<'a>], id: u64) -> Option<&'a [u8]>
 }
 
 /// The bit of a source after changes.
-fn level_after(known: &HashMap<u64, &[u8]>, changes: &[Change<'_>], source: Source) -> Option<bool>
+fn level_after(
+    known: &HashMap<u64, &[u8]>,
+    changes: &[ValueChange<'_>],
+    source: BitSource,
+) -> Option<bool>
     ensures { result ≡ level (known_after (known_in known.now) (map change_in changes.now)) source }
 {
     match latest(changes, source.id) {
@@ -128,7 +132,7 @@ fn level_after(known: &HashMap<u64, &[u8]>, changes: &[Change<'_>], source: Sour
 }
 
 /// Whether a clock is 0 before changes and 1 after them.
-pub fn rises(known: &HashMap<u64, &[u8]>, changes: &[Change<'_>], clock: Source) -> bool
+pub fn rises(known: &HashMap<u64, &[u8]>, changes: &[ValueChange<'_>], clock: BitSource) -> bool
     ensures { result ≡ rises clock (known_in known.now) (known_after (known_in known.now) (map change_in changes.now)) }
 {
     let before = is_bit(false, level(known, clock));
@@ -138,7 +142,10 @@ pub fn rises(known: &HashMap<u64, &[u8]>, changes: &[Change<'_>], clock: Source)
 
 /// Makes changes.
 #[tactic(auto, using(crate::proofs::LevelLemmas::after_more))]
-pub fn apply<'a>(known: &mut HashMap<u64, &'a [u8]>, changes: &[Change<'a>]) -> Result<(), NoMemory>
+pub fn apply<'a>(
+    known: &mut HashMap<u64, &'a [u8]>,
+    changes: &[ValueChange<'a>],
+) -> Result<(), NoMemory>
     ensures { OnOk result (known_in known.new ≡ known_after (known_in known.old) (map change_in changes.now)) }
 {
     'changes: for change in changes {

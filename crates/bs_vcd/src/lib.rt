@@ -1,6 +1,6 @@
 //! Lines of bits out of the value changes that a simulator dumps (VCD).
 //!
-//! Modules: `changes` (what comes of a word), `levels`, `watch` (from word to word), `edges` (`stimulus`, the inputs just before each
+//! Modules: `changes` (what comes of a word), `levels`, `sampling` (from word to word), `edges` (`stimulus`, the inputs just before each
 //! rising edge of a clock), `cycles` (`states`, what stands at the end of a cycle and of those before it). Used above: `stimulus`
 //! answers `stimulus_in` (`specs/Stimulus`): the lines of all edges, a filter over the moments of the text (`specs/Sampled`), or the
 //! first fault; `states` answers `states_in` (`specs/Cycles`). The declarations are read by `bs_vcd_header`.
@@ -10,7 +10,7 @@ mod changes;
 mod cycles;
 mod edges;
 mod levels;
-mod watch;
+mod sampling;
 
 pub use cycles::{When, states};
 pub use edges::stimulus;

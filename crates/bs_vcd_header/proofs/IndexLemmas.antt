@@ -13,9 +13,9 @@ use Rattle.bs_net_names.specs.Keys.{KeyParts}
 use Rattle.bs_net_names.specs.Naming.{plain}
 use Rattle.bs_net_names.specs.Ranges.{place_in}
 use Rattle.bs_vcd_header.specs.declared.header.Variable.{Variable as CodeVariable}
-use Rattle.bs_vcd_header.specs.declared.sources.Source.{Source}
+use Rattle.bs_vcd_header.specs.declared.sources.BitSource.{BitSource}
 use Rattle.bs_vcd_header.specs.Header.{Variable, variable_in}
-use Rattle.bs_vcd_header.specs.Index.{IsIndex, last_with, places_in, tag_here, tag_local, tag_more, tag_named, tag_of, tags_in}
+use Rattle.bs_vcd_header.specs.TagIndex.{IsIndex, last_with, places_in, tag_here, tag_local, tag_more, tag_named, tag_of, tags_in}
 use Rattle.bs_vcd_header.specs.Sources.{behind, is_local, lies_in, named_in, names_variable, or_next, path_of, source_at, source_here, source_in}
 
 -- ---- a name and its tag
@@ -157,11 +157,11 @@ module _ {S : Type 0} where
 
 -- ---- a name that is looked up
 
-or_first : (o : Option Source) → or_next o None ≡ o
+or_first : (o : Option BitSource) → or_next o None ≡ o
 or_first None = refl
 or_first (Some s) = refl
 
-or_in_turn : (a b c : Option Source) → or_next (or_next a b) c ≡ or_next a (or_next b c)
+or_in_turn : (a b c : Option BitSource) → or_next (or_next a b) c ≡ or_next a (or_next b c)
 or_in_turn None b c = refl
 or_in_turn (Some s) b c = refl
 
@@ -180,7 +180,7 @@ one_more paths path key vs k d lt =
     ∙ ap (or_next (source_in paths path key (take k vs))) (or_first (source_here paths path key (get_or vs k d))))
 
 -- the bit of a name of the variables up to a place, with the one there
-abbrev pub source_to : List (List ℕ) → List ℕ → KeyParts → List Variable → Option ℕ → Option Source
+abbrev pub source_to : List (List ℕ) → List ℕ → KeyParts → List Variable → Option ℕ → Option BitSource
 source_to paths path key vs None = None
 source_to paths path key vs (Some k) = source_in paths path key (take (k + 1) vs)
 
@@ -239,7 +239,7 @@ weaker tags tag n m None le h = tt
 weaker tags tag n m (Some k) le h = let below : k < n = h.0 in (omega (arith, below, le), h.1)
 
 -- the bit of a name, by a place behind which no variable but those found has one
-pub record IsFrom (paths : List (List ℕ)) (path : List ℕ) (key : KeyParts) (cs : List CodeVariable) (at : Option ℕ) (found : Option Source) : Type 0 where
+pub record IsFrom (paths : List (List ℕ)) (path : List ℕ) (key : KeyParts) (cs : List CodeVariable) (at : Option ℕ) (found : Option BitSource) : Type 0 where
   pub whole : source_in paths path key (map variable_in cs) ≡ or_next (source_to paths path key (map variable_in cs) at) found
   pub there : HasTag (tags_in paths path (map variable_in cs)) (tag_of (plain key.base)) (length cs) at
 
@@ -272,13 +272,13 @@ fewer tags tag k None h = omega arith
 fewer tags tag k (Some j) h = let below : j < k = h.0 in omega (arith, below)
 
 before_has : (paths : List (List ℕ)) (path : List ℕ) (key : KeyParts) (cs : List CodeVariable) (last : ℕ → Option ℕ) (before : List (Option ℕ))
-    (k : ℕ) (none at : Option ℕ) (found : Option Source) → IsIndex (tags_in paths path (map variable_in cs)) last before (length cs) →
+    (k : ℕ) (none at : Option ℕ) (found : Option BitSource) → IsIndex (tags_in paths path (map variable_in cs)) last before (length cs) →
     IsFrom paths path key cs (Some k) found → at ≡ slice_index_or before k none → at ≡ last_of paths path key (shown cs) k
 before_has paths path key cs last before k none at found is so e =
     e ∙ (get_or_default before k none None (subst (λ n. k < n) (sym is.size) so.there.0) ∙ is.links k so.there.0 ∙ ap (λ t. last_with t (tags_of paths path cs) k) so.there.1)
 
 pub from_smaller : (paths : List (List ℕ)) (path : List ℕ) (key : KeyParts) (cs : List CodeVariable) (last : ℕ → Option ℕ) (before : List (Option ℕ))
-    (k : ℕ) (none at : Option ℕ) (found : Option Source) → IsIndex (tags_in paths path (map variable_in cs)) last before (length cs) →
+    (k : ℕ) (none at : Option ℕ) (found : Option BitSource) → IsIndex (tags_in paths path (map variable_in cs)) last before (length cs) →
     IsFrom paths path key cs (Some k) found → at ≡ slice_index_or before k none → left at < suc k
 from_smaller paths path key cs last before k none at found is so e =
     fewer (tags_of paths path cs) (tag_of (plain key.base)) k at
@@ -286,7 +286,7 @@ from_smaller paths path key cs last before k none at found is so e =
     (last_has (tags_of paths path cs) (tag_of (plain key.base)) k))
 
 pub from_before : (paths : List (List ℕ)) (path : List ℕ) (key : KeyParts) (cs : List CodeVariable) (last : ℕ → Option ℕ) (before : List (Option ℕ))
-    (k : ℕ) (d : CodeVariable) (none at : Option ℕ) (here found next : Option Source) → IsIndex (tags_in paths path (map variable_in cs)) last before (length cs) →
+    (k : ℕ) (d : CodeVariable) (none at : Option ℕ) (here found next : Option BitSource) → IsIndex (tags_in paths path (map variable_in cs)) last before (length cs) →
     IsFrom paths path key cs (Some k) found → here ≡ source_here paths path key (variable_in (get_or cs k d)) → next ≡ or_next here found →
     at ≡ slice_index_or before k none → IsFrom paths path key cs at next
 from_before paths path key cs last before k d none at here found next is so own more e = record {
@@ -310,6 +310,6 @@ from_before paths path key cs last before k d none at here found next is so own 
     place : at ≡ last_with (tag_of (plain key.base)) (tags_in paths path (shown cs)) k
     place = before_has paths path key cs last before k none at found is so e
 
-pub from_none : (paths : List (List ℕ)) (path : List ℕ) (key : KeyParts) (cs : List CodeVariable) (found : Option Source) →
+pub from_none : (paths : List (List ℕ)) (path : List ℕ) (key : KeyParts) (cs : List CodeVariable) (found : Option BitSource) →
     IsFrom paths path key cs None found → found ≡ source_in paths path key (map variable_in cs)
 from_none paths path key cs found so = sym so.whole

@@ -6,30 +6,30 @@ use Rattle.std.proofs.lemmas.Option.{get_or_from_slice_get, slice_get_within}
 use Rattle.bs_bits.specs.Reading.{◌>>=◌}
 use Rattle.bs_vcd_header.specs.declared.fault.VcdFault.{VcdFault}
 use Rattle.bs_vcd_header.specs.declared.fault.VcdFault.TheVariants.{NoMemory}
-use Rattle.bs_vcd_header.specs.declared.header.Begun.{Begun as CodeBegun}
-use Rattle.bs_vcd_header.specs.declared.header.Declared.{Declared as CodeDeclared}
+use Rattle.bs_vcd_header.specs.declared.header.HeaderState.{HeaderState as CodeHeaderState}
+use Rattle.bs_vcd_header.specs.declared.header.HeaderDeclarations.{HeaderDeclarations as CodeHeaderDeclarations}
 use Rattle.bs_vcd_header.specs.declared.header.Variable.{Variable as CodeVariable}
-use Rattle.bs_vcd_header.specs.declared.range.Named.{Named as CodeNamed}
-use Rattle.bs_vcd_header.specs.Header.{Declared, Header, declared_in, header_from, nothing_begun, begun_in, shape_in}
+use Rattle.bs_vcd_header.specs.declared.range.NameWithBits.{NameWithBits as CodeNameWithBits}
+use Rattle.bs_vcd_header.specs.Header.{HeaderDeclarations, Header, declared_in, header_from, nothing_begun, begun_in, shape_in}
 use Rattle.bs_vcd_header.specs.Scopes.{declared_of}
-use Rattle.bs_vcd_header.specs.Sources.{Named, named_at, named_in}
+use Rattle.bs_vcd_header.specs.Sources.{NameWithBits, named_at, named_in}
 use Rattle.bs_vcd_header.specs.Tokens.{tokens_from}
 
 -- what was read of the declarations
 abbrev Read : Type 0
 Read = Result Header VcdFault
 
-abbrev of_header : Read → Result Declared VcdFault
+abbrev of_header : Read → Result HeaderDeclarations VcdFault
 of_header r = r >>= λ h. Ok h.declared
 
 -- a text whose declarations were read
-pub declared_read : (text : List ℕ) (begun : CodeBegun) (h : Header) (d now : CodeDeclared) → begun_in begun ≡ nothing_begun →
+pub declared_read : (text : List ℕ) (begun : CodeHeaderState) (h : Header) (d now : CodeHeaderDeclarations) → begun_in begun ≡ nothing_begun →
     header_from (begun_in begun) (tokens_from 1 text) ≡ Ok h → h.declared ≡ declared_in d → declared_in now ≡ declared_in d →
     declared_of text ≡ Ok (declared_in now)
 declared_read text begun h d now none read is same =
     ap (λ b. of_header (header_from b (tokens_from 1 text))) (sym none) ∙ (ap of_header read ∙ ap Ok (is ∙ sym same))
 
-pub declared_faulty : (text : List ℕ) (begun : CodeBegun) (fault : VcdFault) → begun_in begun ≡ nothing_begun →
+pub declared_faulty : (text : List ℕ) (begun : CodeHeaderState) (fault : VcdFault) → begun_in begun ≡ nothing_begun →
     (fault ≡ NoMemory) ⊎ (header_from (begun_in begun) (tokens_from 1 text) ≡ Err fault) → (fault ≡ NoMemory) ⊎ (declared_of text ≡ Err fault)
 declared_faulty text begun fault none (inl want) = inl want
 declared_faulty text begun fault none (inr is) =
@@ -60,5 +60,5 @@ pub scopes_end : (paths : List (List ℕ)) (names : List (Bor (List ℕ))) (i : 
     take 1 paths ++ map (λ n. n.now) names ≡ take i paths → map (λ n. n.now) names ≡ drop 1 paths
 scopes_end paths names i le e = tail_of paths (texts names) (e ∙ take_all i paths le)
 
-pub own_name : (v : CodeVariable) (n : CodeNamed) → named_at n ≡ named_in (shape_in v) → n.name.now ≡ (named_in (shape_in v)).name
-own_name v n e = ap (λ (m : Named). m.name) e
+pub own_name : (v : CodeVariable) (n : CodeNameWithBits) → named_at n ≡ named_in (shape_in v) → n.name.now ≡ (named_in (shape_in v)).name
+own_name v n e = ap (λ (m : NameWithBits). m.name) e

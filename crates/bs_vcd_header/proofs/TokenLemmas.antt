@@ -2,7 +2,7 @@
 use Rattle.std.proofs.Common.{◌≡◌, ℕ, suc, zero, ◌<◌, ◌≤◌, true, false, not, cond, List, [], ◌∷◌, length, take, drop, get_or, refl, arith, ap, sym, ◌∙◌}
 use Rattle.std.specs.Prelude.{◌==◌}
 use Rattle.std.proofs.lemmas.Bool.{true≢false}
-use Rattle.bs_vcd_header.specs.Tokens.{Token, is_white, line_behind, goes_on, onto_word, tokens_from}
+use Rattle.bs_vcd_header.specs.Tokens.{VcdToken, is_white, line_behind, goes_on, onto_word, tokens_from}
 
 -- white space is passed over
 pub white_first : (line b : ℕ) (bs : List ℕ) → is_white b ≡ true → tokens_from line (b ∷ bs) ≡ tokens_from (line_behind line b) bs
@@ -12,7 +12,7 @@ white_first line b bs e = ap (λ t. cond t (tokens_from (line_behind line b) bs)
 word_first : (line b : ℕ) (bs : List ℕ) → is_white b ≡ false → tokens_from line (b ∷ bs) ≡ onto_word line b (goes_on bs) (tokens_from line bs)
 word_first line b bs e = ap (λ t. cond t (tokens_from (line_behind line b) bs) (onto_word line b (goes_on bs) (tokens_from line bs))) e
 
-abbrev pub token : ℕ → List ℕ → Token
+abbrev pub token : ℕ → List ℕ → VcdToken
 token line text = record { line = line; text = text }
 
 something_left : (rest : List ℕ) → (length rest == 0) ≡ false → 0 < length rest

@@ -7,11 +7,11 @@ use Rattle.bs_vcd_header.specs.declared.fault.VcdFault.{VcdFault}
 use Rattle.bs_vcd_header.specs.declared.fault.VcdFault.TheVariants.{Line, Ended}
 use Rattle.bs_vcd_header.specs.declared.command.Command.{Command as CodeCommand}
 use Rattle.bs_vcd_header.specs.declared.command.Command.TheVariants as C
-use Rattle.bs_vcd_header.specs.declared.header.Declared.{Declared as CodeDeclared}
+use Rattle.bs_vcd_header.specs.declared.header.HeaderDeclarations.{HeaderDeclarations as CodeHeaderDeclarations}
 use Rattle.bs_vcd_header.specs.declared.header.Variable.{Variable as CodeVariable}
 use Rattle.bs_vcd_header.specs.declared.header.Behind.{Behind as CodeBehind}
-use Rattle.bs_vcd_header.specs.declared.header.Begun.{Begun as CodeBegun}
-use Rattle.bs_vcd_header.specs.Tokens.{Token, tokens_from}
+use Rattle.bs_vcd_header.specs.declared.header.HeaderState.{HeaderState as CodeHeaderState}
+use Rattle.bs_vcd_header.specs.Tokens.{VcdToken, tokens_from}
 use Rattle.bs_vcd_header.specs.Words.{id_in}
 
 -- ---- a command
@@ -79,12 +79,12 @@ pub record Variable : Type 0 where
 
 -- The paths of all scopes by their numbers, the names parted by points: number 0 is the text as a whole, and the others come in
 -- the order of the text. The numbers of those that are open, the outermost first; and the variables so far.
-pub record Declared : Type 0 where
+pub record HeaderDeclarations : Type 0 where
   pub paths : List (List ℕ)
   pub open_scopes : List ℕ
   pub variables : List Variable
 
-abbrev pub nothing_declared : Declared
+abbrev pub nothing_declared : HeaderDeclarations
 nothing_declared = record { paths = [] ∷ []; open_scopes = 0 ∷ []; variables = [] }
 
 -- the scope that is open
@@ -94,7 +94,7 @@ innermost scopes = slice_index_or scopes (length scopes - 1) 0
 abbrev pub path_below : List ℕ → List ℕ → List ℕ
 path_below outer name = if length outer == 0 then name else outer ++ (46 ∷ name)
 
-abbrev pub with_scope : Declared → List ℕ → Declared
+abbrev pub with_scope : HeaderDeclarations → List ℕ → HeaderDeclarations
 with_scope d name =
     record {
       paths = d.paths ++ path_below (slice_index_or d.paths (innermost d.open_scopes) []) name ∷ [];
@@ -102,10 +102,10 @@ with_scope d name =
       variables = d.variables;
     }
 
-abbrev pub without_scope : Declared → Declared
+abbrev pub without_scope : HeaderDeclarations → HeaderDeclarations
 without_scope d = record { paths = d.paths; open_scopes = take (length d.open_scopes - 1) d.open_scopes; variables = d.variables }
 
-abbrev pub with_variable : Declared → Shape → Declared
+abbrev pub with_variable : HeaderDeclarations → Shape → HeaderDeclarations
 with_variable d shape =
     record {
       paths = d.paths;
@@ -114,7 +114,7 @@ with_variable d shape =
     }
 
 -- what comes of a command whose `$end` stands in this line, and whether it is the last
-abbrev pub turned : ℕ → Option Command → Declared → Result (Bool × Declared) VcdFault
+abbrev pub turned : ℕ → Option Command → HeaderDeclarations → Result (Bool × HeaderDeclarations) VcdFault
 turned line None d = Err (Line line)
 turned line (Some (Opens name)) d = Ok (false, with_scope d name)
 turned line (Some Closes) d = if nat_lt 1 (length d.open_scopes) then Ok (false, without_scope d) else Err (Line line)
@@ -125,14 +125,14 @@ turned line (Some Passes) d = Ok (false, d)
 -- ---- the words
 
 -- the words of the command under way, and what is declared by those before it
-pub record Begun : Type 0 where
+pub record HeaderState : Type 0 where
   pub words : List (List ℕ)
-  pub declared : Declared
+  pub declared : HeaderDeclarations
 
-abbrev pub nothing_begun : Begun
+abbrev pub nothing_begun : HeaderState
 nothing_begun = record { words = []; declared = nothing_declared }
 
-abbrev pub worded : Begun → Token → Result (Bool × Begun) VcdFault
+abbrev pub worded : HeaderState → VcdToken → Result (Bool × HeaderState) VcdFault
 worded b t =
     if bytes_eq t.text (codes "$end")
     then (turned t.line (command_of b.words) b.declared >>= λ next. Ok (next.0, record { words = []; declared = next.1 }))
@@ -140,16 +140,16 @@ worded b t =
 
 -- what is declared, and the words behind that
 pub record Header : Type 0 where
-  pub declared : Declared
-  pub rest : List Token
+  pub declared : HeaderDeclarations
+  pub rest : List VcdToken
 
-abbrev pub header_from : Begun → List Token → Result Header VcdFault
+abbrev pub header_from : HeaderState → List VcdToken → Result Header VcdFault
 header_from b [] = Err Ended
 header_from b (t ∷ ts) =
     worded b t >>= λ next. if next.0 then Ok record { declared = next.1.declared; rest = ts } else header_from next.1 ts
 
 -- the declarations with which these words begin
-abbrev pub header_of : List Token → Result Header VcdFault
+abbrev pub header_of : List VcdToken → Result Header VcdFault
 header_of tokens = header_from nothing_begun tokens
 
 -- ---- the code's values
@@ -160,14 +160,14 @@ shape_in v = record { width = v.width; id = v.id; name = v.name.now; range = v.r
 abbrev pub variable_in : CodeVariable → Variable
 variable_in v = record { scope = v.scope; shape = shape_in v }
 
-abbrev pub declared_in : CodeDeclared → Declared
+abbrev pub declared_in : CodeHeaderDeclarations → HeaderDeclarations
 declared_in d = record { paths = d.paths; open_scopes = d.open_scopes.items; variables = map variable_in d.variables.items }
 
-abbrev pub begun_in : CodeBegun → Begun
+abbrev pub begun_in : CodeHeaderState → HeaderState
 begun_in b = record { words = map (λ w. w.now) b.words.items; declared = declared_in b.declared }
 
 -- what is declared, and the words behind a place of the text
-abbrev pub header_in : CodeBehind → CodeDeclared → Header
+abbrev pub header_in : CodeBehind → CodeHeaderDeclarations → Header
 header_in behind declared = record { declared = declared_in declared; rest = tokens_from behind.line behind.rest.now }
 
 abbrev pub command_in : CodeCommand → Command

@@ -2,5 +2,5 @@ pub mod Tokens
 pub mod Words
 pub mod Header
 pub mod Sources
-pub mod Index
+pub mod TagIndex
 pub mod Scopes

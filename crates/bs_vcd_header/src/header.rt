@@ -7,7 +7,7 @@ ghost use Rattle.bs_vcd_header.specs.Header.{begun_in, command_of, declared_in, 
 
 use crate::command::{Command, command_of};
 use crate::fault::VcdFault;
-use crate::token::{Token, next_token};
+use crate::token::{VcdToken, next_token};
 use crate::words::is_text;
 use bs_bits::{List, NoMemory, push_piece};
 use std::alloc::Global;
@@ -25,7 +25,7 @@ pub struct Variable<'a> {
 
 /// The paths of all scopes by their numbers, the numbers of those that are open, and the variables.
 #[derive(Drop)]
-pub struct Declared<'a> {
+pub struct HeaderDeclarations<'a> {
     pub paths: List<List<u8>>,
     pub open_scopes: Vec<usize>,
     pub variables: Vec<Variable<'a>>,
@@ -33,9 +33,9 @@ pub struct Declared<'a> {
 
 /// The words of the command under way, and what is declared by those before it.
 #[derive(Drop)]
-pub struct Begun<'a> {
+pub struct HeaderState<'a> {
     pub words: Vec<&'a [u8]>,
-    pub declared: Declared<'a>,
+    pub declared: HeaderDeclarations<'a>,
 }
 
 /// A place in a text, and the line of it.
@@ -69,7 +69,7 @@ fn path_below(alloc: Global, outer: &[u8], name: &[u8]) -> Result<List<u8>, NoMe
 }
 
 /// The path of the scope that is open.
-fn open_path<'a>(declared: &'a Declared<'_>) -> &'a [u8]
+fn open_path<'a>(declared: &'a HeaderDeclarations<'_>) -> &'a [u8]
     ensures { result.now ≡ slice_index_or (declared_in declared.now).paths (innermost (declared_in declared.now).open_scopes) [] }
 {
     let scope = innermost(declared.open_scopes.as_slice());
@@ -81,7 +81,11 @@ fn open_path<'a>(declared: &'a Declared<'_>) -> &'a [u8]
 }
 
 /// Opens a scope.
-fn open_scope(alloc: Global, name: &[u8], declared: &mut Declared<'_>) -> Result<(), NoMemory>
+fn open_scope(
+    alloc: Global,
+    name: &[u8],
+    declared: &mut HeaderDeclarations<'_>,
+) -> Result<(), NoMemory>
     ensures { OnOk result (declared_in declared.new ≡ with_scope (declared_in declared.old) name.now) }
 {
     let path = path_below(alloc, open_path(declared), name)?;
@@ -92,7 +96,7 @@ fn open_scope(alloc: Global, name: &[u8], declared: &mut Declared<'_>) -> Result
 }
 
 /// Ends the scope that is open, if there is one.
-fn close_scope(declared: &mut Declared<'_>) -> bool
+fn close_scope(declared: &mut HeaderDeclarations<'_>) -> bool
     ensures did { result ≡ nat_lt 1 (length (declared_in declared.old).open_scopes) }
     ensures closed { result ≡ true → declared_in declared.new ≡ without_scope (declared_in declared.old) }
 {
@@ -106,7 +110,10 @@ fn close_scope(declared: &mut Declared<'_>) -> bool
 }
 
 /// Takes a variable into the scope that is open.
-fn add_variable<'a>(variable: Variable<'a>, declared: &mut Declared<'a>) -> Result<(), NoMemory>
+fn add_variable<'a>(
+    variable: Variable<'a>,
+    declared: &mut HeaderDeclarations<'a>,
+) -> Result<(), NoMemory>
     ensures { OnOk result (declared_in declared.new ≡ with_variable (declared_in declared.old) (shape_in variable.entry)) }
 {
     let scope = innermost(declared.open_scopes.as_slice());
@@ -119,7 +126,7 @@ fn turn<'a>(
     alloc: Global,
     line: u64,
     command: Option<Command<'a>>,
-    declared: &mut Declared<'a>,
+    declared: &mut HeaderDeclarations<'a>,
 ) -> Result<bool, VcdFault>
     ensures { Answers Want (λ last. (last, declared_in declared.new)) result (turned line (maybe_command command.entry) (declared_in declared.old)) }
 {
@@ -154,7 +161,11 @@ fn add_word<'a>(word: &'a [u8], words: &mut Vec<&'a [u8]>) -> Result<(), NoMemor
 }
 
 /// Takes a word, and answers whether the declarations end with it.
-fn take_word<'a>(alloc: Global, token: Token<'a>, begun: &mut Begun<'a>) -> Result<bool, VcdFault>
+fn take_word<'a>(
+    alloc: Global,
+    token: VcdToken<'a>,
+    begun: &mut HeaderState<'a>,
+) -> Result<bool, VcdFault>
     ensures { Answers Want (λ last. (last, begun_in begun.new)) result (worded (begun_in begun.old) (token_in token.entry)) }
 {
     if is_text(token.text, b"$end") {
@@ -177,7 +188,7 @@ pub fn take_words<'a>(
     alloc: Global,
     line: u64,
     text: &'a [u8],
-    begun: &mut Begun<'a>,
+    begun: &mut HeaderState<'a>,
 ) -> Result<Behind<'a>, VcdFault>
     requires { line + length text.now < 2 ^ 64 }
     ensures header { Answers Want (λ behind. header_in behind begun.new.declared) result (header_from (begun_in begun.old) (tokens_from line text.now)) }
@@ -196,16 +207,16 @@ pub fn take_words<'a>(
 }
 
 /// Nothing is declared before the first word.
-pub fn nothing<'a>(alloc: Global) -> Result<Begun<'a>, NoMemory>
+pub fn nothing<'a>(alloc: Global) -> Result<HeaderState<'a>, NoMemory>
     ensures { IfOk result (λ begun. begun_in begun ≡ nothing_begun) }
 {
     let mut paths = List::new(alloc);
     paths.push(List::new(alloc))?;
     let mut open_scopes = Vec::new(alloc);
     open_scopes.push(0)?;
-    Ok(Begun {
+    Ok(HeaderState {
         words: Vec::new(alloc),
-        declared: Declared {
+        declared: HeaderDeclarations {
             paths,
             open_scopes,
             variables: Vec::new(alloc),

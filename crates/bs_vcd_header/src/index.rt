@@ -4,11 +4,11 @@ ghost use Rattle.std.specs.HashMap.{Updates, get};
 ghost use Rattle.bs_net_names.specs.Keys.{parts_in};
 ghost use Rattle.bs_net_names.specs.Naming.{plain};
 ghost use Rattle.bs_vcd_header.specs.Header.{variable_in};
-ghost use Rattle.bs_vcd_header.specs.Index.{IsIndex, places_in, tag_of, tags_in};
+ghost use Rattle.bs_vcd_header.specs.TagIndex.{IsIndex, places_in, tag_of, tags_in};
 ghost use Rattle.bs_vcd_header.specs.Sources.{or_next, source_in};
 
 use crate::header::Variable;
-use crate::sources::{Source, source_here};
+use crate::sources::{BitSource, source_here};
 use crate::tags::{tag_here, tag_of};
 use bs_bits::{List, NoMemory};
 use bs_net_names::{KeyParts, plain};
@@ -17,20 +17,20 @@ use std::collections::HashMap;
 
 /// For each tag the place of the last variable that has it, and for each variable that of the last before it with its tag.
 #[derive(Drop)]
-pub struct Index {
+pub struct TagIndex {
     pub last: HashMap<u64, usize>,
     pub before: Vec<Option<usize>>,
 }
 
 /// The place of the last variable with a tag.
-fn place_of(index: &Index, tag: u64) -> Option<usize>
+fn place_of(index: &TagIndex, tag: u64) -> Option<usize>
     ensures { result ≡ places_in index.now.last tag }
 {
     index.last.get(&tag).copied()
 }
 
 /// Takes the next variable, by its tag.
-fn add(index: &mut Index, tag: u64) -> Result<(), NoMemory>
+fn add(index: &mut TagIndex, tag: u64) -> Result<(), NoMemory>
     ensures links { OnOk result (index.new.before.items ≡ index.old.before.items ++ places_in index.old.last tag ∷ []) }
     ensures ends { OnOk result (Updates nat_eq index.old.last index.new.last tag (Some (length index.old.before.items))) }
 {
@@ -48,10 +48,10 @@ pub fn index_of(
     paths: &List<List<u8>>,
     path: &[u8],
     variables: &[Variable<'_>],
-) -> Result<Index, NoMemory>
+) -> Result<TagIndex, NoMemory>
     ensures { IfOk result (λ index. IsIndex (tags_in paths.now path.now (map variable_in variables.now)) (places_in index.last) index.before.items (length variables.now)) }
 {
-    let mut index = Index {
+    let mut index = TagIndex {
         last: HashMap::new(alloc),
         before: Vec::new(alloc),
     };
@@ -62,7 +62,7 @@ pub fn index_of(
 }
 
 /// A source, or else another.
-fn or_next(first: Option<Source>, next: Option<Source>) -> Option<Source>
+fn or_next(first: Option<BitSource>, next: Option<BitSource>) -> Option<BitSource>
     ensures { result ≡ or_next first next }
 {
     match first {
@@ -78,8 +78,8 @@ pub fn source_by(
     path: &[u8],
     key: KeyParts<'_>,
     variables: &[Variable<'_>],
-    index: &Index,
-) -> Option<Source>
+    index: &TagIndex,
+) -> Option<BitSource>
     requires { IsIndex (tags_in paths.now path.now (map variable_in variables.now)) (places_in index.now.last) index.now.before.items (length variables.now) }
     ensures { result ≡ source_in paths.now path.now (parts_in key.entry) (map variable_in variables.now) }
 {

@@ -20,9 +20,9 @@ mod token;
 mod words;
 
 pub use fault::VcdFault;
-pub use header::{Begun, Behind, Declared, Variable, nothing, take_words};
+pub use header::{Behind, HeaderDeclarations, HeaderState, Variable, nothing, take_words};
 pub use inputs::take_inputs;
 pub use scopes::{declared, names_of, scopes_of};
-pub use sources::{Source, scope_of, source_in};
-pub use token::{Token, next_token};
+pub use sources::{BitSource, scope_of, source_in};
+pub use token::{VcdToken, next_token};
 pub use words::{Said, id_in, is_text, said_of};

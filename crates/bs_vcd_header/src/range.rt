@@ -10,7 +10,7 @@ use bs_net_names::{Range, last_split, plain, range_behind};
 
 /// A name without the `\` that it may begin with, and its bits.
 #[derive(Clone, Copy)]
-pub struct Named<'a> {
+pub struct NameWithBits<'a> {
     pub name: &'a [u8],
     pub bits: Range,
 }
@@ -52,17 +52,17 @@ fn or_width(width: u64, range: Option<Range>) -> Range
 }
 
 /// A name with its bits.
-fn with_bits<'a>(name: &'a [u8], bits: Range) -> Named<'a>
+fn with_bits<'a>(name: &'a [u8], bits: Range) -> NameWithBits<'a>
     ensures { named_at result ≡ named name.now bits }
 {
-    Named {
+    NameWithBits {
         name: plain(name),
         bits,
     }
 }
 
 /// A name that may end with its range.
-fn split_name<'a>(width: u64, name: &'a [u8]) -> Named<'a>
+fn split_name<'a>(width: u64, name: &'a [u8]) -> NameWithBits<'a>
     ensures { named_at result ≡ split_name width name.now (last_split 91 name.now) }
 {
     match last_split(b'[', name) {
@@ -75,7 +75,7 @@ fn split_name<'a>(width: u64, name: &'a [u8]) -> Named<'a>
 }
 
 /// The name and the bits of a variable.
-pub fn named_in<'a>(variable: Variable<'a>) -> Named<'a>
+pub fn named_in<'a>(variable: Variable<'a>) -> NameWithBits<'a>
     ensures { named_at result ≡ named_in (shape_in variable.entry) }
 {
     if variable.range.is_empty() {

@@ -7,7 +7,7 @@ ghost use Rattle.bs_vcd_header.specs.Scopes.{declared_of, is_of, names_among, na
 ghost use Rattle.bs_vcd_header.specs.Sources.{named_in};
 
 use crate::fault::VcdFault;
-use crate::header::{Declared, Variable, nothing, take_words};
+use crate::header::{HeaderDeclarations, Variable, nothing, take_words};
 use crate::range::named_in;
 use crate::sources::path_of;
 use crate::words::is_text;
@@ -16,7 +16,7 @@ use std::alloc::Global;
 
 /// What is declared with which a text begins.
 #[tactic(auto, using(crate::proofs::ScopeLemmas::declared_read, crate::proofs::ScopeLemmas::declared_faulty))]
-pub fn declared<'a>(alloc: Global, text: &'a [u8]) -> Result<Declared<'a>, VcdFault>
+pub fn declared<'a>(alloc: Global, text: &'a [u8]) -> Result<HeaderDeclarations<'a>, VcdFault>
     requires { length text.now < 2 ^ 63 }
     ensures { Answers Want (λ declared. declared_in declared) result (declared_of text.now) }
 {
@@ -48,7 +48,10 @@ fn scopes_among(alloc: Global, paths: &List<List<u8>>) -> Result<Vec<&[u8]>, NoM
 }
 
 /// The paths of the scopes that are declared, in the order of the text.
-pub fn scopes_of<'a>(alloc: Global, declared: &'a Declared<'_>) -> Result<Vec<&'a [u8]>, NoMemory>
+pub fn scopes_of<'a>(
+    alloc: Global,
+    declared: &'a HeaderDeclarations<'_>,
+) -> Result<Vec<&'a [u8]>, NoMemory>
     ensures { IfOk result (λ scopes. map (λ n. n.now) scopes.items ≡ scopes_of (declared_in declared.now)) }
 {
     let scopes = scopes_among(alloc, &declared.paths)?;
@@ -95,7 +98,7 @@ fn names_among<'a>(
 pub fn names_of<'a>(
     alloc: Global,
     scope: Option<&[u8]>,
-    declared: &Declared<'a>,
+    declared: &HeaderDeclarations<'a>,
 ) -> Result<Vec<&'a [u8]>, NoMemory>
     ensures { IfOk result (λ names. map (λ n. n.now) names.items ≡ names_of (option_map (λ path. path.now) scope.entry) (declared_in declared.now)) }
 {

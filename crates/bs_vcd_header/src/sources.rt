@@ -4,31 +4,31 @@ ghost use Rattle.bs_net_names.specs.Keys.{parts_in};
 ghost use Rattle.bs_vcd_header.specs.Header.{declared_in, shape_in, variable_in};
 ghost use Rattle.bs_vcd_header.specs.Sources.{behind, first_path, names_variable, is_local, lies_in, named_at, scope_of, source_at, source_named, source_here, source_if, source_in, source_of};
 
-use crate::header::{Declared, Variable};
-use crate::range::{Named, named_in};
+use crate::header::{HeaderDeclarations, Variable};
+use crate::range::{NameWithBits, named_in};
 use crate::words::is_text;
 use bs_bits::List;
 use bs_net_names::{KeyParts, place_in, plain};
 
 /// A bit of the variables with a code, by its place from the last character of their values.
 #[derive(Clone, Copy)]
-pub struct Source {
+pub struct BitSource {
     pub id: u64,
     pub place: u64,
 }
 
 /// The bit at a place.
-fn source_at(id: u64, place: Option<u64>) -> Option<Source>
+fn source_at(id: u64, place: Option<u64>) -> Option<BitSource>
     ensures { result ≡ source_at id place }
 {
     match place {
-        Some(place) => Some(Source { id, place }),
+        Some(place) => Some(BitSource { id, place }),
         None => None,
     }
 }
 
 /// The bit of this name, if it is one of these.
-fn source_if(key: KeyParts<'_>, id: u64, own: Named<'_>) -> Option<Source>
+fn source_if(key: KeyParts<'_>, id: u64, own: NameWithBits<'_>) -> Option<BitSource>
     ensures { result ≡ source_if (parts_in key.entry) id (named_at own.entry) }
 {
     if is_text(own.name, plain(key.base)) {
@@ -39,7 +39,7 @@ fn source_if(key: KeyParts<'_>, id: u64, own: Named<'_>) -> Option<Source>
 }
 
 /// The bit of this name, if it is one of the variable's.
-fn source_of(key: KeyParts<'_>, variable: Variable<'_>) -> Option<Source>
+fn source_of(key: KeyParts<'_>, variable: Variable<'_>) -> Option<BitSource>
     ensures { result ≡ source_of (parts_in key.entry) (shape_in variable.entry) }
 {
     source_if(key, variable.id, named_in(variable))
@@ -104,8 +104,8 @@ fn source_named(
     path: &[u8],
     key: KeyParts<'_>,
     id: u64,
-    variable: Named<'_>,
-) -> Option<Source>
+    variable: NameWithBits<'_>,
+) -> Option<BitSource>
     ensures { result ≡ source_named own.now path.now (parts_in key.entry) id (named_at variable.entry) }
 {
     if names_variable(path, own, variable.name, plain(key.base)) {
@@ -121,7 +121,7 @@ pub fn source_here(
     path: &[u8],
     key: KeyParts<'_>,
     variable: Variable<'_>,
-) -> Option<Source>
+) -> Option<BitSource>
     ensures { result ≡ source_here paths.now path.now (parts_in key.entry) (variable_in variable.entry) }
 {
     source_named(
@@ -140,7 +140,7 @@ pub fn source_in(
     path: &[u8],
     key: KeyParts<'_>,
     variables: &[Variable<'_>],
-) -> Option<Source>
+) -> Option<BitSource>
     ensures { result ≡ source_in paths.now path.now (parts_in key.entry) (map variable_in variables.now) }
 {
     'variables: for variable in variables {
@@ -172,7 +172,7 @@ fn first_path<'a>(
 pub fn scope_of<'a>(
     scope: Option<&'a [u8]>,
     clock: KeyParts<'_>,
-    declared: &'a Declared<'_>,
+    declared: &'a HeaderDeclarations<'_>,
 ) -> Option<&'a [u8]>
     ensures { option_map (λ path. path.now) result ≡ scope_of (option_map (λ path. path.now) scope.entry) (parts_in clock.entry) (declared_in declared.now) }
 {

@@ -1,7 +1,7 @@
 //! The tags of names: numbers that equal names share.
 ghost use Rattle.std.specs.Prelude.{◌≡◌};
 ghost use Rattle.bs_vcd_header.specs.Header.{variable_in};
-ghost use Rattle.bs_vcd_header.specs.Index.{tag_behind, tag_here, tag_local, tag_more, tag_named, tag_of};
+ghost use Rattle.bs_vcd_header.specs.TagIndex.{tag_behind, tag_here, tag_local, tag_more, tag_named, tag_of};
 
 use crate::header::Variable;
 use crate::range::named_in;
@@ -13,7 +13,7 @@ use bs_bits::List;
 pub const TAG_FACTOR: u64 = 6_364_136_223_846_793_005;
 
 /// A tag with one byte more.
-#[tactic(auto, unfolding(crate::specs::Index::tag_more))]
+#[tactic(auto, unfolding(crate::specs::TagIndex::tag_more))]
 fn tag_more(tag: u64, byte: u8) -> u64
     ensures { result ≡ tag_more tag byte }
 {

@@ -4,7 +4,7 @@ ghost use Rattle.bs_vcd_header.specs.Tokens.{goes_on, is_white, line_behind, tok
 
 /// A word, and the line that it stands in. Lines count from 1.
 #[derive(Clone, Copy)]
-pub struct Token<'a> {
+pub struct VcdToken<'a> {
     pub line: u64,
     pub text: &'a [u8],
 }
@@ -26,25 +26,25 @@ fn line_behind(line: u64, byte: u8) -> u64
 
 /// A place in a text, and the line of it.
 #[derive(Clone, Copy)]
-struct Spot<'a> {
+struct TextPosition<'a> {
     line: u64,
     rest: &'a [u8],
 }
 
 /// The first place that is not white space.
-fn skip_white(line: u64, text: &[u8]) -> Spot<'_>
+fn skip_white(line: u64, text: &[u8]) -> TextPosition<'_>
     requires { line + length text.now < 2 ^ 64 }
     ensures same { tokens_from line text.now ≡ tokens_from result.line result.rest.now }
     ensures begun { 0 < length result.rest.now → goes_on result.rest.now ≡ true }
     ensures within { result.line + length result.rest.now ≤ line + length text.now }
     ensures shorter { length result.rest.now ≤ length text.now }
 {
-    let mut spot = Spot { line, rest: text };
+    let mut spot = TextPosition { line, rest: text };
     'white: while let [first, behind @ ..] = spot.rest {
         if !is_white(*first) {
             return spot;
         }
-        spot = Spot {
+        spot = TextPosition {
             line: line_behind(spot.line, *first),
             rest: behind,
         };
@@ -67,7 +67,7 @@ fn word_end(text: &[u8]) -> usize
 }
 
 /// The first word of a text whose first line has this number, and the bytes behind it.
-pub fn next_token(line: u64, text: &[u8]) -> Option<(Token<'_>, &[u8])>
+pub fn next_token(line: u64, text: &[u8]) -> Option<(VcdToken<'_>, &[u8])>
     requires { line + length text.now < 2 ^ 64 }
     ensures tokens { MatchOption result (tokens_from line text.now ≡ []) (λ found. tokens_from line text.now ≡ token_in found.0 ∷ tokens_from found.0.line found.1.now) }
     ensures within { IfSome result (λ found. found.0.line + length found.1.now ≤ line + length text.now) }
@@ -78,7 +78,7 @@ pub fn next_token(line: u64, text: &[u8]) -> Option<(Token<'_>, &[u8])>
         return None;
     }
     let (word, behind) = spot.rest.split_at(word_end(spot.rest));
-    let token = Token {
+    let token = VcdToken {
         line: spot.line,
         text: word,
     };

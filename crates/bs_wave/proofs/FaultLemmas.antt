@@ -7,13 +7,13 @@ use Rattle.std.proofs.lemmas.List.Elements.{All-from_recursion, recursion_from_A
 use Rattle.bs_bits.specs.Lines.{pieces_of, is_name}
 use Rattle.bs_bits.specs.Reading.{◌>>=◌}
 use Rattle.bs_wave.specs.declared.fault.WaveFault.TheVariants.{Line}
-use Rattle.bs_wave.specs.declared.place.Place.{Place}
-use Rattle.bs_wave.specs.declared.place.Place.TheVariants as places
+use Rattle.bs_wave.specs.declared.place.TextPlace.{TextPlace}
+use Rattle.bs_wave.specs.declared.place.TextPlace.TheVariants as places
 use Rattle.bs_wave.specs.declared.value.Value.{Value}
 use Rattle.bs_wave.specs.declared.value.Value.TheVariants.{Unknown}
 use Rattle.bs_wave.specs.declared.wave.Wave.{Wave}
 use Rattle.bs_wave.specs.WaveText.{net_lines, head_lines, time_line, value_line, change_lines, moment_lines, wave_lines, HasWaveText}
-use Rattle.bs_wave.specs.WaveReading.{Begun, Reached, taken, line_or_fault, whole, ended, wave_from, nothing_read, wave_in}
+use Rattle.bs_wave.specs.WaveReading.{PartialWave, Reached, taken, line_or_fault, whole, ended, wave_from, nothing_read, wave_in}
 use Rattle.bs_wave.specs.Law.{BeginsWave, IsWrongLine, WrongLinesAreNamed}
 use Rattle.bs_wave.proofs.ReadingLemmas.{some_piece}
 use Rattle.bs_wave.proofs.SpelledLemmas.{scale, scope, upscope, definitions, lines_at, Named, IsFirst, IsLater, Right, step, each_snoc, one_moment}
@@ -47,7 +47,7 @@ first_append n [] ys = ap (λ m. change_lines m [] ys) (omega arith)
 first_append n (x ∷ xs) ys =
     ap (λ t. value_line n x ∷ t) (first_append (suc n) xs ys ∙ ap (λ m. change_lines (suc n) [] xs ++ change_lines m [] ys) (omega arith))
 
-first_begins : (b : Begun) → IsFirst b → BeginsWave (wave_lines (whole b))
+first_begins : (b : PartialWave) → IsFirst b → BeginsWave (wave_lines (whole b))
 first_begins b first =
     let more : List Value = replicate (length b.keys - length b.values) Unknown in
     let values : List Value = b.values ++ more in
@@ -65,7 +65,7 @@ first_begins b first =
           ∙ ap (λ t. t ++ rest) (sym (one_moment b first.moments)));
     }
 
-later_begins : (next : ℕ) (b : Begun) → IsLater next b → BeginsWave (wave_lines (whole b))
+later_begins : (next : ℕ) (b : PartialWave) → IsLater next b → BeginsWave (wave_lines (whole b))
 later_begins next b later =
     let W : List Value → Type 0 = λ values. length values ≡ length b.keys in
     record {
@@ -79,7 +79,7 @@ later_begins next b later =
       spells = sym (append-nil (wave_lines (whole b)));
     }
 
-begins_at : (p : Place) (b : Begun) → Right p b → BeginsWave (lines_at p b)
+begins_at : (p : TextPlace) (b : PartialWave) → Right p b → BeginsWave (lines_at p b)
 begins_at places.Timescale b right = head_begins [] [] (head_lines []) tt refl
 begins_at places.Scope b right = head_begins [] (scale ∷ []) (scope ∷ upscope ∷ definitions ∷ []) tt refl
 begins_at places.Net b right = head_begins b.keys (scale ∷ scope ∷ net_lines 0 b.keys) (upscope ∷ definitions ∷ []) right.named refl
@@ -92,7 +92,7 @@ begins_at (places.Change next) b right = later_begins next b right
 
 -- ---- there is one way to go
 
-same_way : (p q r : Place) (b c d : Begun) (lines : List (List ℕ)) → Goes p b lines q c → Goes p b lines r d → (q ≡ r) × (c ≡ d)
+same_way : (p q r : TextPlace) (b c d : PartialWave) (lines : List (List ℕ)) → Goes p b lines q c → Goes p b lines r d → (q ≡ r) × (c ≡ d)
 same_way p q r b c d [] g h = (sym g.0 ∙ h.0, sym g.1 ∙ h.1)
 same_way p q r b c d (text ∷ lines) g h =
     let both : Some g.0 ≡ Some h.0 = sym g.1 ∙ h.1 in
@@ -100,14 +100,14 @@ same_way p q r b c d (text ∷ lines) g h =
     same_way h.0.0 q r h.0.1 c d lines (subst (λ (s : Reached). Goes s.0 s.1 lines q c) same g.2) h.2
 
 -- a longer way begins with a shorter one, and goes on with its next line
-pub record Split (p : Place) (b : Begun) (front : List (List ℕ)) (text : List ℕ) : Type 0 where
-  place : Place
-  begun : Begun
+pub record Split (p : TextPlace) (b : PartialWave) (front : List (List ℕ)) (text : List ℕ) : Type 0 where
+  place : TextPlace
+  begun : PartialWave
   goes : Goes p b front place begun
   next : Reached
   is : taken place begun text ≡ Some next
 
-split : (p q : Place) (b c : Begun) (front : List (List ℕ)) (text : List ℕ) (rest : List (List ℕ)) → Goes p b (front ++ text ∷ rest) q c → Split p b front text
+split : (p q : TextPlace) (b c : PartialWave) (front : List (List ℕ)) (text : List ℕ) (rest : List (List ℕ)) → Goes p b (front ++ text ∷ rest) q c → Split p b front text
 split p q b c [] text rest g = record { place = p; begun = b; goes = (refl, refl); next = g.0; is = g.1 }
 split p q b c (l ∷ front) text rest g =
     let s = split g.0.0 q g.0.1 c front text rest g.2 in
@@ -122,10 +122,10 @@ take_front [] ys = take_none ys
     take_none ys = refl
 take_front (x ∷ xs) ys = ap (λ t. x ∷ t) (take_front xs ys)
 
-start : Place
+start : TextPlace
 start = places.Timescale
 
-refused_here : (done : List (List ℕ)) (p : Place) (b : Begun) (text : List ℕ) (rest : List (List ℕ)) (n m : ℕ) → n ≡ length done + 1 → n ≡ m → Right p b →
+refused_here : (done : List (List ℕ)) (p : TextPlace) (b : PartialWave) (text : List ℕ) (rest : List (List ℕ)) (n m : ℕ) → n ≡ length done + 1 → n ≡ m → Right p b →
     lines_at p b ≡ done → Goes places.Timescale nothing_read done p b → (0 < length rest → taken p b text ≡ None) →
     IsWrongLine (done ++ text ∷ rest) m
 refused_here done p b text rest n m e same right lines goes none =
@@ -156,11 +156,11 @@ refused_here done p b text rest n m e same right lines goes none =
         let s = split places.Timescale (places.Change way.last) nothing_read way.end done text begins.rest goes_so in
         let same_state = same_way places.Timescale s.place p nothing_read s.begun b done s.goes goes in
         let some : taken p b text ≡ Some s.next =
-        sym (ap (λ (x : Place). taken x s.begun text) same_state.0 ∙ ap (λ (x : Begun). taken p x text) same_state.1) ∙ s.is in
+        sym (ap (λ (x : TextPlace). taken x s.begun text) same_state.0 ∙ ap (λ (x : PartialWave). taken p x text) same_state.1) ∙ s.is in
         let both : None ≡ Some s.next = sym absent ∙ some in
         cc
 
-end_fault : (n m : ℕ) (p : Place) (b : Begun) (rest : List ℕ) → ended n p b rest ≡ Err (Line m) → n ≡ m
+end_fault : (n m : ℕ) (p : TextPlace) (b : PartialWave) (rest : List ℕ) → ended n p b rest ≡ Err (Line m) → n ≡ m
 end_fault n m places.Timescale b rest e = cc
 end_fault n m places.Scope b rest e = cc
 end_fault n m places.Net b rest e = cc
@@ -173,7 +173,7 @@ end_fault n m (places.Change next) b rest e = by (length rest == 0) e
     by true e = absurd cc
     by false e = cc
 
-wrong_from : (pieces done : List (List ℕ)) (n m : ℕ) (p : Place) (b : Begun) → 0 < length pieces → n ≡ length done + 1 → Right p b →
+wrong_from : (pieces done : List (List ℕ)) (n m : ℕ) (p : TextPlace) (b : PartialWave) → 0 < length pieces → n ≡ length done + 1 → Right p b →
     lines_at p b ≡ done → Goes places.Timescale nothing_read done p b → wave_from n p b pieces ≡ Err (Line m) → IsWrongLine (done ++ pieces) m
 wrong_from [] done n m p b some e right lines goes fault = absurd (omega (arith, some))
 wrong_from (rest ∷ []) done n m p b some e right lines goes fault =

@@ -14,7 +14,7 @@ use Rattle.bs_wave.specs.declared.value.Value.{Value}
 use Rattle.bs_wave.specs.declared.value.Value.TheVariants.{Zero, One, Unknown}
 use Rattle.bs_wave.specs.WaveText.{id_of, value_code, net_line, time_line, value_line, same_value}
 use Rattle.bs_wave.specs.WaveReading.{value_in, triple_of, key_of, key_in, value_for, net_with, Change, if_other, change_in}
-use Rattle.bs_wave.specs.Begun.{behind_digit}
+use Rattle.bs_wave.specs.PartialWave.{behind_digit}
 use Rattle.bs_wave.proofs.IdLemmas.{next_digit, same_id, id_lacks}
 
 -- ---- texts

@@ -11,14 +11,14 @@ use Rattle.std.proofs.lemmas.List.Elements.{recursion_from_All}
 use Rattle.bs_bits.specs.Lines.{line, pieces_of, is_name, is_visible}
 use Rattle.bs_bits.specs.Reading.{◌>>=◌}
 use Rattle.bs_bits.proofs.LineTextLemmas.{Lacks, lacks_append, piece_first, visible_lacks}
-use Rattle.bs_wave.specs.declared.place.Place.{Place}
-use Rattle.bs_wave.specs.declared.place.Place.TheVariants as places
+use Rattle.bs_wave.specs.declared.place.TextPlace.{TextPlace}
+use Rattle.bs_wave.specs.declared.place.TextPlace.TheVariants as places
 use Rattle.bs_wave.specs.declared.value.Value.{Value}
 use Rattle.bs_wave.specs.declared.value.Value.TheVariants.{Zero, One, Unknown}
 use Rattle.bs_wave.specs.declared.wave.Wave.{Wave}
 use Rattle.bs_wave.specs.WaveText.{id_of, net_line, net_lines, head_lines, time_line, value_line, same_value, change_lines, moment_lines}
 use Rattle.bs_wave.specs.WaveText.{wave_lines, wave_text}
-use Rattle.bs_wave.specs.WaveReading.{key_in, value_for, Change, change_in, Begun, Reached, with_key, with_value, with_change, with_moment}
+use Rattle.bs_wave.specs.WaveReading.{key_in, value_for, Change, change_in, PartialWave, Reached, with_key, with_value, with_change, with_moment}
 use Rattle.bs_wave.specs.WaveReading.{first_place, taken, line_or_fault, whole, wave_from, nothing_read, wave_in}
 use Rattle.bs_wave.specs.Law.{WavesReadBack}
 use Rattle.bs_wave.proofs.IdLemmas.{id_lacks}
@@ -28,23 +28,23 @@ use Rattle.bs_wave.proofs.SpelledLemmas.{scale, scope, upscope, definitions, Nam
 -- ---- one line after another
 
 -- the lines lead from one place to another
-abbrev pub Goes : Place → Begun → List (List ℕ) → Place → Begun → Type 0
+abbrev pub Goes : TextPlace → PartialWave → List (List ℕ) → TextPlace → PartialWave → Type 0
 Goes p b [] q c = (p ≡ q) × (b ≡ c)
 Goes p b (text ∷ lines) q c = (s : Reached) × (taken p b text ≡ Some s) × Goes s.0 s.1 lines q c
 
-pub goes_on : (p q r : Place) (b c d : Begun) (ls ms : List (List ℕ)) → Goes p b ls q c → Goes q c ms r d → Goes p b (ls ++ ms) r d
+pub goes_on : (p q r : TextPlace) (b c d : PartialWave) (ls ms : List (List ℕ)) → Goes p b ls q c → Goes q c ms r d → Goes p b (ls ++ ms) r d
 goes_on p q r b c d [] ms g h =
-    subst (λ (x : Begun). Goes p x ms r d) (sym g.1) (subst (λ (x : Place). Goes x c ms r d) (sym g.0) h)
+    subst (λ (x : PartialWave). Goes p x ms r d) (sym g.1) (subst (λ (x : TextPlace). Goes x c ms r d) (sym g.0) h)
 goes_on p q r b c d (l ∷ ls) ms g h = (g.0, g.1, goes_on g.0.0 q r g.0.1 c d ls ms g.2 h)
 
-pub one_line : (p : Place) (b : Begun) (text : List ℕ) (s : Reached) → taken p b text ≡ Some s → Goes p b (text ∷ []) s.0 s.1
+pub one_line : (p : TextPlace) (b : PartialWave) (text : List ℕ) (s : Reached) → taken p b text ≡ Some s → Goes p b (text ∷ []) s.0 s.1
 one_line p b text s e = (s, e, (refl, refl))
 
-went : (n : ℕ) (p q : Place) (b c : Begun) (lines : List (List ℕ)) (next : List ℕ) (more : List (List ℕ)) → Goes p b lines q c →
+went : (n : ℕ) (p q : TextPlace) (b c : PartialWave) (lines : List (List ℕ)) (next : List ℕ) (more : List (List ℕ)) → Goes p b lines q c →
     wave_from n p b (lines ++ next ∷ more) ≡ wave_from (n + length lines) q c (next ∷ more)
 went n p q b c [] next more g =
-    ap (λ (x : Place). wave_from n x b (next ∷ more)) g.0
-    ∙ (ap (λ (x : Begun). wave_from n q x (next ∷ more)) g.1 ∙ ap (λ k. wave_from k q c (next ∷ more)) (omega arith))
+    ap (λ (x : TextPlace). wave_from n x b (next ∷ more)) g.0
+    ∙ (ap (λ (x : PartialWave). wave_from n q x (next ∷ more)) g.1 ∙ ap (λ k. wave_from k q c (next ∷ more)) (omega arith))
 went n p q b c (l ∷ []) next more g =
     ap (λ o. line_or_fault n o >>= λ (s : Reached). wave_from (n + 1) s.0 s.1 (next ∷ more)) g.1
     ∙ (went (n + 1) g.0.0 q g.0.1 c [] next more g.2 ∙ ap (λ k. wave_from k q c (next ∷ more)) (omega arith))
@@ -54,7 +54,7 @@ went n p q b c (l ∷ k ∷ ls) next more g =
 
 -- ---- the nets
 
-goes_nets : (n : ℕ) (b : Begun) (keys : List (List ℕ)) → n ≡ length b.keys → Named keys →
+goes_nets : (n : ℕ) (b : PartialWave) (keys : List (List ℕ)) → n ≡ length b.keys → Named keys →
     Goes places.Net b (net_lines n keys) places.Net (record b { keys = b.keys ++ keys })
 goes_nets n b [] e named = (refl, λ i. record b { keys = sym (append-nil b.keys) i })
 goes_nets n b (key ∷ keys) e named =
@@ -68,7 +68,7 @@ goes_nets n b (key ∷ keys) e named =
 
 -- ---- the first moment
 
-goes_first : (n : ℕ) (b : Begun) (vs : List Value) → n ≡ length b.values → length b.values + length vs ≡ length b.keys →
+goes_first : (n : ℕ) (b : PartialWave) (vs : List Value) → n ≡ length b.values → length b.values + length vs ≡ length b.keys →
     Goes (first_place (length b.keys) (length b.values)) b (change_lines n [] vs) (places.Change (length b.keys)) (record b { values = b.values ++ vs })
 goes_first n b [] e total =
     let all : length b.values ≡ length b.keys = omega (arith, total) in (
@@ -86,7 +86,7 @@ goes_first n b (v ∷ vs) e total =
     (record b { values = (b.values ++ v ∷ []) ++ vs }) =
     subst (λ k. Goes (first_place (length b.keys) k) (with_value b v) (change_lines (suc n) [] vs) (places.Change (length b.keys))
     (record b { values = (b.values ++ v ∷ []) ++ vs })) long rest in
-    subst (λ (p : Place). Goes p b (value_line n v ∷ change_lines (suc n) [] vs) (places.Change (length b.keys)) (record b { values = b.values ++ v ∷ vs }))
+    subst (λ (p : TextPlace). Goes p b (value_line n v ∷ change_lines (suc n) [] vs) (places.Change (length b.keys)) (record b { values = b.values ++ v ∷ vs }))
     (sym here) (
       (first_place (length b.keys) (length b.values + 1), with_value b v),
       ap (λ o. option_map (λ value. (first_place (length b.keys) (length b.values + 1), with_value b value)) o) read,
@@ -105,10 +105,10 @@ set_middle [] u v us = refl
 set_middle (d ∷ ds) u v us = ap (λ l. d ∷ l) (set_middle ds u v us)
 
 -- some place behind the changes
-abbrev GoesLater : ℕ → Begun → List (List ℕ) → Begun → Type 0
+abbrev GoesLater : ℕ → PartialWave → List (List ℕ) → PartialWave → Type 0
 GoesLater p b lines c = (q : ℕ) × Goes (places.Change p) b lines (places.Change q) c
 
-goes_changes : (n : ℕ) (b : Begun) (p : ℕ) (done us vs : List Value) → n ≡ length done → p ≤ n → length us ≡ length vs → b.values ≡ done ++ us →
+goes_changes : (n : ℕ) (b : PartialWave) (p : ℕ) (done us vs : List Value) → n ≡ length done → p ≤ n → length us ≡ length vs → b.values ≡ done ++ us →
     GoesLater p b (change_lines n us vs) (record b { values = done ++ vs })
 goes_changes n b p done [] [] e le same is = (p, (refl, λ i. record b { values = is i }))
 goes_changes n b p done [] (v ∷ vs) e le same is = absurd (omega (arith, same))
@@ -163,21 +163,21 @@ goes_changes n b p done (u ∷ us) (v ∷ vs) e le same is =
 -- ---- moments
 
 -- the wave whose moments are those that are whole, the one under way, and some more
-abbrev wave_with : Begun → List (List Value) → Wave
+abbrev wave_with : PartialWave → List (List Value) → Wave
 wave_with b more = record { keys = b.keys; moments = b.moments ++ b.values ∷ more }
 
-record GoesMoments (p : ℕ) (b : Begun) (lines : List (List ℕ)) (w : Wave) : Type 0 where
+record GoesMoments (p : ℕ) (b : PartialWave) (lines : List (List ℕ)) (w : Wave) : Type 0 where
   last : ℕ
-  end : Begun
+  end : PartialWave
   goes : Goes (places.Change p) b lines (places.Change last) end
   is : whole end ≡ w
 
-goes_moments : (i : ℕ) (b : Begun) (p : ℕ) (ms : List (List Value)) → i ≡ length b.moments + 1 → length b.values ≡ length b.keys →
+goes_moments : (i : ℕ) (b : PartialWave) (p : ℕ) (ms : List (List Value)) → i ≡ length b.moments + 1 → length b.values ≡ length b.keys →
     Each (λ values. length values ≡ length b.keys) ms → GoesMoments p b (moment_lines i b.values ms) (wave_with b ms)
 goes_moments i b p [] e wide widths = record { last = p; end = b; goes = (refl, refl); is = refl }
 goes_moments i b p (m ∷ ms) e wide widths =
-    let c : Begun = with_moment b in
-    let d : Begun = record c { values = m } in
+    let c : PartialWave = with_moment b in
+    let d : PartialWave = record c { values = m } in
     let time : bytes_eq (time_line i) (time_line (length b.moments + 1)) ≡ true = ap (λ j. bytes_eq (time_line i) (time_line j)) (sym e) ∙
     bytes_same (time_line i) in
     let start : Goes (places.Change p) b (time_line i ∷ []) (places.Change 0) c =
@@ -201,14 +201,14 @@ goes_moments i b p (m ∷ ms) e wide widths =
 
 pub record GoesWhole (w : Wave) : Type 0 where
   pub last : ℕ
-  pub end : Begun
+  pub end : PartialWave
   pub goes : Goes places.Timescale nothing_read (wave_lines w) (places.Change last) end
   pub is : whole end ≡ w
 
 goes_head : (keys : List (List ℕ)) → Named keys →
     Goes places.Timescale nothing_read (head_lines keys) places.Start (record { keys = keys; moments = []; values = [] })
 goes_head keys named =
-    let b : Begun = record { keys = keys; moments = []; values = [] } in
+    let b : PartialWave = record { keys = keys; moments = []; values = [] } in
     let nets = goes_nets 0 nothing_read keys refl named in (
       (places.Scope, nothing_read),
       refl,
@@ -223,8 +223,8 @@ goes_head keys named =
 goes_whole : (keys : List (List ℕ)) (m : List Value) (ms : List (List Value)) → Named keys → length m ≡ length keys →
     Each (λ values. length values ≡ length keys) ms → GoesWhole (record { keys = keys; moments = m ∷ ms })
 goes_whole keys m ms named wide widths =
-    let b : Begun = record { keys = keys; moments = []; values = [] } in
-    let c : Begun = record { keys = keys; moments = []; values = m } in
+    let b : PartialWave = record { keys = keys; moments = []; values = [] } in
+    let c : PartialWave = record { keys = keys; moments = []; values = m } in
     let count : ℕ = length keys in
     let start : Goes places.Start b (time_line 0 ∷ []) (first_place count 0) b =
     one_line places.Start b (time_line 0) (first_place count 0, b) (ap (λ z. cond z (Some (first_place count 0, b)) None) (bytes_same (time_line 0))) in

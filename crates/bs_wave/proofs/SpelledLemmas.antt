@@ -13,13 +13,13 @@ use Rattle.bs_bits.specs.Lines.{line, onto_first, pieces_of, is_name}
 use Rattle.bs_bits.specs.Reading.{◌>>=◌}
 use Rattle.bs_bits.proofs.LineLemmas.{nothing_left}
 use Rattle.bs_wave.specs.declared.fault.WaveFault.TheVariants.{Line}
-use Rattle.bs_wave.specs.declared.place.Place.{Place}
-use Rattle.bs_wave.specs.declared.place.Place.TheVariants as places
+use Rattle.bs_wave.specs.declared.place.TextPlace.{TextPlace}
+use Rattle.bs_wave.specs.declared.place.TextPlace.TheVariants as places
 use Rattle.bs_wave.specs.declared.value.Value.{Value}
 use Rattle.bs_wave.specs.declared.value.Value.TheVariants.{Unknown}
 use Rattle.bs_wave.specs.declared.wave.Wave.{Wave}
 use Rattle.bs_wave.specs.WaveText.{net_line, net_lines, head_lines, time_line, value_line, change_lines, moment_lines, wave_lines, wave_text, HasWaveText}
-use Rattle.bs_wave.specs.WaveReading.{key_in, value_for, Change, change_in, Begun, Reached, when, with_key, with_value, with_change, with_moment}
+use Rattle.bs_wave.specs.WaveReading.{key_in, value_for, Change, change_in, PartialWave, Reached, when, with_key, with_value, with_change, with_moment}
 use Rattle.bs_wave.specs.WaveReading.{first_place, taken, line_or_fault, whole, ended, wave_from, nothing_read, wave_in}
 use Rattle.bs_wave.specs.Law.{WaveTextsAreExact}
 use Rattle.bs_wave.proofs.FormLemmas.{bytes_are, key_is, value_line_is, IsChange, change_is}
@@ -41,7 +41,7 @@ abbrev pub definitions : List ℕ
 definitions = codes "$enddefinitions $end"
 
 -- the lines that lead to a place
-abbrev pub lines_at : Place → Begun → List (List ℕ)
+abbrev pub lines_at : TextPlace → PartialWave → List (List ℕ)
 lines_at places.Timescale b = []
 lines_at places.Scope b = scale ∷ []
 lines_at places.Net b = scale ∷ scope ∷ net_lines 0 b.keys
@@ -54,13 +54,13 @@ abbrev pub Named : List (List ℕ) → Type 0
 Named keys = Each (λ key. is_name key ≡ true) keys
 
 -- keys alone are read
-pub record IsHead (b : Begun) : Type 0 where
+pub record IsHead (b : PartialWave) : Type 0 where
   pub named : Named b.keys
   pub moments : b.moments ≡ []
   pub values : b.values ≡ []
 
 -- values of the first moment are due
-pub record IsFirst (b : Begun) : Type 0 where
+pub record IsFirst (b : PartialWave) : Type 0 where
   pub named : Named b.keys
   pub moments : b.moments ≡ []
   pub below : length b.values < length b.keys
@@ -71,13 +71,13 @@ Tied next moments values =
     ((moments ≡ []) × (length values ≤ next)) ⊎ ((length (last_of [] moments) ≡ length values) × Agree next (last_of [] moments) values)
 
 -- the moment under way has a value for each key
-pub record IsLater (next : ℕ) (b : Begun) : Type 0 where
+pub record IsLater (next : ℕ) (b : PartialWave) : Type 0 where
   pub named : Named b.keys
   pub widths : Each (λ values. length values ≡ length b.keys) b.moments
   pub wide : length b.values ≡ length b.keys
   pub tied : Tied next b.moments b.values
 
-abbrev pub Right : Place → Begun → Type 0
+abbrev pub Right : TextPlace → PartialWave → Type 0
 Right places.Timescale b = b ≡ nothing_read
 Right places.Scope b = b ≡ nothing_read
 Right places.Net b = IsHead b
@@ -87,7 +87,7 @@ Right places.First b = IsFirst b
 Right (places.Change next) b = IsLater next b
 
 -- one line more
-abbrev pub Stepped : Place → Begun → List ℕ → Reached → Type 0
+abbrev pub Stepped : TextPlace → PartialWave → List ℕ → Reached → Type 0
 Stepped p b text s = Right s.0 s.1 × (lines_at s.0 s.1 ≡ lines_at p b ++ text ∷ [])
 
 pub each_snoc : {X : Type 0} (P : X → Type 0) (xs : List X) (x : X) → Each P xs → P x → Each P (xs ++ x ∷ [])
@@ -98,19 +98,19 @@ last_snoc : {X : Type 0} (d : X) (xs : List X) (x : X) → last_of d (xs ++ x �
 last_snoc d [] x = refl
 last_snoc d (y ∷ ys) x = last_snoc y ys x
 
-when_is : (p : Place) (b : Begun) (text : List ℕ) (z : Bool) (r s : Reached) → when z r ≡ Some s → (z ≡ true → Stepped p b text r) → Stepped p b text s
+when_is : (p : TextPlace) (b : PartialWave) (text : List ℕ) (z : Bool) (r s : Reached) → when z r ≡ Some s → (z ≡ true → Stepped p b text r) → Stepped p b text s
 when_is p b text true r s e h = let same : r ≡ s = cc in subst (Stepped p b text) same (h refl)
 when_is p b text false r s e h = absurd cc
 
 -- ---- the first moment
 
 -- a wave with one moment
-pub one_moment : (b : Begun) → b.moments ≡ [] → wave_lines (whole b) ≡ head_lines b.keys ++ time_line 0 ∷ change_lines 0 [] b.values
+pub one_moment : (b : PartialWave) → b.moments ≡ [] → wave_lines (whole b) ≡ head_lines b.keys ++ time_line 0 ∷ change_lines 0 [] b.values
 one_moment b none =
     ap (λ (ms : List (List Value)). head_lines b.keys ++ moment_lines 0 [] (ms ++ b.values ∷ [])) none
     ∙ ap (λ t. head_lines b.keys ++ time_line 0 ∷ t) (append-nil (change_lines 0 [] b.values))
 
-first_right : (b : Begun) (done : ℕ) (text : List ℕ) (p : Place) (a : Begun) → Named b.keys → b.moments ≡ [] → length b.values ≡ done →
+first_right : (b : PartialWave) (done : ℕ) (text : List ℕ) (p : TextPlace) (a : PartialWave) → Named b.keys → b.moments ≡ [] → length b.values ≡ done →
     done ≤ length b.keys → wave_lines (whole b) ≡ lines_at p a ++ text ∷ [] → Stepped p a text (first_place (length b.keys) done, b)
 first_right b done text p a named none counted le lines = by (done == length b.keys) refl
   where
@@ -134,7 +134,7 @@ first_right b done text p a named none counted le lines = by (done == length b.k
 
 -- ---- each place
 
-net_step : (b : Begun) (text : List ℕ) (s : Reached) → IsHead b → taken places.Net b text ≡ Some s → Stepped places.Net b text s
+net_step : (b : PartialWave) (text : List ℕ) (s : Reached) → IsHead b → taken places.Net b text ≡ Some s → Stepped places.Net b text s
 net_step b text s head e = by (bytes_eq text upscope) refl (key_in (length b.keys) text) refl e
   where
     by : (z : Bool) → bytes_eq text upscope ≡ z → (o : Option (List ℕ)) → key_in (length b.keys) text ≡ o →
@@ -154,7 +154,7 @@ net_step b text s head e = by (bytes_eq text upscope) refl (key_in (length b.key
               ∙ ap (λ t. net_lines 0 b.keys ++ t ∷ []) (ap (λ n. net_line n key) (zero-add (length b.keys)) ∙ sym found.is)),
         )
 
-first_step : (b : Begun) (text : List ℕ) (s : Reached) → IsFirst b → taken places.First b text ≡ Some s → Stepped places.First b text s
+first_step : (b : PartialWave) (text : List ℕ) (s : Reached) → IsFirst b → taken places.First b text ≡ Some s → Stepped places.First b text s
 first_step b text s first e = by (value_for (length b.values) text) refl e
   where
     lines : (v : Value) → text ≡ value_line (length b.values) v → wave_lines (whole (with_value b v)) ≡ wave_lines (whole b) ++ text ∷ []
@@ -176,7 +176,7 @@ first_step b text s first e = by (value_for (length b.values) text) refl e
         (omega (arith, first.below)) (lines v (value_line_is (length b.values) text v f)))
 
 -- the lines of a wave by its last moment
-by_last : (b : Begun) (values : List Value) → wave_lines (record { keys = b.keys; moments = b.moments ++ values ∷ [] }) ≡
+by_last : (b : PartialWave) (values : List Value) → wave_lines (record { keys = b.keys; moments = b.moments ++ values ∷ [] }) ≡
     (head_lines b.keys ++ (moment_lines 0 [] b.moments ++ time_line (length b.moments) ∷ [])) ++ change_lines 0 (last_of [] b.moments) values
 by_last b values =
     let h = head_lines b.keys in
@@ -187,7 +187,7 @@ by_last b values =
     ∙ (ap (λ n. m ++ time_line n ∷ c) (zero-add (length b.moments)) ∙ sym (append_assoc m (time_line (length b.moments) ∷ []) c)))
     ∙ sym (append_assoc h (m ++ time_line (length b.moments) ∷ []) c)
 
-time_step : (next : ℕ) (b : Begun) (text : List ℕ) → IsLater next b → text ≡ time_line (length b.moments + 1) →
+time_step : (next : ℕ) (b : PartialWave) (text : List ℕ) → IsLater next b → text ≡ time_line (length b.moments + 1) →
     Stepped (places.Change next) b text (places.Change 0, with_moment b)
 time_step next b text later is =
     let moments : List (List Value) = b.moments ++ b.values ∷ [] in
@@ -209,7 +209,7 @@ time_step next b text later is =
           ∙ sym (append_assoc (head_lines b.keys) (moment_lines 0 [] moments) (text ∷ [])),
     )
 
-change_step : (next : ℕ) (b : Begun) (text : List ℕ) (change : Change) → IsLater next b → IsChange next b.values text change →
+change_step : (next : ℕ) (b : PartialWave) (text : List ℕ) (change : Change) → IsLater next b → IsChange next b.values text change →
     Stepped (places.Change next) b text (places.Change (change.net + 1), with_change b change)
 change_step next b text change later is =
     ⊎_elim
@@ -247,7 +247,7 @@ change_step next b text change later is =
               ∙ (sym (append_assoc front (change_lines 0 before b.values) (text ∷ [])) ∙ ap (λ t. t ++ text ∷ []) (sym (by_last b b.values)))),
         )
 
-later_step : (next : ℕ) (b : Begun) (text : List ℕ) (s : Reached) → IsLater next b → taken (places.Change next) b text ≡ Some s →
+later_step : (next : ℕ) (b : PartialWave) (text : List ℕ) (s : Reached) → IsLater next b → taken (places.Change next) b text ≡ Some s →
     Stepped (places.Change next) b text s
 later_step next b text s later e = by (bytes_eq text (time_line (length b.moments + 1))) refl (change_in next b.values text) refl e
   where
@@ -262,7 +262,7 @@ later_step next b text s later e = by (bytes_eq text (time_line (length b.moment
         let same : (places.Change (change.net + 1), with_change b change) ≡ s = cc in
         subst (Stepped (places.Change next) b text) same (change_step next b text change later (change_is next b.values text change f))
 
-pub step : (p : Place) (b : Begun) (text : List ℕ) (s : Reached) → Right p b → taken p b text ≡ Some s → Stepped p b text s
+pub step : (p : TextPlace) (b : PartialWave) (text : List ℕ) (s : Reached) → Right p b → taken p b text ≡ Some s → Stepped p b text s
 step places.Timescale b text s right e =
     when_is places.Timescale b text (bytes_eq text scale) (places.Scope, b) s e
     (λ is. (right, ap (λ t. t ∷ []) (sym (bytes_are text scale is))))
@@ -270,7 +270,7 @@ step places.Scope b text s right e =
     when_is places.Scope b text (bytes_eq text scope) (places.Net, b) s e
     (λ is. (
       subst IsHead (sym right) (record { named = tt; moments = refl; values = refl }),
-      ap (λ (x : Begun). scale ∷ scope ∷ net_lines 0 x.keys) right ∙ ap (λ t. scale ∷ t ∷ []) (sym (bytes_are text scope is)),
+      ap (λ (x : PartialWave). scale ∷ scope ∷ net_lines 0 x.keys) right ∙ ap (λ t. scale ∷ t ∷ []) (sym (bytes_are text scope is)),
     ))
 step places.Net b text s right e = net_step b text s right e
 step places.Definitions b text s right e =
@@ -308,11 +308,11 @@ pieces_again (b ∷ bs) = by (b == 10) refl (pieces_of bs) (some_piece bs) (piec
     by false e (p ∷ []) s h = ap (λ t. b ∷ t) h
     by false e (p ∷ q ∷ ps) s h = ap (λ t. b ∷ t) h
 
-record IsRead (p : Place) (b : Begun) (pieces : List (List ℕ)) (w : Wave) : Type 0 where
+record IsRead (p : TextPlace) (b : PartialWave) (pieces : List (List ℕ)) (w : Wave) : Type 0 where
   has_text : HasWaveText w
   spells : wave_text w ≡ flat_map line (lines_at p b) ++ text_of pieces
 
-end_read : (n : ℕ) (p : Place) (b : Begun) (rest : List ℕ) (w : Wave) → Right p b → ended n p b rest ≡ Ok w → IsRead p b (rest ∷ []) w
+end_read : (n : ℕ) (p : TextPlace) (b : PartialWave) (rest : List ℕ) (w : Wave) → Right p b → ended n p b rest ≡ Ok w → IsRead p b (rest ∷ []) w
 end_read n places.Timescale b rest w right e = absurd cc
 end_read n places.Scope b rest w right e = absurd cc
 end_read n places.Net b rest w right e = absurd cc
@@ -339,7 +339,7 @@ end_read n (places.Change next) b rest w right e = by (length rest == 0) refl e
           spells = sym (ap (λ t. wave_text (whole b) ++ t) none ∙ append-nil (wave_text (whole b)));
         })
 
-all_read : (pieces : List (List ℕ)) (n : ℕ) (p : Place) (b : Begun) (w : Wave) → Right p b → wave_from n p b pieces ≡ Ok w → IsRead p b pieces w
+all_read : (pieces : List (List ℕ)) (n : ℕ) (p : TextPlace) (b : PartialWave) (w : Wave) → Right p b → wave_from n p b pieces ≡ Ok w → IsRead p b pieces w
 all_read [] n p b w right e = let r = end_read n p b [] w right e in record { has_text = r.has_text; spells = r.spells }
 all_read (rest ∷ []) n p b w right e = end_read n p b rest w right e
 all_read (text ∷ next ∷ pieces) n p b w right e =

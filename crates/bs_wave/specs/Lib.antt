@@ -2,7 +2,7 @@
 pub mod Wave
 pub mod WaveText
 pub mod WaveReading
-pub mod Begun
+pub mod PartialWave
 pub mod WayIn
 pub mod Law
 -- what inner functions promise each other

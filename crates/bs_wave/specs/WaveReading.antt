@@ -7,8 +7,8 @@ use Rattle.bs_bits.specs.Lines.{pieces_of, words_of, is_name}
 use Rattle.bs_bits.specs.Reading.{◌>>=◌}
 use Rattle.bs_wave.specs.declared.fault.WaveFault.{WaveFault}
 use Rattle.bs_wave.specs.declared.fault.WaveFault.TheVariants.{Line}
-use Rattle.bs_wave.specs.declared.place.Place.{Place}
-use Rattle.bs_wave.specs.declared.place.Place.TheVariants as places
+use Rattle.bs_wave.specs.declared.place.TextPlace.{TextPlace}
+use Rattle.bs_wave.specs.declared.place.TextPlace.TheVariants as places
 use Rattle.bs_wave.specs.declared.value.Value.{Value}
 use Rattle.bs_wave.specs.declared.value.Value.TheVariants.{Zero, One, Unknown}
 use Rattle.bs_wave.specs.declared.wave.Wave.{Wave}
@@ -75,39 +75,39 @@ change_in next values (code ∷ id) = if_other values (net_with next (length val
 -- ---- a line at its place
 
 -- what is read so far: keys, whole moments, and the values of the moment under way
-pub record Begun : Type 0 where
+pub record PartialWave : Type 0 where
   pub keys : List (List ℕ)
   pub moments : List (List Value)
   pub values : List Value
 
 -- what is read so far, and what the next line may be
 abbrev pub Reached : Type 0
-Reached = Place × Begun
+Reached = TextPlace × PartialWave
 
 abbrev pub when : Bool → Reached → Option Reached
 when allowed reached = if allowed then Some reached else None
 
-abbrev pub with_key : Begun → List ℕ → Begun
+abbrev pub with_key : PartialWave → List ℕ → PartialWave
 with_key b key = record b { keys = b.keys ++ key ∷ [] }
 
-abbrev pub with_value : Begun → Value → Begun
+abbrev pub with_value : PartialWave → Value → PartialWave
 with_value b value = record b { values = b.values ++ value ∷ [] }
 
-abbrev pub with_change : Begun → Change → Begun
+abbrev pub with_change : PartialWave → Change → PartialWave
 with_change b change = record b { values = slice_set b.values change.net change.value }
 
 -- the next moment begins with the values of the one before
-abbrev pub with_moment : Begun → Begun
+abbrev pub with_moment : PartialWave → PartialWave
 with_moment b = record b { moments = b.moments ++ b.values ∷ [] }
 
 -- in the first moment each net's value is due, and behind the last one changes
-abbrev pub first_place : ℕ → ℕ → Place
+abbrev pub first_place : ℕ → ℕ → TextPlace
 first_place count done = if done == count then places.Change done else places.First
 
 -- What a line gives at its place; none where it cannot stand there. The head is two lines. Then each net has its line, up to
 -- `$upscope $end` and `$enddefinitions $end`. The first moment gives each net a value, and each later one any nets, in net
 -- order, another value than before.
-abbrev pub taken : Place → Begun → List ℕ → Option Reached
+abbrev pub taken : TextPlace → PartialWave → List ℕ → Option Reached
 taken places.Timescale b text = when (bytes_eq text (codes "$timescale 1ns $end")) (places.Scope, b)
 taken places.Scope b text = when (bytes_eq text (codes "$scope module trace $end")) (places.Net, b)
 taken places.Net b text =
@@ -129,31 +129,31 @@ abbrev pub line_or_fault : {A : Type 0} → ℕ → Option A → Result A WaveFa
 line_or_fault number None = Err (Line number)
 line_or_fault number (Some reached) = Ok reached
 
-abbrev pub followed : ℕ → Place → Begun → List ℕ → Result Reached WaveFault
+abbrev pub followed : ℕ → TextPlace → PartialWave → List ℕ → Result Reached WaveFault
 followed number place b text = line_or_fault number (taken place b text)
 
 -- a text may end at a later line of a moment
-abbrev pub may_end : Place → Bool
+abbrev pub may_end : TextPlace → Bool
 may_end (places.Change next) = true
 may_end place = false
 
 -- the wave whose last moment is the one under way
-abbrev pub whole : Begun → Wave
+abbrev pub whole : PartialWave → Wave
 whole b = record { keys = b.keys; moments = b.moments ++ b.values ∷ [] }
 
 -- what the bytes behind the last line feed give: there are none where the text is whole
-abbrev pub ended : ℕ → Place → Begun → List ℕ → Result Wave WaveFault
+abbrev pub ended : ℕ → TextPlace → PartialWave → List ℕ → Result Wave WaveFault
 ended number place b rest = if may_end place then (if length rest == 0 then Ok (whole b) else Err (Line number)) else Err (Line number)
 
 -- the pieces of a text from a place on, where the first of them has this number
-abbrev pub wave_from : ℕ → Place → Begun → List (List ℕ) → Result Wave WaveFault
+abbrev pub wave_from : ℕ → TextPlace → PartialWave → List (List ℕ) → Result Wave WaveFault
 wave_from number place b [] = ended number place b []
 wave_from number place b (rest ∷ []) = ended number place b rest
 wave_from number place b (text ∷ next ∷ pieces) =
     followed number place b text >>= λ reached. wave_from (number + 1) reached.0 reached.1 (next ∷ pieces)
 
 -- before the first line
-abbrev pub nothing_read : Begun
+abbrev pub nothing_read : PartialWave
 nothing_read = record { keys = []; moments = []; values = [] }
 
 -- the wave whose text this is, or the first line that cannot stand in its place

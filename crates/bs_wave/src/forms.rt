@@ -3,7 +3,7 @@ ghost use Rattle.std.specs.Prelude.{◌≡◌, ◌<◌, ◌∷◌, [], length, o
 ghost use Rattle.std.specs.Str.{bytes_eq};
 ghost use Rattle.bs_bits.specs.Lines.{words_of};
 ghost use Rattle.bs_wave.specs.WaveReading.{behind, change_in, key_in, if_other, key_of, net_with, triple, triple_of, value_for, value_in};
-ghost use Rattle.bs_wave.specs.Begun.{behind_digit, change_of};
+ghost use Rattle.bs_wave.specs.PartialWave.{behind_digit, change_of};
 ghost use Rattle.bs_wave.specs.WaveText.{id_of, time_line};
 
 use crate::text::is_same;

@@ -1,18 +1,18 @@
 //! Waves: every net's value at every moment of a trace, with their text and its reading.
 //!
 //! Modules: `wave` (`Wave`, `Trace`), `value`, `decided` (nets that no input decides), `moments`
-//! (`Wave::of`), `text`, `place`, `forms`, `begun` and `reading` (`Wave::read`, line by line),
+//! (`Wave::of`), `text`, `place`, `forms`, `partial_wave` and `reading` (`Wave::read`, line by line),
 //! `tracing` (`Wave::trace`), `law`. Used above: `Wave::of` gives the wave of the trace,
 //! `IsWaveOf`, of which there is one. What is unknown at the end: `specs/Wave` and `decided`; a
 //! line: `specs/WaveText` and `specs/WaveReading`, with `text` and `forms`.
 #![tactic(auto)]
 
-mod begun;
 mod decided;
 mod fault;
 mod forms;
 mod law;
 mod moments;
+mod partial_wave;
 mod place;
 mod reading;
 mod text;

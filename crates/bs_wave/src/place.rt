@@ -2,7 +2,7 @@
 
 /// What the next line of a wave's text may be.
 #[derive(Clone, Copy, Debug, PartialEq, Eq)]
-pub enum Place {
+pub enum TextPlace {
     /// `$timescale 1ns $end`
     Timescale,
     /// `$scope module trace $end`

@@ -1,22 +1,22 @@
 //! A wave, read from its text line by line.
 ghost use Rattle.std.specs.Prelude.{◌≡◌, IfOk};
 ghost use Rattle.bs_bits.specs.Reading.{Answers};
-ghost use Rattle.bs_wave.specs.Begun.{begun_in};
+ghost use Rattle.bs_wave.specs.PartialWave.{begun_in};
 ghost use Rattle.bs_wave.specs.WaveReading.{ended, followed, may_end, nothing_read, wave_in, whole};
 ghost use Rattle.bs_wave.specs.declared.fault.WaveFault.TheVariants.{NoMemory as Want};
 
-use crate::begun::{Begun, take};
 use crate::fault::WaveFault;
-use crate::place::Place;
+use crate::partial_wave::{PartialWave, take};
+use crate::place::TextPlace;
 use crate::wave::Wave;
 use bs_bits::{List, NoMemory, whole_line};
 use std::alloc::Global;
 
 /// What is read before the first line.
-fn nothing(alloc: Global) -> Begun
+fn nothing(alloc: Global) -> PartialWave
     ensures { begun_in result ≡ nothing_read }
 {
-    Begun {
+    PartialWave {
         keys: List::new(alloc),
         moments: List::new(alloc),
         values: Vec::new(alloc),
@@ -27,10 +27,10 @@ fn nothing(alloc: Global) -> Begun
 fn follow(
     alloc: Global,
     number: u64,
-    place: Place,
-    begun: &mut Begun,
+    place: TextPlace,
+    begun: &mut PartialWave,
     line: &[u8],
-) -> Result<Place, WaveFault>
+) -> Result<TextPlace, WaveFault>
     ensures { Answers Want (λ next. (next, begun_in begun.new)) result (followed number place (begun_in begun.old) line.now) }
 {
     match take(alloc, place, begun, line)? {
@@ -40,14 +40,14 @@ fn follow(
 }
 
 /// Whether a text may end at a place.
-fn may_end(place: Place) -> bool
+fn may_end(place: TextPlace) -> bool
     ensures { result ≡ may_end place }
 {
-    matches!(place, Place::Change(_))
+    matches!(place, TextPlace::Change(_))
 }
 
 /// The wave whose moments these are, with the moment under way as the last one.
-fn wave_of(begun: Begun) -> Result<Wave, NoMemory>
+fn wave_of(begun: PartialWave) -> Result<Wave, NoMemory>
     ensures { IfOk result (λ wave. wave ≡ whole (begun_in begun)) }
 {
     let mut moments = begun.moments;
@@ -59,7 +59,7 @@ fn wave_of(begun: Begun) -> Result<Wave, NoMemory>
 }
 
 /// The wave, where the text ends at its place and behind its last line.
-fn finish(number: u64, place: Place, begun: Begun, rest: &[u8]) -> Result<Wave, WaveFault>
+fn finish(number: u64, place: TextPlace, begun: PartialWave, rest: &[u8]) -> Result<Wave, WaveFault>
     ensures { Answers Want (λ wave. wave) result (ended number place (begun_in begun) rest.now) }
 {
     if !may_end(place) {
@@ -77,7 +77,7 @@ fn read_lines(alloc: Global, bytes: &[u8]) -> Result<Wave, WaveFault>
     ensures { Answers Want (λ wave. wave) result (wave_in bytes.now) }
 {
     let mut begun = nothing(alloc);
-    let mut place = Place::Timescale;
+    let mut place = TextPlace::Timescale;
     let mut number = 1u64;
     let mut rest = bytes;
     'lines: while let Some((line, behind)) = whole_line(rest) {

@@ -1,17 +1,17 @@
 use Rattle.std.proofs.Common.{refl}
-use Rattle.bs_top_answer.proofs.AnswerLemmas.{told_as}
+use Rattle.bs_top_answer.proofs.AnswerLemmas.{diagnosed_as}
 use Rattle.bs_inspect_words.specs.Asked.{dump_in}
 use Rattle.bs_inspect_words.specs.Request.{Dump as Asked}
 use Rattle.bs_inspect.specs.Sources.{source_of, sources_of}
 use Rattle.bs_inspect.specs.Work.{to_dump}
-use Rattle.bs_inspect.proofs.WorkLemmas.{told_done, told_stop_at}
+use Rattle.bs_inspect.proofs.WorkLemmas.{diagnosed_done, diagnosed_stop_at}
 use Rattle.bs_inspect.proofs.asking.dump.Goals as goal
 
 pub returns-in-Ok : goal.returns-in-Ok
 returns-in-Ok g c =
-    told_done (source_of (sources_of (Asked (dump_in c.args.asked.now)))) _ _ c.silent.ensures refl (told_as to_dump c.in-Ok.ensures) c.tell_dump.ensures
+    diagnosed_done (source_of (sources_of (Asked (dump_in c.args.asked.now)))) _ _ c.silent.ensures refl (diagnosed_as to_dump c.in-Ok.ensures) c.tell_dump.ensures
 
 pub returns-in-Err : goal.returns-in-Err
 returns-in-Err g c =
-    told_stop_at _ (sources_of (Asked (dump_in c.args.asked.now))) _ c.dump_sources.ensures (told_as to_dump c.in-Err.ensures)
+    diagnosed_stop_at _ (sources_of (Asked (dump_in c.args.asked.now))) _ c.dump_sources.ensures (diagnosed_as to_dump c.in-Err.ensures)
     c.stop_at.ensures.reply c.stop_at.ensures.note

@@ -1,19 +1,19 @@
 use Rattle.std.proofs.Common.{refl}
-use Rattle.bs_top_answer.proofs.AnswerLemmas.{told_as}
+use Rattle.bs_top_answer.proofs.AnswerLemmas.{diagnosed_as}
 use Rattle.bs_evidence.specs.declared.evidence.Format.TheVariants.{Proof}
 use Rattle.bs_inspect_words.specs.Asked.{evidence_in}
 use Rattle.bs_inspect_words.specs.Request.{Lrat as Asked}
 use Rattle.bs_inspect.specs.Sources.{source_of, sources_of}
 use Rattle.bs_inspect.specs.Work.{to_evidence}
-use Rattle.bs_inspect.proofs.WorkLemmas.{told_done, told_stop_at}
+use Rattle.bs_inspect.proofs.WorkLemmas.{diagnosed_done, diagnosed_stop_at}
 use Rattle.bs_inspect.proofs.asking.lrat.Goals as goal
 
 pub returns-in-Ok : goal.returns-in-Ok
 returns-in-Ok g c =
-    told_done (source_of (sources_of (Asked (evidence_in c.args.asked.now)))) _ _ c.silent.ensures refl
-    (told_as (to_evidence Proof c.args.asked.now.step) c.in-Ok.ensures) c.tell_evidence.ensures
+    diagnosed_done (source_of (sources_of (Asked (evidence_in c.args.asked.now)))) _ _ c.silent.ensures refl
+    (diagnosed_as (to_evidence Proof c.args.asked.now.step) c.in-Ok.ensures) c.tell_evidence.ensures
 
 pub returns-in-Err : goal.returns-in-Err
 returns-in-Err g c =
-    told_stop_at _ (sources_of (Asked (evidence_in c.args.asked.now))) _ c.evidence_sources.ensures
-    (told_as (to_evidence Proof c.args.asked.now.step) c.in-Err.ensures) c.stop_at.ensures.reply c.stop_at.ensures.note
+    diagnosed_stop_at _ (sources_of (Asked (evidence_in c.args.asked.now))) _ c.evidence_sources.ensures
+    (diagnosed_as (to_evidence Proof c.args.asked.now.step) c.in-Err.ensures) c.stop_at.ensures.reply c.stop_at.ensures.note

@@ -1,10 +1,10 @@
-use Rattle.bs_top_answer.proofs.AnswerLemmas.{told_as}
+use Rattle.bs_top_answer.proofs.AnswerLemmas.{diagnosed_as}
 use Rattle.std.proofs.Common.{ℕ, Bor, List, map, sym, refl}
 use Rattle.bs_inspect_words.specs.Request.{Request, Page}
 use Rattle.bs_inspect.specs.Asked.{page_for}
 use Rattle.bs_inspect.specs.Sources.{source_of, sources_of}
 use Rattle.bs_inspect.specs.Work.{to_page}
-use Rattle.bs_inspect.proofs.WorkLemmas.{noted_with, told_done, told_stop_at}
+use Rattle.bs_inspect.proofs.WorkLemmas.{noted_with, diagnosed_done, diagnosed_stop_at}
 use Rattle.bs_inspect.proofs.asking.page.Goals as goal
 
 pub returns-in-Ok : goal.returns-in-Ok
@@ -13,7 +13,7 @@ returns-in-Ok g c =
     λ xs. Page (record { netlist = c.args.asked.now.netlist.now; report = c.args.asked.now.report.now; most = c.args.asked.now.most; only = map (λ s. s.now) xs }) in
     let slice : List (Bor (List ℕ)) = c.as_slice-only.result.now in
     noted_with request c.args.asked.now.only.items slice _ (sym c.as_slice-only.ensures.value)
-    (told_done (source_of (sources_of (request slice))) _ _ c.silent.ensures refl (told_as (to_page (page_for c.args.asked.now.netlist.now c.args.asked.now.report.now (map (λ s. s.now) slice) c.args.asked.now.most)) c.in-Ok.ensures) c.tell_page.ensures)
+    (diagnosed_done (source_of (sources_of (request slice))) _ _ c.silent.ensures refl (diagnosed_as (to_page (page_for c.args.asked.now.netlist.now c.args.asked.now.report.now (map (λ s. s.now) slice) c.args.asked.now.most)) c.in-Ok.ensures) c.tell_page.ensures)
 
 pub returns-in-Err : goal.returns-in-Err
 returns-in-Err g c =
@@ -21,5 +21,5 @@ returns-in-Err g c =
     λ xs. Page (record { netlist = c.args.asked.now.netlist.now; report = c.args.asked.now.report.now; most = c.args.asked.now.most; only = map (λ s. s.now) xs }) in
     let slice : List (Bor (List ℕ)) = c.as_slice-only.result.now in
     noted_with request c.args.asked.now.only.items slice _ (sym c.as_slice-only.ensures.value)
-    (told_stop_at _ (sources_of (request slice)) _ c.traced_sources.ensures (told_as (to_page (page_for c.args.asked.now.netlist.now c.args.asked.now.report.now (map (λ s. s.now) slice) c.args.asked.now.most)) c.in-Err.ensures)
+    (diagnosed_stop_at _ (sources_of (request slice)) _ c.trace_sources.ensures (diagnosed_as (to_page (page_for c.args.asked.now.netlist.now c.args.asked.now.report.now (map (λ s. s.now) slice) c.args.asked.now.most)) c.in-Err.ensures)
     c.stop_at.ensures.reply c.stop_at.ensures.note)

@@ -3,16 +3,16 @@ use Rattle.bs_inspect_words.specs.Asked.{request_in}
 use Rattle.bs_inspect_words.specs.Request.{Help, Version}
 use Rattle.bs_inspect.specs.Sources.{source_of, sources_of}
 use Rattle.bs_inspect.specs.Work.{to_help, to_version}
-use Rattle.bs_inspect.proofs.WorkLemmas.{noted_asked, told_alone}
+use Rattle.bs_inspect.proofs.WorkLemmas.{noted_asked, diagnosed_alone}
 use Rattle.bs_inspect.proofs.asking.request_answer.Goals as goal
 
 pub returns-in-Help : goal.returns-in-Help
 returns-in-Help g c =
-    noted_asked _ _ Help (ap request_in c.in-Help.is) (told_alone to_help (source_of (sources_of Help)) _ _ c.silent.ensures refl c.tell_usage.ensures)
+    noted_asked _ _ Help (ap request_in c.in-Help.is) (diagnosed_alone to_help (source_of (sources_of Help)) _ _ c.silent.ensures refl c.tell_usage.ensures)
 
 pub returns-in-Version : goal.returns-in-Version
 returns-in-Version g c =
-    noted_asked _ _ Version (ap request_in c.in-Version.is) (told_alone to_version (source_of (sources_of Version)) _ _ c.silent-in-Version.ensures refl c.tell_version.ensures)
+    noted_asked _ _ Version (ap request_in c.in-Version.is) (diagnosed_alone to_version (source_of (sources_of Version)) _ _ c.silent-in-Version.ensures refl c.tell_version.ensures)
 
 pub returns-in-Trace : goal.returns-in-Trace
 returns-in-Trace g c = noted_asked _ _ _ (ap request_in c.in-Trace.is) c.trace.ensures

@@ -1,16 +1,16 @@
 use Rattle.std.proofs.Common.{refl}
-use Rattle.bs_top_answer.proofs.AnswerLemmas.{told_as}
+use Rattle.bs_top_answer.proofs.AnswerLemmas.{diagnosed_as}
 use Rattle.bs_inspect_words.specs.Request.{StepsTable as Asked}
 use Rattle.bs_inspect.specs.Sources.{source_of, sources_of}
 use Rattle.bs_inspect.specs.Work.{to_steps_table}
-use Rattle.bs_inspect.proofs.WorkLemmas.{told_done, told_stop_at}
+use Rattle.bs_inspect.proofs.WorkLemmas.{diagnosed_done, diagnosed_stop_at}
 use Rattle.bs_inspect.proofs.asking.steps_table.Goals as goal
 
 pub returns-in-Ok : goal.returns-in-Ok
 returns-in-Ok g c =
-    told_done (source_of (sources_of (Asked c.args.report.now))) _ _ c.silent.ensures refl (told_as to_steps_table c.in-Ok.ensures.walks) c.tell_steps_table.ensures
+    diagnosed_done (source_of (sources_of (Asked c.args.report.now))) _ _ c.silent.ensures refl (diagnosed_as to_steps_table c.in-Ok.ensures.walks) c.tell_steps_table.ensures
 
 pub returns-in-Err : goal.returns-in-Err
 returns-in-Err g c =
-    told_stop_at _ (sources_of (Asked c.args.report.now)) _ c.report_source.ensures (told_as to_steps_table c.in-Err.ensures.walks)
+    diagnosed_stop_at _ (sources_of (Asked c.args.report.now)) _ c.report_source.ensures (diagnosed_as to_steps_table c.in-Err.ensures.walks)
     c.stop_at.ensures.reply c.stop_at.ensures.note

@@ -1,6 +1,6 @@
 use Rattle.std.proofs.Common.{ℕ, Bor, List, Option, map, refl, sym}
 use Rattle.std.specs.Option.{option_map}
-use Rattle.bs_top_answer.proofs.AnswerLemmas.{told_as, told_stopped, told_work}
+use Rattle.bs_top_answer.proofs.AnswerLemmas.{diagnosed_as, diagnosed_stopped, diagnosed_work}
 use Rattle.bs_inspect_words.specs.Request.{Request, Stimulus}
 use Rattle.bs_inspect.specs.Finishes.{finishes}
 use Rattle.bs_inspect.specs.Said.{WorkSaid}
@@ -18,7 +18,7 @@ returns-in-Ok g c =
     λ xs. Stimulus (record { netlist = c.args.asked.now.netlist.now; vcds = map (λ s. s.now) xs; clock = clock; scope = scope; names = names }) in
     let slice : List (Bor (List ℕ)) = c.as_slice-vcds.result.now in
     noted_with request c.args.asked.now.vcds.items slice _ (sym c.as_slice-vcds.ensures.value)
-    (told_work WorkSaid (source_of (sources_of (request slice))) _ is_work (told_as (to_runs clock) c.in-Ok.ensures)
+    (diagnosed_work WorkSaid (source_of (sources_of (request slice))) _ is_work (diagnosed_as (to_runs clock) c.in-Ok.ensures)
     c.runs_answer.ensures.reply c.runs_answer.ensures.note)
 
 pub returns-in-Err : goal.returns-in-Err
@@ -30,5 +30,5 @@ returns-in-Err g c =
     λ xs. Stimulus (record { netlist = c.args.asked.now.netlist.now; vcds = map (λ s. s.now) xs; clock = clock; scope = scope; names = names }) in
     let slice : List (Bor (List ℕ)) = c.as_slice-vcds.result.now in
     noted_with request c.args.asked.now.vcds.items slice _ (sym c.as_slice-vcds.ensures.value)
-    (told_stopped finishes WorkSaid (source_of (sources_of (request slice))) _ (told_as (to_runs clock) c.in-Err.ensures)
+    (diagnosed_stopped finishes WorkSaid (source_of (sources_of (request slice))) _ (diagnosed_as (to_runs clock) c.in-Err.ensures)
     c.stop_values.ensures.reply c.stop_values.ensures.note)

@@ -1,7 +1,7 @@
 use Rattle.std.proofs.Common.{◌*◌}
 use Rattle.bs_net.specs.Netlist.{circuit}
 use Rattle.bs_stim.specs.Runs.{inputs_of}
-use Rattle.bs_inspect_film.specs.Kept.{IsKept, KeepsRuns}
+use Rattle.bs_inspect_film.specs.StateTable.{IsKept, KeepsRuns}
 use Rattle.bs_inspect_film.proofs.listing.list_all.Given as goal
 
 abbrev pub invariant-groups : goal.invariant-groups

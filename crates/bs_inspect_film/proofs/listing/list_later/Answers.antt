@@ -3,9 +3,9 @@ use Rattle.std.specs.List.{range_with_len}
 use Rattle.bs_net.specs.Netlist.{circuit}
 use Rattle.bs_stim.specs.Runs.{inputs_of}
 use Rattle.bs_scan.specs.Moments.{state_at}
-use Rattle.bs_inspect_film.specs.Film.{run_in}
-use Rattle.bs_inspect_film.specs.Kept.{states_in, steps_in}
-use Rattle.bs_inspect_film.specs.Looked.{step_at}
+use Rattle.bs_inspect_film.specs.Simulation.{run_in}
+use Rattle.bs_inspect_film.specs.StateTable.{states_in, steps_in}
+use Rattle.bs_inspect_film.specs.SimulatedStates.{step_at}
 use Rattle.bs_inspect_film.specs.Rows.{kept_rows}
 use Rattle.bs_inspect_film.proofs.ListingLemmas.{state_width}
 use Rattle.bs_inspect_film.proofs.listing.list_later.Goals as goal

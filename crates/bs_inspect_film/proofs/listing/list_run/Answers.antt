@@ -1,7 +1,7 @@
 use Rattle.bs_net.specs.Netlist.{circuit}
 use Rattle.bs_stim.specs.Runs.{inputs_of}
-use Rattle.bs_inspect_film.specs.Film.{run_in}
-use Rattle.bs_inspect_film.proofs.ListingLemmas.{last_short, last_shot, state_width}
+use Rattle.bs_inspect_film.specs.Simulation.{run_in}
+use Rattle.bs_inspect_film.proofs.ListingLemmas.{last_short, last_simulated, state_width}
 use Rattle.bs_inspect_film.proofs.listing.list_run.Goals as goal
 
 pub keep_first-requires-clause-wide : goal.keep_first-requires-clause-wide
@@ -14,7 +14,7 @@ list_later-requires-clause-lasts c =
     last_short c.args.runs.now c.args.first c.args.lane c.cycles.result c.args.cycles c.min-last.result c.requires.there c.cycles.ensures.count
     c.min-last.ensures
 
-pub list_later-requires-clause-shot : goal.list_later-requires-clause-shot
-list_later-requires-clause-shot c =
-    last_shot c.args.runs.now c.args.first c.args.lane c.cycles.result c.args.cycles c.min-last.result c.args.film.now c.requires.there
-    c.cycles.ensures.count c.min-last.ensures c.requires.shot
+pub list_later-requires-clause-simulated : goal.list_later-requires-clause-simulated
+list_later-requires-clause-simulated c =
+    last_simulated c.args.runs.now c.args.first c.args.lane c.cycles.result c.args.cycles c.min-last.result c.args.simulation.now c.requires.there
+    c.cycles.ensures.count c.min-last.ensures c.requires.simulated

@@ -1,8 +1,8 @@
 use Rattle.bs_net.specs.Netlist.{circuit}
 use Rattle.bs_stim.specs.Runs.{inputs_of}
-use Rattle.bs_inspect_film.specs.Film.{run_in}
-use Rattle.bs_inspect_film.specs.Looked.{run_states}
-use Rattle.bs_inspect_film.proofs.KeptLemmas.{states_full}
+use Rattle.bs_inspect_film.specs.Simulation.{run_in}
+use Rattle.bs_inspect_film.specs.SimulatedStates.{run_states}
+use Rattle.bs_inspect_film.proofs.StateTableLemmas.{states_full}
 use Rattle.bs_inspect_film.proofs.listing.list_unless_full.Goals as goal
 
 pub returns-then-is_full-clause-states : goal.returns-then-is_full-clause-states

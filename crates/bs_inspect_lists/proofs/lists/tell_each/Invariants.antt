@@ -1,7 +1,7 @@
 use Rattle.std.proofs.Common.{◌≡◌, ◌≤◌}
 use Rattle.bs_net.specs.Netlist.{circuit}
 use Rattle.bs_stim.specs.Runs.{inputs_of}
-use Rattle.bs_inspect_lists.proofs.ToldLemmas.{TellsSo}
+use Rattle.bs_inspect_lists.proofs.MomentCountLemmas.{TellsSo}
 use Rattle.bs_inspect_lists.proofs.lists.tell_each.Given as goal
 
 abbrev pub invariant-moments : goal.invariant-moments
@@ -10,5 +10,5 @@ invariant-moments l = record {
   about : l.preimage.circuit ≡ circuit l.net;
   chosen : l.preimage.choice ≡ l.choice;
   calls : l.preimage.calls ≤ l.k;
-  so : TellsSo (circuit l.net) l.choice (inputs_of l.runs) l.told.items l.spent l.k;
+  so : TellsSo (circuit l.net) l.choice (inputs_of l.runs) l.counts.items l.spent l.k;
 }

@@ -1,7 +1,7 @@
 use Rattle.std.proofs.Common.{◌≡◌, ◌++◌}
 use Rattle.std.specs.List.{flat_map, range_with_len}
 use Rattle.bs_net.specs.Netlist.{parts_of}
-use Rattle.bs_inspect_netlist.specs.Told.{flop_at_line}
+use Rattle.bs_inspect_netlist.specs.Lines.{flop_at_line}
 use Rattle.bs_inspect_netlist.proofs.bits.push_flops.Given as goal
 
 abbrev pub invariant-flops : goal.invariant-flops

@@ -1,6 +1,6 @@
 use Rattle.std.proofs.Common.{◌≡◌, ◌++◌}
 use Rattle.std.specs.List.{flat_map, range_with_len}
-use Rattle.bs_inspect_netlist.specs.Told.{input_at_line}
+use Rattle.bs_inspect_netlist.specs.Lines.{input_at_line}
 use Rattle.bs_inspect_netlist.proofs.bits.push_inputs.Given as goal
 
 abbrev pub invariant-inputs : goal.invariant-inputs

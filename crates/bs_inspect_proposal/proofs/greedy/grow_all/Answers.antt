@@ -1,5 +1,5 @@
 use Rattle.std.proofs.Common.{arith, length}
-use Rattle.bs_inspect_proposal.specs.Begun.{begun_in}
+use Rattle.bs_inspect_proposal.specs.PartialChoice.{begun_in}
 use Rattle.bs_inspect_proposal.proofs.GreedyLemmas.{classes_here, columns_count, columns_wide, grown, nothing_begun}
 use Rattle.bs_inspect_proposal.proofs.greedy.grow_all.Goals as goal
 

@@ -1,4 +1,4 @@
-use Rattle.bs_inspect_proposal.specs.Begun.{begun_in, IsUnderWay}
+use Rattle.bs_inspect_proposal.specs.PartialChoice.{begun_in, IsUnderWay}
 use Rattle.bs_inspect_proposal.proofs.greedy.grow_all.Given as goal
 
 abbrev pub invariant-items : goal.invariant-items

@@ -1,5 +1,5 @@
 use Rattle.std.proofs.Common.{length}
-use Rattle.bs_inspect_proposal.specs.Begun.{begun_in}
+use Rattle.bs_inspect_proposal.specs.PartialChoice.{begun_in}
 use Rattle.bs_inspect_proposal.proofs.GreedyLemmas.{one_more}
 use Rattle.bs_inspect_proposal.proofs.greedy.put_found.Goals as goal
 

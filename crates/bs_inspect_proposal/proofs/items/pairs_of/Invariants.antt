@@ -1,5 +1,5 @@
 use Rattle.std.proofs.Common.{◌≡◌, map, take}
-use Rattle.bs_inspect_film.specs.Kept.{step_row}
+use Rattle.bs_inspect_film.specs.StateTable.{step_row}
 use Rattle.bs_inspect_proposal.proofs.items.pairs_of.Given as goal
 
 abbrev pub invariant-steps : goal.invariant-steps

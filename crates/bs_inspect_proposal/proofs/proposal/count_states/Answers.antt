@@ -1,5 +1,5 @@
 use Rattle.std.proofs.Common.{ℕ, min, ap, ◌∙◌}
-use Rattle.bs_inspect_film.specs.declared.kept.TheConstants.{MAX_ROWS}
+use Rattle.bs_inspect_film.specs.declared.state_table.TheConstants.{MAX_ROWS}
 use Rattle.bs_inspect_proposal.proofs.ProposalLemmas.{states_count}
 use Rattle.bs_inspect_proposal.proofs.proposal.count_states.Goals as goal
 

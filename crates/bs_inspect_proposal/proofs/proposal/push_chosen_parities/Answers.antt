@@ -1,4 +1,4 @@
-use Rattle.bs_inspect_film.specs.Kept.{states_of, steps_of}
+use Rattle.bs_inspect_film.specs.StateTable.{states_of, steps_of}
 use Rattle.bs_inspect_proposal.proofs.ProposalLemmas.{parities_whole}
 use Rattle.bs_inspect_proposal.proofs.proposal.push_chosen_parities.Goals as goal
 

@@ -2,7 +2,7 @@ use Rattle.std.proofs.Common.{List, length, map, ap, ◌∙◌}
 use Rattle.std.specs.Prelude.{codes}
 use Rattle.bs_scan.specs.ChoiceText.{chosen}
 use Rattle.bs_inspect_proposal.specs.Apart.{states_apart, steps_apart}
-use Rattle.bs_inspect_film.specs.Kept.{Step, states_of, step_row, steps_of}
+use Rattle.bs_inspect_film.specs.StateTable.{Step, states_of, step_row, steps_of}
 use Rattle.bs_inspect_proposal.specs.Sharing.{tally_of}
 use Rattle.bs_inspect_proposal.proofs.ApartLemmas.{own_states_apart, own_steps_apart}
 use Rattle.bs_inspect_proposal.proofs.LineLemmas.{states_small, steps_small, tallies_whole}

@@ -1,5 +1,5 @@
 use Rattle.std.proofs.Common.{ℕ, min, take, refl, ap, ◌∙◌}
-use Rattle.bs_inspect_film.specs.declared.kept.TheConstants.{MAX_ROWS}
+use Rattle.bs_inspect_film.specs.declared.state_table.TheConstants.{MAX_ROWS}
 use Rattle.bs_inspect_proposal.proofs.ProposalLemmas.{states_taken}
 use Rattle.bs_inspect_proposal.proofs.proposal.states.Goals as goal
 

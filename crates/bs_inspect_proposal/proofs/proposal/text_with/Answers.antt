@@ -1,4 +1,4 @@
-use Rattle.bs_inspect_film.specs.Kept.{states_of, steps_of}
+use Rattle.bs_inspect_film.specs.StateTable.{states_of, steps_of}
 use Rattle.bs_inspect_proposal.proofs.ProposalLemmas.{proposes}
 use Rattle.bs_inspect_proposal.proofs.proposal.text_with.Goals as goal
 

@@ -1,10 +1,10 @@
 use Rattle.std.proofs.Common.{◌≡◌, ◌++◌, map, take}
 use Rattle.std.specs.Option.{option_map}
 use Rattle.bs_net_names.specs.Signals.{signal_in}
-use Rattle.bs_inspect_report.specs.Signal.{signals_told}
+use Rattle.bs_inspect_report.specs.Signal.{signals_lines}
 use Rattle.bs_inspect_report.proofs.signal.push_signals.Given as goal
 
 abbrev pub invariant-signals : goal.invariant-signals
 invariant-signals l =
     l.text.items
-    ≡ l.initial.text.items ++ signals_told l.kind l.cycle (option_map (λ b. b.now) l.before) l.now (map signal_in (take l.signal-index l.signals))
+    ≡ l.initial.text.items ++ signals_lines l.kind l.cycle (option_map (λ b. b.now) l.before) l.now (map signal_in (take l.signal-index l.signals))

@@ -1,7 +1,7 @@
 use Rattle.std.proofs.Common.{◌≡◌, ◌++◌}
 use Rattle.std.specs.List.{flat_map, range_with_len}
 use Rattle.bs_inspect_report.specs.Table.{state_row}
-use Rattle.bs_inspect_report.specs.Told.{signals_in}
+use Rattle.bs_inspect_report.specs.Lines.{signals_in}
 use Rattle.bs_inspect_report.proofs.table.push_state_rows.Given as goal
 
 abbrev pub invariant-states : goal.invariant-states

@@ -6,12 +6,12 @@ use Rattle.bs_top_files.specs.Refusals.{Case}
 use Rattle.std.specs.declared.alloc.Global.{Global}
 use Rattle.bs_inspect_notes.specs.declared.name.Subject.TheVariants.{Flops}
 use Rattle.bs_top_plan.specs.declared.file.File.TheVariants as files
-use Rattle.bs_top_plan.proofs.TellingLemmas.{told_read, told_then}
+use Rattle.bs_top_plan.proofs.TellingLemmas.{diagnosed_read, diagnosed_then}
 use Rattle.bs_inspect_values.specs.Saying.{names_noted}
 use Rattle.bs_inspect_values.specs.Simulated.{names_read}
 use Rattle.bs_inspect_values.specs.Dumped.{states_looked, states_of, taking_in}
 use Rattle.bs_inspect_values.proofs.DumpedLemmas.{names_wide}
-use Rattle.bs_inspect_values.proofs.WalkLemmas.{told_refused, told_with}
+use Rattle.bs_inspect_values.proofs.WalkLemmas.{diagnosed_refused, diagnosed_with}
 use Rattle.bs_inspect_values.proofs.dumping.load_by_names.Goals as goal
 
 pub returns-in-Ok-clause-walks : goal.returns-in-Ok-clause-walks
@@ -20,9 +20,9 @@ returns-in-Ok-clause-walks g c =
     let plan : List (List ℕ) → Plan Case (List (List Bool)) = λ ns. states_of keys ns (taking_in c.args.taking) in
     let looked : List (List ℕ) → Plan NoteCase (List (List Bool)) = λ ns. states_looked keys ns (taking_in c.args.taking) in
     let view : Vec (Bor (List ℕ)) Global → List (List ℕ) = λ v. map (λ n. n.now) v.items in
-    told_then {view = view} {seen = view} plan looked
-    (told_read {view = view} {seen = view} files.Map (names_read keys c.args.text.now) (names_noted Flops c.args.path.now keys c.args.text.now) (Ok c.in-Ok.names) refl c.in-Ok.ensures.words c.in-Ok.ensures.note)
-    (told_with plan looked (map (λ n. n.now) c.as_slice-names.result.now) (map (λ n. n.now) c.in-Ok.names.items)
+    diagnosed_then {view = view} {seen = view} plan looked
+    (diagnosed_read {view = view} {seen = view} files.Map (names_read keys c.args.text.now) (names_noted Flops c.args.path.now keys c.args.text.now) (Ok c.in-Ok.names) refl c.in-Ok.ensures.words c.in-Ok.ensures.note)
+    (diagnosed_with plan looked (map (λ n. n.now) c.as_slice-names.result.now) (map (λ n. n.now) c.in-Ok.names.items)
     (ap (λ (ns : List (Bor (List ℕ))). map (λ n. n.now) ns) c.as_slice-names.ensures.value) c.load_states.ensures.walks)
 
 pub returns-in-Ok-clause-wide : goal.returns-in-Ok-clause-wide
@@ -36,6 +36,6 @@ returns-in-Err-clause-walks g c =
     let plan : List (List ℕ) → Plan Case (List (List Bool)) = λ ns. states_of keys ns (taking_in c.args.taking) in
     let looked : List (List ℕ) → Plan NoteCase (List (List Bool)) = λ ns. states_looked keys ns (taking_in c.args.taking) in
     let view : Vec (Bor (List ℕ)) Global → List (List ℕ) = λ v. map (λ n. n.now) v.items in
-    rw c.settle_told.ensures
-    (told_refused view view files.Map (names_read keys c.args.text.now) (names_noted Flops c.args.path.now keys c.args.text.now) plan looked c.in-Err.unread
+    rw c.settle_diagnostic.ensures
+    (diagnosed_refused view view files.Map (names_read keys c.args.text.now) (names_noted Flops c.args.path.now keys c.args.text.now) plan looked c.in-Err.unread
     c.in-Err.ensures.words c.in-Err.ensures.note)

@@ -4,7 +4,7 @@ use Rattle.bs_top_plan.specs.Plan.{Plan, end}
 use Rattle.bs_top_files.specs.NoteCases.{NoteCase}
 use Rattle.bs_top_files.specs.Refusals.{Case}
 use Rattle.bs_scan.specs.Choice.{Chosen}
-use Rattle.bs_top_plan.proofs.TellingLemmas.{told_stop, told_then}
+use Rattle.bs_top_plan.proofs.TellingLemmas.{diagnosed_stop, diagnosed_then}
 use Rattle.bs_inspect_values.specs.Dumped.{Dumped, dump_step, dump_step_looked, files_in}
 use Rattle.bs_inspect_values.proofs.dumping.load_by_signature.Goals as goal
 
@@ -12,10 +12,10 @@ pub returns-in-Ok : goal.returns-in-Ok
 returns-in-Ok g c =
     let f : Chosen → Plan Case Dumped = λ choice. dump_step (files_in c.args.files) c.args.net.now.raw (Some choice) in
     let h : Chosen → Plan NoteCase Dumped = λ choice. dump_step_looked (files_in c.args.files) c.args.net.now.raw (Some choice) in
-    told_then f h c.in-Ok.ensures.walks c.load_signed.ensures
+    diagnosed_then f h c.in-Ok.ensures.walks c.load_signed.ensures
 
 pub returns-in-Err : goal.returns-in-Err
 returns-in-Err g c =
     let f : Chosen → Plan Case Dumped = λ choice. dump_step (files_in c.args.files) c.args.net.now.raw (Some choice) in
     let h : Chosen → Plan NoteCase Dumped = λ choice. dump_step_looked (files_in c.args.files) c.args.net.now.raw (Some choice) in
-    told_stop f h c.in-Err.ensures.walks
+    diagnosed_stop f h c.in-Err.ensures.walks

@@ -4,7 +4,7 @@ use Rattle.bs_top_plan.specs.Plan.{Plan, end}
 use Rattle.bs_top_files.specs.NoteCases.{NoteCase}
 use Rattle.bs_top_files.specs.Refusals.{Case}
 use Rattle.bs_inspect_values.specs.Dumped.{Dumped, chosen_step, chosen_step_looked, files_in}
-use Rattle.bs_inspect_values.proofs.WalkLemmas.{told_with}
+use Rattle.bs_inspect_values.proofs.WalkLemmas.{diagnosed_with}
 use Rattle.bs_inspect_values.proofs.dumping.load_chosen.Goals as goal
 
 pub returns-in-Some : goal.returns-in-Some
@@ -12,11 +12,11 @@ returns-in-Some g c =
     let plan : Option (Bor (List ℕ)) → Plan Case Dumped = λ o. chosen_step (files_in c.args.files) c.args.net.now.raw (option_map (λ s. s.now) o) in
     let looked : Option (Bor (List ℕ)) → Plan NoteCase Dumped =
     λ o. chosen_step_looked (files_in c.args.files) c.args.net.now.raw (option_map (λ s. s.now) o) in
-    told_with plan looked _ _ (sym c.in-Some.is) c.load_by_signature.ensures
+    diagnosed_with plan looked _ _ (sym c.in-Some.is) c.load_by_signature.ensures
 
 pub returns-in-None : goal.returns-in-None
 returns-in-None g c =
     let plan : Option (Bor (List ℕ)) → Plan Case Dumped = λ o. chosen_step (files_in c.args.files) c.args.net.now.raw (option_map (λ s. s.now) o) in
     let looked : Option (Bor (List ℕ)) → Plan NoteCase Dumped =
     λ o. chosen_step_looked (files_in c.args.files) c.args.net.now.raw (option_map (λ s. s.now) o) in
-    told_with plan looked _ _ (sym c.in-None.is) c.load_plain.ensures
+    diagnosed_with plan looked _ _ (sym c.in-None.is) c.load_plain.ensures

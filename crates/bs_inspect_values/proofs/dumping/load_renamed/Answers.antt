@@ -6,14 +6,14 @@ use Rattle.bs_top_files.specs.Refusals.{Case}
 use Rattle.bs_inspect_report.specs.Keys.{flop_keys}
 use Rattle.bs_inspect_values.specs.Dumped.{states_step, states_step_looked, taking_in}
 use Rattle.bs_inspect_values.proofs.DumpedLemmas.{flops_wide}
-use Rattle.bs_inspect_values.proofs.WalkLemmas.{told_want, told_with}
+use Rattle.bs_inspect_values.proofs.WalkLemmas.{diagnosed_want, diagnosed_with}
 use Rattle.bs_inspect_values.proofs.dumping.load_renamed.Goals as goal
 
 pub returns-in-Ok-clause-walks : goal.returns-in-Ok-clause-walks
 returns-in-Ok-clause-walks g c =
     let plan : List (List ℕ) → Plan Case (List (List Bool)) = λ ks. states_step ks c.args.text.now (taking_in c.args.taking) in
     let looked : List (List ℕ) → Plan NoteCase (List (List Bool)) = λ ks. states_step_looked c.args.path.now ks c.args.text.now (taking_in c.args.taking) in
-    told_with plan looked (map (λ k. k.now) c.as_slice-keys.result.now) (flop_keys c.args.net.now.raw)
+    diagnosed_with plan looked (map (λ k. k.now) c.as_slice-keys.result.now) (flop_keys c.args.net.now.raw)
     (ap (λ (ks : List (Bor (List ℕ))). map (λ k. k.now) ks) c.as_slice-keys.ensures.value ∙ c.in-Ok.ensures) c.load_by_names.ensures.walks
 
 pub returns-in-Ok-clause-wide : goal.returns-in-Ok-clause-wide
@@ -22,4 +22,4 @@ returns-in-Ok-clause-wide g c =
     c.load_by_names.ensures.wide
 
 pub returns-in-Err-clause-walks : goal.returns-in-Err-clause-walks
-returns-in-Err-clause-walks g c = told_want _ _
+returns-in-Err-clause-walks g c = diagnosed_want _ _

@@ -4,7 +4,7 @@ use Rattle.std.specs.Result.{IfOk}
 use Rattle.std.specs.Option.{option_map}
 use Rattle.std.proofs.lemmas.Result.{err_from_is_err_and}
 use Rattle.bs_top_plan.specs.declared.file.File.TheVariants as files
-use Rattle.bs_top_plan.proofs.TellingLemmas.{told_fetch_stop, told_reads}
+use Rattle.bs_top_plan.proofs.TellingLemmas.{diagnosed_fetch_stop, diagnosed_reads}
 use Rattle.bs_inspect_values.specs.Saying.{states_noted}
 use Rattle.bs_inspect_values.specs.Dumped.{states_read}
 use Rattle.bs_inspect_values.proofs.WalkLemmas.{settled_if}
@@ -13,7 +13,7 @@ use Rattle.bs_inspect_values.proofs.dumping.load_states.Goals as goal
 pub returns-in_err-bytes-clause-walks : goal.returns-in_err-bytes-clause-walks
 returns-in_err-bytes-clause-walks g c =
     let p = err_from_is_err_and c.from_residual.result c.from_residual.ensures.1 in
-    rw (p.1, p.2) (told_fetch_stop _ _ c.in_err-bytes.ensures)
+    rw (p.1, p.2) (diagnosed_fetch_stop _ _ c.in_err-bytes.ensures)
 
 pub returns-clause-walks : goal.returns-clause-walks
 returns-clause-walks g c =
@@ -21,17 +21,17 @@ returns-clause-walks g c =
     let names : List (List ℕ) = map (λ n. n.now) c.args.names.now in
     let scope : Option (List ℕ) = option_map (λ s. s.now) c.args.taking.scope in
     let clock : List ℕ = c.args.taking.clock.now in
-    told_reads (states_read keys names scope clock c.args.taking.at c.args.taking.back)
+    diagnosed_reads (states_read keys names scope clock c.args.taking.at c.args.taking.back)
     (states_noted c.args.taking.vcd.now keys names scope clock c.args.taking.at c.args.taking.back) _ _
-    c.deref.ensures.value c.settle_told.ensures c.in_ok-bytes.ensures c.states_or_told.ensures.words c.states_or_told.ensures.note
+    c.deref.ensures.value c.settle_diagnostic.ensures c.in_ok-bytes.ensures c.states_or_diagnostic.ensures.words c.states_or_diagnostic.ensures.note
 
 pub returns-clause-some : goal.returns-clause-some
 returns-clause-some g c =
-    subst (λ r. IfOk r (λ states. 0 < length states)) (sym c.settle_told.ensures)
-    (settled_if (λ (states : List (List Bool)). 0 < length states) files.Vcd c.states_or_told.result c.states_or_told.ensures.some)
+    subst (λ r. IfOk r (λ states. 0 < length states)) (sym c.settle_diagnostic.ensures)
+    (settled_if (λ (states : List (List Bool)). 0 < length states) files.Vcd c.states_or_diagnostic.result c.states_or_diagnostic.ensures.some)
 
 pub returns-clause-wide : goal.returns-clause-wide
 returns-clause-wide g c =
-    subst (λ r. IfOk r (λ states. All (λ s. length s ≡ length c.args.names.now) states)) (sym c.settle_told.ensures)
-    (settled_if (λ (states : List (List Bool)). All (λ s. length s ≡ length c.args.names.now) states) files.Vcd c.states_or_told.result
-    c.states_or_told.ensures.wide)
+    subst (λ r. IfOk r (λ states. All (λ s. length s ≡ length c.args.names.now) states)) (sym c.settle_diagnostic.ensures)
+    (settled_if (λ (states : List (List Bool)). All (λ s. length s ≡ length c.args.names.now) states) files.Vcd c.states_or_diagnostic.result
+    c.states_or_diagnostic.ensures.wide)

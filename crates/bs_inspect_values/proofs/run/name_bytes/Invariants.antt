@@ -1,5 +1,5 @@
 use Rattle.std.proofs.Common.{◌≡◌, map, take}
-use Rattle.bs_inspect_values.specs.Run.{name_byte}
+use Rattle.bs_inspect_values.specs.SimulatedRun.{name_byte}
 use Rattle.bs_inspect_values.proofs.run.name_bytes.Given as goal
 
 abbrev pub invariant-bytes : goal.invariant-bytes

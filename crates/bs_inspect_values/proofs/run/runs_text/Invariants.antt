@@ -1,5 +1,5 @@
 use Rattle.std.proofs.Common.{◌≡◌, map, take}
-use Rattle.bs_inspect_values.specs.Run.{run_in, runs_text}
+use Rattle.bs_inspect_values.specs.SimulatedRun.{run_in, runs_text}
 use Rattle.bs_inspect_values.proofs.run.runs_text.Given as goal
 
 abbrev pub invariant-runs : goal.invariant-runs

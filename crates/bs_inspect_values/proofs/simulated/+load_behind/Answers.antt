@@ -1,5 +1,5 @@
 use Rattle.std.proofs.Common.{ℕ, List, map}
-use Rattle.bs_inspect_values.specs.Run.{run_in}
+use Rattle.bs_inspect_values.specs.SimulatedRun.{run_in}
 use Rattle.bs_inspect_values.specs.Simulated.{clocked_in}
 use Rattle.bs_inspect_values.proofs.SimulatedLemmas.{no_texts, none_left, one_more, one_stops}
 use Rattle.bs_inspect_values.proofs.simulated.+load_behind.Goals as goal

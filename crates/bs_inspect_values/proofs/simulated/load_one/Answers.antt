@@ -5,10 +5,10 @@ use Rattle.bs_top_files.specs.NoteCases.{NoteCase}
 use Rattle.bs_top_files.specs.Refusals.{Case}
 use Rattle.bs_stim.specs.Runs.{Recorded}
 use Rattle.bs_top_plan.specs.Plan.{end}
-use Rattle.bs_top_plan.proofs.TellingLemmas.{told_stop, told_then}
-use Rattle.bs_inspect_values.specs.Run.{run_in, simulated}
+use Rattle.bs_top_plan.proofs.TellingLemmas.{diagnosed_stop, diagnosed_then}
+use Rattle.bs_inspect_values.specs.SimulatedRun.{run_in, simulated}
 use Rattle.std.specs.Prelude.{◌++◌, ◌∷◌, []}
-use Rattle.bs_inspect_values.proofs.WalkLemmas.{told_put}
+use Rattle.bs_inspect_values.proofs.WalkLemmas.{diagnosed_put}
 use Rattle.bs_inspect_values.proofs.simulated.load_one.Goals as goal
 
 pub returns-in-Ok : goal.returns-in-Ok
@@ -16,11 +16,11 @@ returns-in-Ok g c =
     let old : List Recorded = map run_in c.args.runs.now.items in
     let f : List (List Bool) → Plan Case (List Recorded) = λ lines. end (old ++ simulated c.args.vcd.now lines ∷ []) in
     let h : List (List Bool) → Plan NoteCase (List Recorded) = λ lines. end (old ++ simulated c.args.vcd.now lines ∷ []) in
-    told_then f h c.in-Ok.ensures (told_put _ _ _ c.put_or_stop.ensures.done c.put_or_stop.ensures.want)
+    diagnosed_then f h c.in-Ok.ensures (diagnosed_put _ _ _ c.put_or_stop.ensures.done c.put_or_stop.ensures.want)
 
 pub returns-in-Err : goal.returns-in-Err
 returns-in-Err g c =
     let old : List Recorded = map run_in c.args.runs.now.items in
     let f : List (List Bool) → Plan Case (List Recorded) = λ lines. end (old ++ simulated c.args.vcd.now lines ∷ []) in
     let h : List (List Bool) → Plan NoteCase (List Recorded) = λ lines. end (old ++ simulated c.args.vcd.now lines ∷ []) in
-    told_stop f h c.in-Err.ensures
+    diagnosed_stop f h c.in-Err.ensures

@@ -5,7 +5,7 @@ use Rattle.bs_top_files.specs.NoteCases.{NoteCase}
 use Rattle.bs_top_files.specs.Refusals.{Case}
 use Rattle.bs_inspect_report.specs.Keys.{input_keys}
 use Rattle.bs_inspect_values.specs.Simulated.{Sampled, clocked_in, run_looked, run_of}
-use Rattle.bs_inspect_values.proofs.WalkLemmas.{told_with}
+use Rattle.bs_inspect_values.proofs.WalkLemmas.{diagnosed_with}
 use Rattle.bs_inspect_values.proofs.simulated.load_run.Goals as goal
 
 pub returns-in-Some : goal.returns-in-Some
@@ -14,7 +14,7 @@ returns-in-Some g c =
     let plan : Option (Bor (List ℕ)) → Plan Case Sampled = λ o. run_of (input_keys c.args.net.now.raw) (option_map (λ s. s.now) o) (clocked_in c.args.at) vcds in
     let looked : Option (Bor (List ℕ)) → Plan NoteCase Sampled =
     λ o. run_looked (input_keys c.args.net.now.raw) (option_map (λ s. s.now) o) (clocked_in c.args.at) vcds in
-    told_with plan looked _ _ (sym c.in-Some.is) c.load_named.ensures
+    diagnosed_with plan looked _ _ (sym c.in-Some.is) c.load_named.ensures
 
 pub returns-in-None : goal.returns-in-None
 returns-in-None g c =
@@ -22,4 +22,4 @@ returns-in-None g c =
     let plan : Option (Bor (List ℕ)) → Plan Case Sampled = λ o. run_of (input_keys c.args.net.now.raw) (option_map (λ s. s.now) o) (clocked_in c.args.at) vcds in
     let looked : Option (Bor (List ℕ)) → Plan NoteCase Sampled =
     λ o. run_looked (input_keys c.args.net.now.raw) (option_map (λ s. s.now) o) (clocked_in c.args.at) vcds in
-    told_with plan looked _ _ (sym c.in-None.is) c.load_keyed.ensures
+    diagnosed_with plan looked _ _ (sym c.in-None.is) c.load_keyed.ensures

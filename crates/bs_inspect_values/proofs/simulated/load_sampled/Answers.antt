@@ -6,10 +6,10 @@ use Rattle.bs_top_files.specs.Refusals.{Case}
 use Rattle.std.proofs.Common.{[]}
 use Rattle.bs_stim.specs.Runs.{Recorded}
 use Rattle.bs_top_plan.specs.Plan.{end}
-use Rattle.bs_top_plan.proofs.TellingLemmas.{told_stop, told_then}
-use Rattle.bs_inspect_values.specs.Run.{is_data, run_in}
+use Rattle.bs_top_plan.proofs.TellingLemmas.{diagnosed_stop, diagnosed_then}
+use Rattle.bs_inspect_values.specs.SimulatedRun.{is_data, run_in}
 use Rattle.bs_inspect_values.specs.Simulated.{Sampled, clocked_in, runs_behind, runs_behind_looked, sampled_in}
-use Rattle.bs_inspect_values.proofs.WalkLemmas.{told_ends, told_with}
+use Rattle.bs_inspect_values.proofs.WalkLemmas.{diagnosed_ends, diagnosed_with}
 use Rattle.bs_inspect_values.proofs.simulated.load_sampled.Goals as goal
 
 pub returns-in-Ok : goal.returns-in-Ok
@@ -19,10 +19,10 @@ returns-in-Ok g c =
     let vcds : List (List ℕ) = map (λ s. s.now) c.args.vcds.now in
     let f : List Recorded → Plan Case Sampled = λ runs. end record { data_clock = is_data c.args.at.clock.now names; runs = runs } in
     let h : List Recorded → Plan NoteCase Sampled = λ runs. end record { data_clock = is_data c.args.at.clock.now names; runs = runs } in
-    told_then f h
-    (told_with (λ (old : List Recorded). runs_behind keys names (clocked_in c.args.at) old vcds)
+    diagnosed_then f h
+    (diagnosed_with (λ (old : List Recorded). runs_behind keys names (clocked_in c.args.at) old vcds)
     (λ (old : List Recorded). runs_behind_looked keys names (clocked_in c.args.at) old vcds) _ [] (ap (map run_in) c.new-runs.ensures.items) c.in-Ok.ensures)
-    (told_ends sampled_in _ _ (λ i. record { data_clock = c.is_data-data_clock.ensures i; runs = map run_in c.load_behind.new.runs.items }))
+    (diagnosed_ends sampled_in _ _ (λ i. record { data_clock = c.is_data-data_clock.ensures i; runs = map run_in c.load_behind.new.runs.items }))
 
 pub returns-in-Err : goal.returns-in-Err
 returns-in-Err g c =
@@ -31,6 +31,6 @@ returns-in-Err g c =
     let vcds : List (List ℕ) = map (λ s. s.now) c.args.vcds.now in
     let f : List Recorded → Plan Case Sampled = λ runs. end record { data_clock = is_data c.args.at.clock.now names; runs = runs } in
     let h : List Recorded → Plan NoteCase Sampled = λ runs. end record { data_clock = is_data c.args.at.clock.now names; runs = runs } in
-    told_stop f h
-    (told_with (λ (old : List Recorded). runs_behind keys names (clocked_in c.args.at) old vcds)
+    diagnosed_stop f h
+    (diagnosed_with (λ (old : List Recorded). runs_behind keys names (clocked_in c.args.at) old vcds)
     (λ (old : List Recorded). runs_behind_looked keys names (clocked_in c.args.at) old vcds) _ [] (ap (map run_in) c.new-runs.ensures.items) c.in-Err.ensures)

@@ -4,7 +4,7 @@ use Rattle.bs_top_plan.specs.Plan.{Plan}
 use Rattle.bs_top_files.specs.NoteCases.{NoteCase}
 use Rattle.bs_top_files.specs.Refusals.{Case}
 use Rattle.bs_net.specs.Parts.{Parts}
-use Rattle.bs_top_plan.proofs.TellingLemmas.{told_stop, told_then}
+use Rattle.bs_top_plan.proofs.TellingLemmas.{diagnosed_stop, diagnosed_then}
 use Rattle.bs_inspect_values.specs.Simulated.{Simulated, clocked_in, run_step, run_step_looked}
 use Rattle.bs_inspect_values.proofs.simulated.load_simulated.Goals as goal
 
@@ -14,7 +14,7 @@ returns-in-Ok g c =
     let names : Option (List ℕ) = option_map (λ s. s.now) c.args.names in
     let f : Parts → Plan Case Simulated = λ raw. run_step raw names (clocked_in c.args.at) vcds in
     let h : Parts → Plan NoteCase Simulated = λ raw. run_step_looked raw names (clocked_in c.args.at) vcds in
-    told_then f h c.in-Ok.ensures c.load_runs.ensures
+    diagnosed_then f h c.in-Ok.ensures c.load_runs.ensures
 
 pub returns-in-Err : goal.returns-in-Err
 returns-in-Err g c =
@@ -22,4 +22,4 @@ returns-in-Err g c =
     let names : Option (List ℕ) = option_map (λ s. s.now) c.args.names in
     let f : Parts → Plan Case Simulated = λ raw. run_step raw names (clocked_in c.args.at) vcds in
     let h : Parts → Plan NoteCase Simulated = λ raw. run_step_looked raw names (clocked_in c.args.at) vcds in
-    told_stop f h c.in-Err.ensures
+    diagnosed_stop f h c.in-Err.ensures

@@ -1,10 +1,10 @@
 use Rattle.std.proofs.Common.{◌∙◌}
-use Rattle.bs_top_files.specs.Ready.{crashed_in}
+use Rattle.bs_top_files.specs.Ready.{crash_files_in}
 use Rattle.bs_top.proofs.ReplyLemmas.{reports_said, reports_told}
 use Rattle.bs_top.proofs.backtracing.chip_answer.Goals as goal
 
 pub returns-in-Ok : goal.returns-in-Ok
 returns-in-Ok c = record {
-  done = reports_told _ _ c.in-Ok.ensures.backtrace c.told.ensures.status c.told.ensures.text;
-  said = reports_said (crashed_in c.args.crashed.now) _ _ _ (c.trace.ensures.chip ∙ c.requires.chip) c.told.ensures.text c.told.ensures.note;
+  done = reports_told _ _ c.in-Ok.ensures.backtrace c.answer_of.ensures.status c.answer_of.ensures.text;
+  said = reports_said (crash_files_in c.args.crash_files.now) _ _ _ (c.trace.ensures.chip ∙ c.requires.chip) c.answer_of.ensures.text c.answer_of.ensures.note;
 }

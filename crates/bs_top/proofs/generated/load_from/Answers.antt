@@ -3,7 +3,7 @@ use Rattle.bs_top.proofs.ToldLemmas.{alone_of, told_line, told_note}
 use Rattle.bs_top.proofs.generated.load_from.Goals as goal
 
 pub returns-clause-line : goal.returns-clause-line
-returns-clause-line c = alone_of c.args.number _ _ (told_line c.args.number) c.requires (line_walks c.load_placed-placed.ensures)
+returns-clause-line c = alone_of c.args.number _ _ (told_line c.args.number) c.requires (line_walks c.load_moment_files-moment_files.ensures)
 
 pub returns-clause-note : goal.returns-clause-note
-returns-clause-note c = alone_of c.args.number _ _ (told_note c.args.number) c.requires (note_walks c.load_placed-placed.ensures)
+returns-clause-note c = alone_of c.args.number _ _ (told_note c.args.number) c.requires (note_walks c.load_moment_files-moment_files.ensures)

@@ -1,4 +1,4 @@
-use Rattle.bs_top_answer.proofs.AnswerLemmas.{stop_named, told_as, told_stopped, told_work}
+use Rattle.bs_top_answer.proofs.AnswerLemmas.{stop_named, diagnosed_as, diagnosed_stopped, diagnosed_work}
 use Rattle.bs_top_answer.specs.Paths.{path_of}
 use Rattle.bs_top.specs.Work.{to_reach}
 use Rattle.bs_top.specs.Finishes.{finishes}
@@ -10,9 +10,9 @@ use Rattle.bs_top.proofs.reaching.reach.Goals as goal
 
 pub returns-in-Ok : goal.returns-in-Ok
 returns-in-Ok g c =
-    told_work WorkSaid (path_of (paths_of (Asked (reach_job c.args.job.now)))) _ is_work (told_as (to_reach c.args.job.now.conflicts) c.in-Ok.ensures) c.reached.ensures.done c.reached.ensures.said
+    diagnosed_work WorkSaid (path_of (paths_of (Asked (reach_job c.args.job.now)))) _ is_work (diagnosed_as (to_reach c.args.job.now.conflicts) c.in-Ok.ensures) c.reached.ensures.done c.reached.ensures.said
 
 pub returns-in-Err : goal.returns-in-Err
 returns-in-Err g c =
-    told_stopped finishes WorkSaid (path_of (paths_of (Asked (reach_job c.args.job.now)))) _ (told_as (to_reach c.args.job.now.conflicts) c.in-Err.ensures)
+    diagnosed_stopped finishes WorkSaid (path_of (paths_of (Asked (reach_job c.args.job.now)))) _ (diagnosed_as (to_reach c.args.job.now.conflicts) c.in-Err.ensures)
     c.stop_answer.ensures.reply (stop_named _ _ c.reach_paths.ensures c.stop_answer.ensures.note)

@@ -5,12 +5,12 @@ use Rattle.bs_top.proofs.WorkLemmas.{finished}
 use Rattle.bs_top.specs.Work.{to_reach}
 use Rattle.bs_top.proofs.reaching.reach_answer.Goals as goal
 
-pub told-requires : goal.told-requires
-told-requires c = reach_has_states _ _ _ _ _ c.in-Ok.ensures
+pub answer_of-requires : goal.answer_of-requires
+answer_of-requires c = reach_has_states _ _ _ _ _ c.in-Ok.ensures
 
 pub returns-in-Ok : goal.returns-in-Ok
 returns-in-Ok c = record {
   done = finished (to_reach c.args.conflicts (target_in c.args.target.now)) _ c.means_design.ensures
-      (answers_told _ _ c.in-Ok.ensures c.told.ensures.status c.told.ensures.text);
-  said = answers_said _ _ c.told.ensures.text c.told.ensures.note;
+      (answers_told _ _ c.in-Ok.ensures c.answer_of.ensures.status c.answer_of.ensures.text);
+  said = answers_said _ _ c.answer_of.ensures.text c.answer_of.ensures.note;
 }

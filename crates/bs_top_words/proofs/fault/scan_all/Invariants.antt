@@ -1,5 +1,5 @@
 use Rattle.std.proofs.Common.{◌≡◌, ◌≤◌, ◌+◌, drop, map, string_bytes}
-use Rattle.bs_top_words.specs.declared.fault.Due.TheVariants.{Any}
+use Rattle.bs_top_words.specs.declared.fault.NextWord.TheVariants.{Any}
 use Rattle.bs_top_words.specs.Faults.{scan_all, scanned}
 use Rattle.bs_top_words.proofs.fault.scan_all.Given as goal
 

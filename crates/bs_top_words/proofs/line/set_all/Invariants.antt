@@ -1,6 +1,6 @@
 use Rattle.std.proofs.Common.{◌≡◌, drop, map}
 use Rattle.bs_top_words.specs.Asked.{setting_of}
-use Rattle.bs_top_words.specs.Line.{set_all}
+use Rattle.bs_top_words.specs.CommandLine.{set_all}
 use Rattle.bs_top_words.specs.Shown.{line_in}
 use Rattle.bs_top_words.proofs.line.set_all.Given as goal
 

@@ -1,6 +1,6 @@
 use Rattle.std.proofs.Common.{map}
 use Rattle.bs_vcd_header.specs.Header.{variable_in}
-use Rattle.bs_vcd_header.specs.Index.{IsIndex, places_in, tags_in}
+use Rattle.bs_vcd_header.specs.TagIndex.{IsIndex, places_in, tags_in}
 use Rattle.bs_vcd_header.proofs.index.index_of.Given as goal
 
 abbrev pub invariant-variables : goal.invariant-variables

@@ -1,6 +1,6 @@
 use Rattle.std.proofs.Common.{ap, sym, ◌∙◌}
 use Rattle.bs_net_names.specs.Keys.{parts_in}
-use Rattle.bs_vcd_header.specs.Index.{places_in, tag_of}
+use Rattle.bs_vcd_header.specs.TagIndex.{places_in, tag_of}
 use Rattle.bs_vcd_header.proofs.IndexLemmas.{from_before, from_last, from_smaller}
 use Rattle.bs_vcd_header.proofs.index.source_by.Goals as goal
 

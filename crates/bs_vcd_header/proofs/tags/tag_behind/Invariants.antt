@@ -1,5 +1,5 @@
 use Rattle.std.proofs.Common.{◌≡◌, take}
-use Rattle.bs_vcd_header.specs.Index.{tag_behind}
+use Rattle.bs_vcd_header.specs.TagIndex.{tag_behind}
 use Rattle.bs_vcd_header.proofs.tags.tag_behind.Given as goal
 
 abbrev pub invariant-bytes : goal.invariant-bytes

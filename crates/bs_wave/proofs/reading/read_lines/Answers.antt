@@ -1,9 +1,9 @@
 use Rattle.std.proofs.Common.{ap, sym, arith}
 use Rattle.std.proofs.lemmas.Result.{err_from_is_err_and}
-use Rattle.bs_wave.specs.declared.place.Place.TheVariants.{Timescale}
+use Rattle.bs_wave.specs.declared.place.TextPlace.TheVariants.{Timescale}
 use Rattle.bs_bits.specs.Lines.{pieces_of}
-use Rattle.bs_wave.specs.Begun.{begun_in}
-use Rattle.bs_wave.specs.WaveReading.{Begun, wave_from, wave_in}
+use Rattle.bs_wave.specs.PartialWave.{begun_in}
+use Rattle.bs_wave.specs.WaveReading.{PartialWave, wave_from, wave_in}
 use Rattle.bs_wave.proofs.ReadingLemmas.{line_read, line_faulty}
 use Rattle.bs_wave.proofs.reading.read_lines.Goals as goal
 
@@ -11,7 +11,7 @@ pub lines-init : goal.lines-init
 unfolding wave_in
 lines-init c =
     record {
-      whole = ap (λ (b : Begun). wave_from 1 Timescale b (pieces_of c.args.bytes.now)) (sym c.nothing-begun.ensures);
+      whole = ap (λ (b : PartialWave). wave_from 1 Timescale b (pieces_of c.args.bytes.now)) (sym c.nothing-begun.ensures);
       counted = omega arith;
     }
 

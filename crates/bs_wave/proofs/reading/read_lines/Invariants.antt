@@ -1,6 +1,6 @@
 use Rattle.std.proofs.Common.{◌≡◌, ◌+◌, ◌≤◌, length}
 use Rattle.bs_bits.specs.Lines.{pieces_of}
-use Rattle.bs_wave.specs.Begun.{begun_in}
+use Rattle.bs_wave.specs.PartialWave.{begun_in}
 use Rattle.bs_wave.specs.WaveReading.{wave_from, wave_in}
 use Rattle.bs_wave.proofs.reading.read_lines.Given as goal
 

@@ -1,8 +1,0 @@
-use Rattle.bs_top_plan.proofs.TellingLemmas.{told_stop, told_then}
-use Rattle.bs_inspect_files.proofs.tracing.load_traced.Goals as goal
-
-pub returns-in-Ok : goal.returns-in-Ok
-returns-in-Ok g c = told_then _ _ c.in-Ok.ensures c.load_reported.ensures
-
-pub returns-in-Err : goal.returns-in-Err
-returns-in-Err g c = told_stop _ _ c.in-Err.ensures
