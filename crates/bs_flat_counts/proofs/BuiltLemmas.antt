@@ -28,7 +28,7 @@ use Rattle.bs_verilog_scope.specs.Keys.{text, scalar_key, constant_key}
 use Rattle.bs_verilog_scope.specs.Nets.{net_of, with_keys}
 use Rattle.bs_verilog_scope.specs.Declaring.{keys_of, first_over}
 use Rattle.bs_verilog_scope.proofs.NumberLemmas.{with_keys-room, with_keys-append, few_step}
-use Rattle.bs_verilog.specs.declared.placing.Made.{Made}
+use Rattle.bs_verilog.specs.declared.placing.NetTable.{NetTable}
 use Rattle.bs_verilog.specs.declared.building.Built.{Built}
 use Rattle.bs_verilog.specs.declared.terminals.Pins.{Pins}
 use Rattle.bs_verilog.specs.Terminals.{term_of, is_single, is_gate, is_assignment, cell_pins}
@@ -53,15 +53,15 @@ each_counts R count step same on g b (x ∷ xs) =
 -- ---- names
 
 -- names stay, and are at most `MAX_NETS`; a constant comes only with a new name
-record Adds (before after : Made) : Type 0 where
+record Adds (before after : NetTable) : Type 0 where
   grows : length before.names ≤ length after.names
   few : length before.names ≤ MAX_NETS → length after.names ≤ MAX_NETS
   consts : length after.consts + length before.names ≤ length before.consts + length after.names
 
-adds_none : (made : Made) → Adds made made
+adds_none : (made : NetTable) → Adds made made
 adds_none made = record { grows = omega arith; few = λ h. h; consts = omega arith }
 
-adds_on : (a b c : Made) → Adds a b → Adds b c → Adds a c
+adds_on : (a b c : NetTable) → Adds a b → Adds b c → Adds a c
 adds_on a b c x y =
     let gx = x.grows in
     let gy = y.grows in
@@ -84,10 +84,10 @@ key_new names key e = by (number_of names key) refl e
     by None found f = let same = ap length (appended names key found) in omega (arith, same, length-append names (key ∷ []))
 
 -- the net of a term, with what is made
-abbrev Places : Made → NetId × Made → Type 0
+abbrev Places : NetTable → NetId × NetTable → Type 0
 Places made x = Adds made x.1
 
-implicit_adds : (key : List ℕ) (n : Name) (index : Option ℕ) (made : Made) → Gives (Places made) (implicit_net key n index made)
+implicit_adds : (key : List ℕ) (n : Name) (index : Option ℕ) (made : NetTable) → Gives (Places made) (implicit_net key n index made)
 unfolding implicit_net
 implicit_adds key n index made =
     gives_if (Places made) (is_full made.names key) _ _ (λ _. gives_err (Places made) (TooManyNets n.at))
@@ -98,7 +98,7 @@ implicit_adds key n index made =
     gives_ok (Places made) (net_of (with_key made.names key) key, record { names = with_key made.names key; consts = made.consts })
     (record { grows = grows; few = key_few made.names key full; consts = omega (arith, grows) })))
 
-constant_adds : (at : ℕ) (b : Bool) (made : Made) → Gives (Places made) (constant_net at b made)
+constant_adds : (at : ℕ) (b : Bool) (made : NetTable) → Gives (Places made) (constant_net at b made)
 unfolding constant_net
 constant_adds at b made =
     let key = constant_key b in
@@ -113,7 +113,7 @@ constant_adds at b made =
     gives_ok (Places made) (net, record { names = names; consts = made.consts ++ record { net = net; value = b } ∷ [] })
     (record { grows = omega (arith, more); few = key_few made.names key full; consts = omega (arith, more, one) })))
 
-term_adds : (table : List (List ℕ)) (scope : ℕ → Option Says) (t : Term) (made : Made) → Gives (Places made) (term_net table scope t made)
+term_adds : (table : List (List ℕ)) (scope : ℕ → Option Says) (t : Term) (made : NetTable) → Gives (Places made) (term_net table scope t made)
 unfolding term_net named_net
 term_adds table scope (Constant at b) made = constant_adds at b made
 term_adds table scope (Named n index) made = by (scope n.id)
@@ -125,18 +125,18 @@ term_adds table scope (Named n index) made = by (scope n.id)
     by None = implicit_adds (scalar_key (text table n)) n index made
 
 -- the nets of so many connections more
-record AddsNets (n : ℕ) (before after : List NetId × Made) : Type 0 where
+record AddsNets (n : ℕ) (before after : List NetId × NetTable) : Type 0 where
   made : Adds before.1 after.1
   nets : length after.0 ≤ length before.0 + n
 
-connection_adds : (table : List (List ℕ)) (scope : ℕ → Option Says) (before : List NetId × Made) (c : Connection)
+connection_adds : (table : List (List ℕ)) (scope : ℕ → Option Says) (before : List NetId × NetTable) (c : Connection)
     → Gives (AddsNets 1 before) (with_connection table scope before c)
 unfolding with_connection
 connection_adds table scope before c = by (term_of c)
   where
     by : (o : Option Term)
         → Gives (AddsNets 1 before)
-        (elim o as (λ _. Result (List NetId × Made) VerilogFault) [
+        (elim o as (λ _. Result (List NetId × NetTable) VerilogFault) [
           | Some t ↦ term_net table scope t before.1 >>= λ placed. Ok (before.0 ++ placed.0 ∷ [], placed.1)
           | None ↦ Ok before
         ])
@@ -147,13 +147,13 @@ connection_adds table scope before c = by (term_of c)
         (record { made = p; nets = omega (arith, length-append before.0 (placed.0 ∷ [])) }))
     by None = gives_ok (AddsNets 1 before) before (record { made = adds_none before.1; nets = omega arith })
 
-nets_on : (n m : ℕ) (a b c : List NetId × Made) → AddsNets n a b → AddsNets m b c → AddsNets (n + m) a c
+nets_on : (n m : ℕ) (a b c : List NetId × NetTable) → AddsNets n a b → AddsNets m b c → AddsNets (n + m) a c
 nets_on n m a b c x y =
     let nx = x.nets in
     let ny = y.nets in
     record { made = adds_on a.1 b.1 c.1 x.made y.made; nets = omega (arith, nx, ny) }
 
-connections_add : (table : List (List ℕ)) (scope : ℕ → Option Says) (cs : List Connection) (made : Made)
+connections_add : (table : List (List ℕ)) (scope : ℕ → Option Says) (cs : List Connection) (made : NetTable)
     → Gives (AddsNets (total one_each cs) ([], made)) (connection_nets table scope cs made)
 connections_add table scope cs made =
     each_counts AddsNets one_each (with_connection table scope) (λ b. record { made = adds_none b.1; nets = omega arith }) nets_on

@@ -12,7 +12,7 @@ ghost use Rattle.bs_top_files.specs.Refusals.{CheckSays};
 ghost use Rattle.bs_inspect_words.specs.Asked.{shown_request};
 ghost use Rattle.bs_inspect_words.specs.Request.{request_of};
 ghost use Rattle.bs_inspect_notes.specs.Usages.{memory_text, words_text};
-ghost use Rattle.bs_inspect.specs.Answers.{AnswersWords, planned};
+ghost use Rattle.bs_inspect.specs.Answers.{planned};
 ghost use Rattle.bs_inspect.specs.Finishes.{finishes};
 ghost use Rattle.bs_inspect.specs.Said.{WordsSaid};
 ghost use Rattle.bs_inspect.specs.Work.{plan_of};
@@ -20,7 +20,7 @@ ghost use Rattle.bs_inspect.specs.Work.{plan_of};
 use crate::asking::request_answer;
 use bs_inspect_notes::words_note;
 use bs_inspect_words::{Request, read_request};
-use bs_outside::{Deaf, NoMemory, Shelf, Sink, put_text};
+use bs_outside::{NoMemory, Shelf, Sink, put_text};
 use bs_top_answer::{Response, deliver_noted, note_made};
 use bs_top_plan::{Status, refused_words};
 use std::alloc::Global;
@@ -140,16 +140,4 @@ pub fn inspect_noted<S: Shelf, K: Sink, N: Sink>(
             Err(want)
         }
     }
-}
-
-/// The same, where nobody hears the note.
-pub fn inspect<S: Shelf, K: Sink>(
-    alloc: Global,
-    words: &[String],
-    shelf: &mut S,
-    out: &mut K,
-) -> Result<Status, NoMemory>
-    ensures { AnswersWords S.held S.faults S.leads shelf.old shelf.new K.written K.faults K.leads out.old out.new (map string_bytes words.now) result }
-{
-    inspect_noted(alloc, words, shelf, out, &mut Deaf)
 }

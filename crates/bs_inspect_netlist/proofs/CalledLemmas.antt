@@ -6,7 +6,7 @@ use Rattle.std.specs.List.{flat_map}
 use Rattle.std.proofs.lemmas.Grind.{flat_map-append}
 use Rattle.std.proofs.lemmas.List.{drop_more, drop_all, take_more, map-append, append-nil}
 use Rattle.bs_net.specs.Parts.{Parts}
-use Rattle.bs_inspect_netlist.specs.Called.{called_line, called_lines, first_uncalled, first_unnamed, is_called, nets_named}
+use Rattle.bs_inspect_netlist.specs.Called.{called_line, called_lines, first_unnamed, nets_named}
 
 abbrev bytes : List (Bor (List ℕ)) → List (List ℕ)
 bytes names = map (λ s. s.now) names
@@ -26,27 +26,6 @@ lines_more r sources names i d old before after lt e f =
     ∙ ap (λ (t : List ℕ). flat_map piece (bytes (take i names)) ++ t) (append-nil (piece name))) in
     f ∙ (ap (λ (t : List ℕ). t ++ piece name) e
     ∙ (append_assoc old (flat_map piece (bytes (take i names))) (piece name) ∙ ap (λ (t : List ℕ). old ++ t) (sym put)))
-
--- ---- the first name without a flip-flop
-
-abbrev uncalled : Parts → List ℕ → List (Bor (List ℕ)) → Option (List ℕ)
-uncalled r sources names = first_uncalled r sources (map (λ s. s.now) names)
-
-pub uncalled_more : (r : Parts) (sources : List ℕ) (names : List (Bor (List ℕ))) (i : ℕ) (d : Bor (List ℕ)) → i < length names →
-    first_uncalled r sources (map (λ s. s.now) names) ≡ first_uncalled r sources (map (λ s. s.now) (drop i names)) →
-    true ≡ is_called r sources (get_or names i d).now →
-    first_uncalled r sources (map (λ s. s.now) names) ≡ first_uncalled r sources (map (λ s. s.now) (drop (i + 1) names))
-uncalled_more r sources names i d lt e is = e ∙ (ap (uncalled r sources) (drop_more names i d lt) ∙ rw (sym is) refl)
-
-pub uncalled_found : (r : Parts) (sources : List ℕ) (names : List (Bor (List ℕ))) (i : ℕ) (d : Bor (List ℕ)) → i < length names →
-    first_uncalled r sources (map (λ s. s.now) names) ≡ first_uncalled r sources (map (λ s. s.now) (drop i names)) →
-    false ≡ is_called r sources (get_or names i d).now → Some (get_or names i d).now ≡ first_uncalled r sources (map (λ s. s.now) names)
-uncalled_found r sources names i d lt e is = sym (e ∙ (ap (uncalled r sources) (drop_more names i d lt) ∙ rw (sym is) refl))
-
-pub uncalled_none : (r : Parts) (sources : List ℕ) (names : List (Bor (List ℕ))) (i : ℕ) → length names ≤ i →
-    first_uncalled r sources (map (λ s. s.now) names) ≡ first_uncalled r sources (map (λ s. s.now) (drop i names)) →
-    None ≡ first_uncalled r sources (map (λ s. s.now) names)
-uncalled_none r sources names i le e = sym (e ∙ ap (uncalled r sources) (drop_all i names le))
 
 -- ---- the first name that no net has
 

@@ -1,5 +1,5 @@
 -- The flip-flops that names stand for, through every net that shows their values (docs/FORMATS.md, "Texts of `backspace_inspect`").
-use Rattle.std.specs.Prelude.{◌≡◌, ℕ, ◌==◌, Bool, not, List, [], ◌∷◌, ◌++◌, length, codes, slice_index_or, Option, if◌then◌else◌}
+use Rattle.std.specs.Prelude.{◌≡◌, ℕ, ◌==◌, Bool, List, [], ◌∷◌, ◌++◌, length, codes, slice_index_or, Option, if◌then◌else◌}
 use Rattle.std.specs.List.{find, flat_map, list_any, range_with_len}
 use Rattle.bs_bits.specs.Lines.{line}
 use Rattle.bs_net.specs.declared.net.Flop.{Flop}
@@ -37,17 +37,6 @@ called_line r sources name = line (codes "xor" ++ flat_map (called_at r sources 
 abbrev pub called_lines : Parts → List ℕ → List (List ℕ) → List ℕ
 called_lines r sources names = flat_map (called_line r sources) names
 
--- whether there is such a flip-flop
-abbrev pub has_shown : Parts → List ℕ → List ℕ → Bool
-has_shown r sources nets = list_any (λ f. is_shown sources nets f.q.0) r.flops
-
-abbrev pub is_called : Parts → List ℕ → List ℕ → Bool
-is_called r sources name = has_shown r sources (nets_named r name)
-
--- the first of these names for which there is none
-abbrev pub first_uncalled : Parts → List ℕ → List (List ℕ) → Option (List ℕ)
-first_uncalled r sources names = find (λ name. not (is_called r sources name)) names
-
 -- the first of these names that no net has
 abbrev pub first_unnamed : Parts → List (List ℕ) → Option (List ℕ)
 first_unnamed r names = find (λ name. length (nets_named r name) == 0) names
@@ -57,9 +46,3 @@ pub record TellsKeys (r : Parts) (names : List (List ℕ)) (text : List ℕ) : T
   pub sources : List ℕ
   pub are : AreMarks Source r sources
   pub says : text ≡ called_lines r sources names
-
--- it is the first of these names for which there is no flip-flop whose value a net with it shows, if there is one
-pub record IsFirstUncalled (r : Parts) (names : List (List ℕ)) (name : Option (List ℕ)) : Type 0 where
-  pub sources : List ℕ
-  pub are : AreMarks Source r sources
-  pub first : name ≡ first_uncalled r sources names

@@ -1,10 +1,10 @@
 //! The keys of the flip-flops that names stand for.
-ghost use Rattle.std.specs.Prelude.{◌≡◌, ◌<◌, ◌∷◌, [], ◌++◌, ◌==◌, codes, length, map, not, option_map, IfOk, OnOk};
+ghost use Rattle.std.specs.Prelude.{◌≡◌, ◌<◌, ◌∷◌, [], ◌++◌, ◌==◌, codes, length, map, option_map, IfOk, OnOk};
 ghost use Rattle.std.specs.List.{find, flat_map, list_any, range_with_len};
 ghost use Rattle.bs_net_names.specs.Keys.{key_parts, parts_in};
 ghost use Rattle.bs_net.specs.Netlist.{parts_of};
 ghost use Rattle.bs_net.specs.Parts.{key_at};
-ghost use Rattle.bs_inspect_netlist.specs.Called.{IsFirstUncalled, TellsKeys, called_at, called_key, called_line, called_lines, first_uncalled, first_unnamed, has_shown, is_called, is_shown, net_named, nets_named};
+ghost use Rattle.bs_inspect_netlist.specs.Called.{TellsKeys, called_at, called_key, called_line, called_lines, first_unnamed, is_shown, net_named, nets_named};
 ghost use Rattle.bs_inspect_netlist.specs.Marks.{mark_at};
 
 use crate::bits::key_at;
@@ -143,53 +143,6 @@ pub fn keys_text(alloc: Global, net: &Netlist, names: &[&str]) -> Result<Vec<u8>
     let mut text = Vec::new(alloc);
     push_name_lines(&mut text, net.raw(), sources.as_slice(), names)?;
     Ok(text)
-}
-
-/// Whether one of these nets shows the value of a flip-flop.
-fn has_shown(raw: &Raw, sources: &[usize], nets: &[u32]) -> bool
-    ensures { result ≡ has_shown (parts_of raw.now) sources.now nets.now }
-{
-    let flops = raw.flops.slice();
-    flops.iter().any(|flop| is_shown(sources, nets, flop.q.0))
-}
-
-/// Whether a net with a name shows the value of a flip-flop.
-fn is_called(alloc: Global, raw: &Raw, sources: &[usize], name: &str) -> Result<bool, NoMemory>
-    ensures { IfOk result (λ called. called ≡ is_called (parts_of raw.now) sources.now name.now) }
-{
-    let nets = nets_named(alloc, raw, name.as_bytes())?;
-    Ok(has_shown(raw, sources, nets.as_slice()))
-}
-
-/// The first of these names for which there is no flip-flop.
-#[tactic(auto, using(crate::proofs::CalledLemmas::uncalled_more, crate::proofs::CalledLemmas::uncalled_found, crate::proofs::CalledLemmas::uncalled_none))]
-fn uncalled_among<'a>(
-    alloc: Global,
-    raw: &Raw,
-    sources: &[usize],
-    names: &[&'a str],
-) -> Result<Option<&'a str>, NoMemory>
-    ensures { IfOk result (λ name. option_map (λ s. s.now) name ≡ first_uncalled (parts_of raw.now) sources.now (map (λ s. s.now) names.now)) }
-{
-    'names: for &name in names {
-        if !is_called(alloc, raw, sources, name)? {
-            return Ok(Some(name));
-        }
-    }
-    Ok(None)
-}
-
-/// The first of these names for which `keys_text` finds no flip-flop, if there is one.
-pub fn first_uncalled<'a>(
-    alloc: Global,
-    net: &Netlist,
-    names: &[&'a str],
-) -> Result<Option<&'a str>, NoMemory>
-    ensures { IfOk result (λ name. IsFirstUncalled net.now.raw (map (λ s. s.now) names.now) (option_map (λ s. s.now) name)) }
-{
-    let sources = marks(alloc, Measure::Source, net)?;
-    let name = uncalled_among(alloc, net.raw(), sources.as_slice(), names)?;
-    Ok(name)
 }
 
 /// Whether no net has a name.

@@ -20,7 +20,7 @@ mod sizes;
 mod tally;
 
 pub use bits::{flops_text, inputs_text};
-pub use called::{first_uncalled, first_unnamed, keys_text};
+pub use called::{first_unnamed, keys_text};
 pub use dumped::{dump_text, last_dump, last_state};
 pub use fault::{OrderFault, PatternFault};
 pub use order::read_order;

@@ -17,7 +17,7 @@ mod reply;
 mod status;
 mod walk;
 
-pub use diagnostic::{Diagnostic, Unread, WalkStop, both, lined, settle_diagnostic};
+pub use diagnostic::{Diagnostic, Unread, WalkStop, both, settle_diagnostic};
 pub use file::File;
 pub use limits::{
     MAX_DUMP_BYTES, MAX_MAP_BYTES, MAX_NETLIST_BYTES, MAX_REPORT_BYTES, MAX_SIGNATURE_BYTES,
