@@ -7,6 +7,7 @@ ghost use Rattle.bs_reach_unrolled.specs.Unrolled.{next_at, unrolled};
 ghost use Rattle.bs_reach_implied.specs.declared.rows.TheConstants.{ROW_ROOM};
 ghost use Rattle.bs_reach_implied.specs.Rows.{AreRows, Refutes};
 
+use crate::chain::literal_of_chain;
 use crate::cone::{Cone, find};
 use crate::forcing::Implied;
 use crate::rows::ROW_ROOM;
@@ -14,7 +15,6 @@ use crate::template::{number_at, zeros};
 use bs_bits::{Bits, List};
 use bs_clause::{Lit, Lits, NoMemory, Var, is_same};
 use bs_encode::Encoding;
-use bs_reach_implied::literal_of_chain;
 use std::alloc::Global;
 
 /// A lemma of one literal, and the ids of the clauses that it follows from.

@@ -1,7 +1,7 @@
 use Rattle.std.proofs.Common.{ap, ◌∙◌}
 use Rattle.bs_inspect_film.specs.StateTable.{first_rows}
 use Rattle.bs_inspect_film.proofs.StateTableLemmas.{moment_steps, states_row}
-use Rattle.bs_inspect_film.proofs.kept.keep_next.Goals as goal
+use Rattle.bs_inspect_film.proofs.state_table.keep_next.Goals as goal
 
 pub returns-clause-states : goal.returns-clause-states
 returns-clause-states c =

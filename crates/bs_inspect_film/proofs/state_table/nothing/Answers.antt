@@ -1,7 +1,7 @@
 use Rattle.std.proofs.Common.{ap, map}
 use Rattle.bs_inspect_film.specs.StateTable.{step_row}
 use Rattle.bs_inspect_film.proofs.StateTableLemmas.{none_apart, none_few, none_first, none_places, none_seen, none_steps, none_wide}
-use Rattle.bs_inspect_film.proofs.kept.nothing.Goals as goal
+use Rattle.bs_inspect_film.proofs.state_table.nothing.Goals as goal
 
 pub returns-clause-kept : goal.returns-clause-kept
 returns-clause-kept c = record {

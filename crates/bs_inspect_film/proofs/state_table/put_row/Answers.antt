@@ -1,5 +1,5 @@
 use Rattle.bs_inspect_film.proofs.StateTableLemmas.{put_apart, put_places, put_steps, put_wide}
-use Rattle.bs_inspect_film.proofs.kept.put_row.Goals as goal
+use Rattle.bs_inspect_film.proofs.state_table.put_row.Goals as goal
 
 pub returns-clause-kept : goal.returns-clause-kept
 returns-clause-kept c =

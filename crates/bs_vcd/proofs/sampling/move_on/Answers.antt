@@ -1,7 +1,7 @@
 use Rattle.bs_vcd.proofs.TakingLemmas.{moved_on}
 use Rattle.bs_vcd.specs.Levels.{known_in}
 use Rattle.bs_vcd.specs.Sampled.{asked_in}
-use Rattle.bs_vcd.proofs.watch.move_on.Goals as goal
+use Rattle.bs_vcd.proofs.sampling.move_on.Goals as goal
 
 pub returns : goal.returns
 returns c =

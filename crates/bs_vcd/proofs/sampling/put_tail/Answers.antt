@@ -5,7 +5,7 @@ use Rattle.bs_vcd.specs.Levels.{Known, known_in}
 use Rattle.bs_vcd.specs.Sampled.{asked_in}
 use Rattle.bs_vcd.specs.Watching.{tailed}
 use Rattle.bs_vcd.proofs.TakingLemmas.{tail_known}
-use Rattle.bs_vcd.proofs.watch.put_tail.Goals as goal
+use Rattle.bs_vcd.proofs.sampling.put_tail.Goals as goal
 
 pub returns : goal.returns
 returns c =

@@ -3,7 +3,7 @@ use Rattle.bs_vcd_header.specs.Tokens.{tokens_from}
 use Rattle.bs_vcd.specs.History.{Plain, mode_in}
 use Rattle.bs_vcd.specs.Sampled.{asked_in}
 use Rattle.bs_vcd.specs.Watching.{watch_in, watched_from}
-use Rattle.bs_vcd.proofs.watch.take_all.Given as goal
+use Rattle.bs_vcd.proofs.sampling.take_all.Given as goal
 
 abbrev pub invariant-words : goal.invariant-words
 invariant-words l = record {

@@ -3,7 +3,7 @@ use Rattle.bs_vcd_header.specs.Tokens.{tokens_from}
 use Rattle.bs_vcd.specs.Sampled.{asked_in}
 use Rattle.bs_vcd.specs.Watching.{watch_in}
 use Rattle.bs_vcd.proofs.SamplingLemmas.{lines_faulty}
-use Rattle.bs_vcd.proofs.watch.watch_lines.Goals as goal
+use Rattle.bs_vcd.proofs.sampling.watch_lines.Goals as goal
 
 pub returns-in_err-take_all : goal.returns-in_err-take_all
 returns-in_err-take_all c =
