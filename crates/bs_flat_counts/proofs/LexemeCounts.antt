@@ -11,7 +11,7 @@ use Rattle.std.proofs.lemmas.List.Elements.{recursion_from_All}
 use Rattle.bs_bits.specs.Lines.{is_visible}
 use Rattle.bs_lex.specs.declared.token.Token.{Token}
 use Rattle.bs_lex.specs.declared.token.Piece.{Piece}
-use Rattle.bs_lex.specs.declared.token.Piece.TheVariants.{Passed, NetTable, Bad}
+use Rattle.bs_lex.specs.declared.token.Piece.TheVariants.{Passed, Made, Bad}
 use Rattle.bs_lex.specs.Placing.{token_text}
 use Rattle.bs_lex.specs.Tokens.{first, piece_at, tokens_from, tokens_of, with_token}
 use Rattle.bs_lex.specs.declared.limits.TheConstants.{MAX_BYTES}
@@ -72,12 +72,12 @@ tokens_in source (c ∷ text) at zero d =
     by : (p : Piece) → ((skip : ℕ) → IfOk (tokens_from (at + 1) skip text) (AreIn source (length text - skip)))
         → IfOk (elim p [
           | Passed size ↦ tokens_from (at + 1) (size - 1) text
-          | NetTable kind size ↦ with_token (record { kind = kind; start = at; stop = at + size }) (tokens_from (at + 1) (size - 1) text)
+          | Made kind size ↦ with_token (record { kind = kind; start = at; stop = at + size }) (tokens_from (at + 1) (size - 1) text)
           | Bad ahead ↦ Err (at + ahead)
         ]) (AreIn source (length (c ∷ text) - 0))
     by (Passed size) later =
         if_more source (length text - (size - 1)) (length (c ∷ text) - 0) (tokens_from (at + 1) (size - 1) text) (omega arith) (later (size - 1))
-    by (NetTable kind size) later =
+    by (Made kind size) later =
         let long : length source - at ≡ length (c ∷ text) = sym (length-drop at source) ∙ ap length d in
         let span : at + size - at ≡ size = omega arith in
         let bytes : length (take (at + size - at) (drop at source)) ≡ min size (length (c ∷ text)) =

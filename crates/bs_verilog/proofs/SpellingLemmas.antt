@@ -14,7 +14,7 @@ use Rattle.bs_lex.specs.declared.token.Token.{Token}
 use Rattle.bs_lex.specs.declared.token.TokenKind.{TokenKind}
 use Rattle.bs_lex.specs.declared.token.TokenKind.TheVariants.{Name, Escaped, System, Number, Text, Directive, AttrOpen, AttrClose, Sym}
 use Rattle.bs_lex.specs.declared.token.Piece.{Piece}
-use Rattle.bs_lex.specs.declared.token.Piece.TheVariants.{Passed, NetTable, Bad}
+use Rattle.bs_lex.specs.declared.token.Piece.TheVariants.{Passed, Made, Bad}
 use Rattle.bs_lex.specs.Bytes.{◌∈◌, is_space, is_digit, begins_name, is_of_name, is_graphic, is_symbol}
 use Rattle.bs_lex.specs.Placing.{token_text}
 use Rattle.bs_lex.specs.Tokens.{first, comment_size, quoted_size, slash, quoted, escaped, system, directive, is_passed_over, number_size, number, mark}
@@ -89,7 +89,7 @@ HasVisibleName Escaped text = IsVisible (drop 1 text)
 HasVisibleName _ text = ⊤
 
 abbrev IsVisiblePiece : List ℕ → Piece → Type 0
-IsVisiblePiece text (NetTable kind size) = HasVisibleName kind (take size text)
+IsVisiblePiece text (Made kind size) = HasVisibleName kind (take size text)
 IsVisiblePiece text _ = ⊤
 
 module _ (c : ℕ) (rest : List ℕ) where
@@ -106,7 +106,7 @@ module _ (c : ℕ) (rest : List ℕ) where
   of_quoted : P (quoted rest)
   of_quoted = by (quoted_size false rest)
     where
-      by : (o : Option ℕ) → P (elim o [ Some size ↦ NetTable Text (1 + size) | None ↦ Bad 0 ])
+      by : (o : Option ℕ) → P (elim o [ Some size ↦ Made Text (1 + size) | None ↦ Bad 0 ])
       by (Some size) = tt
       by None = tt
 
@@ -168,11 +168,11 @@ tokens_are_visible source (c ∷ text) at zero d =
     by : (p : Piece) → IsVisiblePiece (c ∷ text) p → ((skip : ℕ) → IfOk (tokens_from (at + 1) skip text) (All (IsVisibleToken source)))
         → IfOk (elim p [
           | Passed size ↦ tokens_from (at + 1) (size - 1) text
-          | NetTable kind size ↦ with_token (record { kind = kind; start = at; stop = at + size }) (tokens_from (at + 1) (size - 1) text)
+          | Made kind size ↦ with_token (record { kind = kind; start = at; stop = at + size }) (tokens_from (at + 1) (size - 1) text)
           | Bad ahead ↦ Err (at + ahead)
         ]) (All (IsVisibleToken source))
     by (Passed size) h later = later (size - 1)
-    by (NetTable kind size) h later =
+    by (Made kind size) h later =
         let span : at + size - at ≡ size = omega arith in
         one_more source (record { kind = kind; start = at; stop = at + size }) (tokens_from (at + 1) (size - 1) text) (rw (span, d) h) (later (size - 1))
     by (Bad ahead) h later = tt
