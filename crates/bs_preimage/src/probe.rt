@@ -25,6 +25,7 @@ use std::alloc::Global;
 use std::marker::Model;
 
 /// How many states one solver is asked about, before another one takes its place.
+/// As many as a search for a recorded moment asks about.
 pub const MAX_PROBES: u64 = 1_000;
 
 /// What is said of a state.
