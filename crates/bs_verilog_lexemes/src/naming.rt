@@ -187,6 +187,36 @@ fn end(source: &[u8]) -> Lexeme
     Lexeme::new(Sort::End, source.len() as u32, 0)
 }
 
+/// Adds the lexemes of a text of at most 16 MiB: one for each token, and the end. With them go the names of the text. Otherwise
+/// the first place where no token begins.
+fn add_lexemes(
+    alloc: Global,
+    source: &[u8],
+    table: &mut Table,
+    lexemes: &mut List<Lexeme>,
+) -> Result<(), LexFault>
+    requires size { length source.now ≤ MAX_BYTES }
+    requires names { table.old ≡ [] }
+    requires lexemes { lexemes.old ≡ [] }
+    ensures { Answers want (λ _. (lexemes.new, table.new)) result (spec.lexed source.now) }
+{
+    let mut at: usize = 0;
+    'each: loop {
+        match next_token(source, at) {
+            Next::Found(token) => {
+                let lexeme = lexeme(alloc, table, source, token)?;
+                lexemes.push(lexeme)?;
+                at = token.stop as usize;
+            }
+            Next::Refused(place) => return Err(LexFault::BadByte(place)),
+            Next::End => {
+                lexemes.push(end(source))?;
+                return Ok(());
+            }
+        }
+    }
+}
+
 /// The lexemes of a text of at most 16 MiB: one for each token, and the end. With them the names of the text. Otherwise
 /// the first place where no token begins.
 pub fn lexemes(alloc: Global, source: &[u8]) -> Result<(List<Lexeme>, Table), LexFault>
@@ -195,19 +225,11 @@ pub fn lexemes(alloc: Global, source: &[u8]) -> Result<(List<Lexeme>, Table), Le
 {
     let mut table = Table::new(alloc);
     let mut lexemes = List::new(alloc);
-    let mut at: usize = 0;
-    'each: loop {
-        match next_token(source, at) {
-            Next::Found(token) => {
-                let lexeme = lexeme(alloc, &mut table, source, token)?;
-                lexemes.push(lexeme)?;
-                at = token.stop as usize;
-            }
-            Next::Refused(place) => return Err(LexFault::BadByte(place)),
-            Next::End => {
-                lexemes.push(end(source))?;
-                return Ok((lexemes, table));
-            }
+    match add_lexemes(alloc, source, &mut table, &mut lexemes) {
+        Ok(()) => Ok((lexemes, table)),
+        Err(fault) => {
+            drop(table);
+            Err(fault)
         }
     }
 }

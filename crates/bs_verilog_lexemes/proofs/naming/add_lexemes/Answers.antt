@@ -1,8 +1,8 @@
 use Rattle.bs_verilog_lexemes.proofs.NamingLemmas.{none_read, one_read, all_read}
-use Rattle.bs_verilog_lexemes.proofs.naming.lexemes.Goals as goal
+use Rattle.bs_verilog_lexemes.proofs.naming.add_lexemes.Goals as goal
 
 pub each-init : goal.each-init
-each-init c = rw (c.new-table.ensures, c.new-lexemes.ensures) (none_read c.args.source.now)
+each-init c = rw (c.requires.names, c.requires.lexemes) (none_read c.args.source.now)
 
 pub each-preserved : goal.each-preserved
 each-preserved c =
