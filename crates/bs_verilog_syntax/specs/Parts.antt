@@ -2,6 +2,7 @@
 use Rattle.std.specs.Prelude.{Bool, true, false, ◌&&◌, if◌then◌else◌, List, [], ◌∷◌, Some, None, Ok, Err}
 use Rattle.bs_net.specs.declared.gate.Kind.{Kind}
 use Rattle.bs_verilog_lexemes.specs.declared.lexeme.Cell.{Cell}
+use Rattle.bs_verilog_lexemes.specs.declared.lexeme.Name.{Name}
 use Rattle.bs_verilog_lexemes.specs.declared.lexeme.Sort.{Sort}
 use Rattle.bs_verilog_lexemes.specs.declared.lexeme.Word.TheVariants as words
 use Rattle.bs_verilog_lexemes.specs.declared.lexeme.Sort.TheVariants as sorts
@@ -43,31 +44,40 @@ gate kind ts = do
 unfoldable pub place : Rest → Read code_connection.Connection
 place ts = if is_at ",)" ts then Ok (Empty, ts) else by_place ts
 
+-- [ term ] ")" of a pin with a name
+abbrev pub pin_term : Name → Rest → Read code_connection.Connection
+pin_term n inside =
+    if is_at ")" inside then Ok (Pin n None, rest inside)
+    else (do
+      t ← term inside
+      after ← expect ")" due.AfterTerm t.1
+      Ok (Pin n (Some t.0), after))
+
 -- "." NAME "(" [ term ] ")"
 unfoldable pub pin : Rest → Read code_connection.Connection
 pin ts = do
   dot ← expect "." due.Nothing ts
   n ← expect_name dot
   inside ← expect "(" due.Nothing n.1
-  if is_at ")" inside
-      then Ok (Pin n.0 None, rest inside)
-      else (do
-        t ← term inside
-        after ← expect ")" due.AfterTerm t.1
-        Ok (Pin n.0 (Some t.0), after))
+  pin_term n.0 inside
+
+-- pin { "," pin } ")"
+abbrev pub pins : Rest → Read (List code_connection.Connection)
+pins ts = do
+  all ← listed pin ts
+  after ← expect ")" due.Nothing all.1
+  Ok (all.0, after)
+
+-- place { "," place } ")"
+abbrev pub places : Rest → Read (List code_connection.Connection)
+places ts = do
+  all ← listed place ts
+  after ← expect ")" due.AfterTerm all.1
+  Ok (all.0, after)
 
 -- [ conns ] ")"
 unfoldable pub connections : Rest → Read (List code_connection.Connection)
-connections ts =
-    if is_at ")" ts then Ok ([], rest ts)
-    else if is_at "." ts then (do
-      pins ← listed pin ts
-      after ← expect ")" due.Nothing pins.1
-      Ok (pins.0, after))
-    else (do
-      places ← listed place ts
-      after ← expect ")" due.AfterTerm places.1
-      Ok (places.0, after))
+connections ts = if is_at ")" ts then Ok ([], rest ts) else if is_at "." ts then pins ts else places ts
 
 -- [ NAME ] "(" [ conns ] ")"
 unfoldable pub instance : Cell → Rest → Read Component

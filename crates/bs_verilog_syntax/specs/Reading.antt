@@ -1,5 +1,5 @@
 -- Reading the lexemes of a text from left to right. The first that cannot go on is the fault.
-use Rattle.std.specs.Prelude.{ℕ, zero, suc, Bool, true, false, if◌then◌else◌, List, [], ◌∷◌, length, Option, Some, None, Result, Ok, Err}
+use Rattle.std.specs.Prelude.{◌==◌, ℕ, zero, suc, Bool, true, false, if◌then◌else◌, List, [], ◌∷◌, length, Option, Some, None, Result, Ok, Err}
 use Rattle.std.specs.Borrow.{Bor}
 use Prim.Native.String.{String}
 use Rattle.bs_bits.specs.Reading.{◌>>=◌, Answers}
@@ -84,6 +84,10 @@ refused due ts =
 -- one of these symbols, which must be next
 abbrev pub expect : String → Due → Rest → Skip
 expect s due ts = if is_at s ts then Ok (rest ts) else Err (refused due ts)
+
+-- what was read, where this symbol is next
+abbrev pub closed : {A : Type 0} → ℕ → Due → A → Rest → Read A
+closed byte due x ts = (if symbol (sort ts) == byte then Ok (rest ts) else Err (refused due ts)) >>= λ after. Ok (x, after)
 
 -- a name, which must be next
 abbrev pub expect_name : Rest → Read code_name.Name

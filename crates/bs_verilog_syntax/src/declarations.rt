@@ -6,7 +6,7 @@ ghost use Rattle.bs_bits.specs.Reading.{Answers};
 ghost use Rattle.bs_verilog_syntax.specs.declared.fault.VerilogFault.TheVariants.{NoMemory as want};
 
 use crate::fault::VerilogFault;
-use crate::listing::{Reader, listed};
+use crate::listing::{Reader, closed, listed};
 use crate::reading::{
     Due, attributes, expect, expect_digits, expect_name, is_at, name_of, place_of, refused,
     rest_of, sort_of,
@@ -147,8 +147,7 @@ pub fn names(
     ensures within { IfOk result (λ x. length x.1.now ≤ length ts.now) }
 {
     let (listing, rest) = listed(alloc, &DeclaredReader { says }, ts)?;
-    let rest = expect(b';', Due::AfterDeclared, rest)?;
-    Ok((listing, rest))
+    closed(b';', Due::AfterDeclared, listing, rest)
 }
 
 /// Reads the ports of a header that declares nothing.

@@ -20,7 +20,7 @@ mod tree;
 mod unsupported;
 
 pub use fault::{VerilogFault, What};
-pub use listing::{Reader, listed};
+pub use listing::{Reader, closed, listed};
 pub use modules::syntax;
 pub use packed::PackedConnection;
 pub use parts::connections;

@@ -3,7 +3,7 @@ ghost use Rattle.std.specs.Prelude.{◌≤◌, ◌<◌, length, IfOk};
 ghost use Rattle.bs_verilog_syntax.specs.Reading as spec;
 
 use crate::fault::VerilogFault;
-use crate::reading::after_comma;
+use crate::reading::{Due, after_comma, expect};
 use bs_bits::List;
 use bs_verilog_lexemes::Lexeme;
 use std::alloc::Global;
@@ -38,6 +38,25 @@ pub fn listed<'a, T: Drop, R: Reader<T>>(
                 items.shrink_to_fit();
                 return Ok((List::of(items), after));
             }
+        }
+    }
+}
+
+/// A list behind which this symbol must be next, and what follows the symbol.
+pub fn closed<'a, T: Drop>(
+    byte: u8,
+    due: Due,
+    list: List<T>,
+    ts: &'a [Lexeme],
+) -> Result<(List<T>, &'a [Lexeme]), VerilogFault>
+    ensures reads { spec.Reads (λ xs. xs) result (spec.closed byte due list ts.now) }
+    ensures within { IfOk result (λ x. length x.1.now ≤ length ts.now) }
+{
+    match expect(byte, due, ts) {
+        Ok(rest) => Ok((list, rest)),
+        Err(fault) => {
+            drop(list);
+            Err(fault)
         }
     }
 }

@@ -1,5 +1,5 @@
 //! Items, modules, and the whole text.
-ghost use Rattle.std.specs.Prelude.{◌≡◌, ◌≤◌, ◌<◌, length, ◌+◌, IfOk, IfErr, OnOk, Ok, []};
+ghost use Rattle.std.specs.Prelude.{◌≡◌, ◌≤◌, ◌<◌, ◌++◌, length, ◌+◌, IfOk, IfErr, OnOk, Ok, []};
 ghost use Rattle.bs_verilog_syntax.specs.declared.fault.VerilogFault.TheVariants.{NoMemory};
 ghost use Rattle.bs_verilog_syntax.specs.Declarations as declarations;
 ghost use Rattle.bs_verilog_syntax.specs.Reading as spec;
@@ -11,7 +11,7 @@ use crate::declarations::{direction_of, header, names, net_of, net_says, port_sa
 use crate::fault::{VerilogFault, What};
 use crate::parts::{assignments, gates, instances};
 use crate::reading::{Due, attributes, expect_name, place_of, refused, rest_of, sort_of};
-use crate::tree::{Adds, Component, Module, Says};
+use crate::tree::{Adds, Component, Module, Ports, Says};
 use bs_bits::List;
 use bs_verilog_lexemes::{Lexeme, Sort, Word, is_name};
 use std::alloc::Global;
@@ -135,23 +135,60 @@ fn extend(adds: &mut Adds, more: Adds) -> Result<(), VerilogFault>
     Ok(())
 }
 
+/// Adds the items of a module, up to and with its `endmodule`.
+fn add_items<'a>(
+    alloc: Global,
+    adds: &mut Adds,
+    ts: &'a [Lexeme],
+) -> Result<&'a [Lexeme], VerilogFault>
+    requires declared { adds.old.declared ≡ [] }
+    requires parts { adds.old.parts ≡ [] }
+    ensures reads { Answers want (λ rest. (adds.new, rest.now)) result (modules.items (length ts.now + 1) ts.now) }
+{
+    let mut rest = ts;
+    let bound = ts.len() + 1;
+    'items: for _ in 0..bound {
+        if is_endmodule(sort_of(rest)) {
+            return Ok(rest_of(rest));
+        }
+        let here = attributes(rest)?;
+        let (more, after) = item(alloc, here)?;
+        extend(adds, more)?;
+        rest = after;
+    }
+    Err(refused(Due::Nothing, rest))
+}
+
 /// The items of a module, up to and with its `endmodule`.
 fn items(alloc: Global, ts: &[Lexeme]) -> Result<(Adds, &[Lexeme]), VerilogFault>
     ensures reads { spec.Reads (λ a. a) result (modules.items (length ts.now + 1) ts.now) }
 {
     let mut adds = placing(alloc, List::new(alloc));
-    let mut rest = ts;
-    let bound = ts.len() + 1;
-    'items: for _ in 0..bound {
-        if is_endmodule(sort_of(rest)) {
-            return Ok((adds, rest_of(rest)));
+    match add_items(alloc, &mut adds, ts) {
+        Ok(rest) => Ok((adds, rest)),
+        Err(fault) => {
+            drop(adds);
+            Err(fault)
         }
-        let here = attributes(rest)?;
-        let (more, after) = item(alloc, here)?;
-        extend(&mut adds, more)?;
-        rest = after;
     }
-    Err(refused(Due::Nothing, rest))
+}
+
+/// A module with these ports and items.
+fn module_of(ports: Ports, body: Adds) -> Result<Module, VerilogFault>
+    ensures { Answers want (λ m. m) result (Ok (record { header = ports.header; declared = ports.declared ++ body.declared; parts = body.parts })) }
+{
+    let mut declared = ports.declared;
+    match declared.append(body.declared) {
+        Ok(()) => Ok(Module {
+            header: ports.header,
+            declared,
+            parts: body.parts,
+        }),
+        Err(_) => {
+            drop(body.parts);
+            Err(VerilogFault::NoMemory)
+        }
+    }
 }
 
 /// A module after its `module`.
@@ -162,13 +199,7 @@ fn top(alloc: Global, ts: &[Lexeme]) -> Result<(Module, &[Lexeme]), VerilogFault
     let (_, rest) = expect_name(ts)?;
     let (ports, rest) = header(alloc, rest)?;
     let (body, rest) = items(alloc, rest)?;
-    let mut declared = ports.declared;
-    declared.append(body.declared)?;
-    let module = Module {
-        header: ports.header,
-        declared,
-        parts: body.parts,
-    };
+    let module = module_of(ports, body)?;
     Ok((module, rest))
 }
 
@@ -243,6 +274,11 @@ pub fn syntax(alloc: Global, ts: &[Lexeme]) -> Result<Module, VerilogFault>
 {
     let inside = leading(ts)?;
     let (module, rest) = top(alloc, inside)?;
-    cells(rest)?;
-    Ok(module)
+    match cells(rest) {
+        Ok(_) => Ok(module),
+        Err(fault) => {
+            drop(module);
+            Err(fault)
+        }
+    }
 }

@@ -1,5 +1,5 @@
 //! Gates, cells and assignments.
-ghost use Rattle.std.specs.Prelude.{◌≡◌, ◌≤◌, ◌<◌, length, IfOk, Ok, [], ◌∷◌};
+ghost use Rattle.std.specs.Prelude.{◌≡◌, ◌≤◌, ◌<◌, ◌++◌, length, IfOk, Ok, [], ◌∷◌};
 ghost use Rattle.bs_verilog_syntax.specs.Reading as spec;
 ghost use Rattle.bs_verilog_syntax.specs.Parts as parts;
 ghost use Rattle.bs_bits.specs.Reading.{Answers};
@@ -7,14 +7,14 @@ ghost use Rattle.bs_verilog_syntax.specs.declared.fault.VerilogFault.TheVariants
 ghost use Rattle.bs_verilog_syntax.specs.declared.tree.Connection.TheVariants.{Place};
 
 use crate::fault::{VerilogFault, What};
-use crate::listing::{Reader, listed};
+use crate::listing::{Reader, closed, listed};
 use crate::packed::PackedConnection;
 use crate::reading::{Due, expect, expect_name, is_at, place_of, rest_of, sort_of};
 use crate::terms::{delay, term};
 use crate::tree::{Component, Connection, Shape, Term};
 use bs_bits::List;
 use bs_net::Kind;
-use bs_verilog_lexemes::{Cell, Lexeme, Sort, Word, is_name};
+use bs_verilog_lexemes::{Cell, Lexeme, Name, Sort, Word, is_name};
 use std::alloc::Global;
 
 /// A term, by its place.
@@ -85,8 +85,8 @@ impl Reader<Component> for GateReader {
     ) -> Result<(Component, &'a [Lexeme]), VerilogFault> {
         let here = instance_name(ts);
         let inside = opened(ts, here)?;
-        let (connections, rest) = listed(alloc, &TerminalReader, inside)?;
-        let rest = expect(b')', Due::AfterTerm, rest)?;
+        let (terms, rest) = listed(alloc, &TerminalReader, inside)?;
+        let (connections, rest) = closed(b')', Due::AfterTerm, terms, rest)?;
         let part = Component {
             shape: Shape::Gate(self.kind),
             at: place_of(here),
@@ -121,8 +121,7 @@ pub fn gates(
     }
     let first = delay(alloc, ts)?;
     let (parts, rest) = listed(alloc, &GateReader { kind }, first)?;
-    let rest = expect(b';', Due::Nothing, rest)?;
-    Ok((parts, rest))
+    closed(b';', Due::Nothing, parts, rest)
 }
 
 /// Reads the connections of a cell by place.
@@ -147,6 +146,21 @@ impl Reader<PackedConnection> for PlaceReader {
     }
 }
 
+/// The term of a pin with a name, if it has one, and the pin's `)`.
+fn pin_term(name: Name, inside: &[Lexeme]) -> Result<(PackedConnection, &[Lexeme]), VerilogFault>
+    ensures reads { spec.Reads (λ c. c) result (parts.pin_term name inside.now) }
+    ensures within { IfOk result (λ x. length x.1.now ≤ length inside.now) }
+{
+    if is_at(b')', inside) {
+        let packed = PackedConnection::new(Connection::Pin(name, None))?;
+        return Ok((packed, rest_of(inside)));
+    }
+    let (term, rest) = term(inside)?;
+    let rest = expect(b')', Due::AfterTerm, rest)?;
+    let packed = PackedConnection::new(Connection::Pin(name, Some(term)))?;
+    Ok((packed, rest))
+}
+
 /// Reads the connections of a cell by pin.
 #[derive(Drop)]
 struct PinReader;
@@ -163,15 +177,26 @@ impl Reader<PackedConnection> for PinReader {
         let dot = expect(b'.', Due::Nothing, ts)?;
         let (name, after) = expect_name(dot)?;
         let inside = expect(b'(', Due::Nothing, after)?;
-        if is_at(b')', inside) {
-            let packed = PackedConnection::new(Connection::Pin(name, None))?;
-            return Ok((packed, rest_of(inside)));
-        }
-        let (term, rest) = term(inside)?;
-        let rest = expect(b')', Due::AfterTerm, rest)?;
-        let packed = PackedConnection::new(Connection::Pin(name, Some(term)))?;
-        Ok((packed, rest))
+        pin_term(name, inside)
     }
+}
+
+/// The connections of a cell by pin, and its `)`.
+fn pins(alloc: Global, ts: &[Lexeme]) -> Result<(List<PackedConnection>, &[Lexeme]), VerilogFault>
+    ensures reads { spec.Reads (λ c. c) result (parts.pins ts.now) }
+    ensures within { IfOk result (λ x. length x.1.now ≤ length ts.now) }
+{
+    let (pins, rest) = listed(alloc, &PinReader, ts)?;
+    closed(b')', Due::Nothing, pins, rest)
+}
+
+/// The connections of a cell by place, and its `)`.
+fn places(alloc: Global, ts: &[Lexeme]) -> Result<(List<PackedConnection>, &[Lexeme]), VerilogFault>
+    ensures reads { spec.Reads (λ c. c) result (parts.places ts.now) }
+    ensures within { IfOk result (λ x. length x.1.now ≤ length ts.now) }
+{
+    let (places, rest) = listed(alloc, &PlaceReader, ts)?;
+    closed(b')', Due::AfterTerm, places, rest)
 }
 
 /// The connections of a cell, and its `)`.
@@ -184,16 +209,12 @@ pub fn connections(
     ensures within { IfOk result (λ x. length x.1.now ≤ length ts.now) }
 {
     if is_at(b')', ts) {
-        return Ok((List::new(alloc), rest_of(ts)));
+        Ok((List::new(alloc), rest_of(ts)))
+    } else if is_at(b'.', ts) {
+        pins(alloc, ts)
+    } else {
+        places(alloc, ts)
     }
-    if is_at(b'.', ts) {
-        let (pins, rest) = listed(alloc, &PinReader, ts)?;
-        let rest = expect(b')', Due::Nothing, rest)?;
-        return Ok((pins, rest));
-    }
-    let (places, rest) = listed(alloc, &PlaceReader, ts)?;
-    let rest = expect(b')', Due::AfterTerm, rest)?;
-    Ok((places, rest))
 }
 
 /// Reads the cells of a statement.
@@ -237,8 +258,16 @@ pub fn instances(
         return Err(VerilogFault::Unsupported(place_of(ts), What::Parameter));
     }
     let (parts, rest) = listed(alloc, &CellReader { cell }, ts)?;
-    let rest = expect(b';', Due::Nothing, rest)?;
-    Ok((parts, rest))
+    closed(b';', Due::Nothing, parts, rest)
+}
+
+/// Puts a term at the end.
+fn add_side(sides: &mut List<PackedConnection>, term: Term) -> Result<(), VerilogFault>
+    ensures { Answers want (λ _. sides.new) result (Ok (sides.old ++ Place term ∷ [])) }
+{
+    let packed = PackedConnection::new(Connection::Place(term))?;
+    sides.push(packed)?;
+    Ok(())
 }
 
 /// Both sides of an assignment.
@@ -246,8 +275,8 @@ fn sides(alloc: Global, left: Term, right: Term) -> Result<List<PackedConnection
     ensures { Answers want (λ c. c) result (Ok (Place left ∷ Place right ∷ [])) }
 {
     let mut both = List::new(alloc);
-    both.push(PackedConnection::new(Connection::Place(left))?)?;
-    both.push(PackedConnection::new(Connection::Place(right))?)?;
+    add_side(&mut both, left)?;
+    add_side(&mut both, right)?;
     Ok(both)
 }
 
@@ -287,6 +316,5 @@ pub fn assignments(
 {
     let first = delay(alloc, ts)?;
     let (parts, rest) = listed(alloc, &PairReader, first)?;
-    let rest = expect(b';', Due::AfterTerm, rest)?;
-    Ok((parts, rest))
+    closed(b';', Due::AfterTerm, parts, rest)
 }

@@ -2,7 +2,7 @@ use Rattle.std.proofs.Common.{◌∙◌, sym, ap, inr, ◌+◌, length}
 use Rattle.std.proofs.lemmas.Result.{err_from_is_err_and}
 use Rattle.bs_verilog_syntax.specs.Modules.{is_endmodule}
 use Rattle.bs_verilog_syntax.proofs.BodyLemmas.{items_end, items_on, items_attributes, items_item, items_bound}
-use Rattle.bs_verilog_syntax.proofs.modules.items.Goals as goal
+use Rattle.bs_verilog_syntax.proofs.modules.add_items.Goals as goal
 
 pub returns-then-is_endmodule : goal.returns-then-is_endmodule
 returns-then-is_endmodule c =
