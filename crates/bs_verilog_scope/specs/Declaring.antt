@@ -165,6 +165,11 @@ naming_fault table ports scope header declared =
     or_else wide_fault declared
     or_else many_fault table (nets_in scope ports header declared)
 
+-- the first fault of declarations behind a header with these names
+abbrev pub declared_fault : List (List ℕ) → (ℕ → Bool) → List Name → List Declared → Option VerilogFault
+declared_fault table ports header declared =
+    redeclared_fault declared or_else naming_fault table ports (said declared) header declared
+
 -- the first fault of the third pass
 unfoldable pub declaring_fault : List (List ℕ) → Module → Option VerilogFault
 declaring_fault table m =

@@ -53,6 +53,26 @@ fn named(
     Ok(nets)
 }
 
+/// What a module declares whose names have these marks, where no name of its header stands twice.
+fn declared_with(
+    alloc: Global,
+    table: &Table,
+    marks: &Marks,
+    header: &[Name],
+    declared: &[Declared],
+) -> Result<Declarations, VerilogFault>
+    ensures { Checks result (spec.declared_fault table.now (marked marks.now) header.now declared.now) (λ d. (looked d.scope ≡ spec.said declared.now) × (d.nets ≡ spec.nets_in (looked d.scope) (marked marks.now) header.now declared.now) × (spec.many_fault table.now d.nets ≡ None)) }
+{
+    let scope = scope_of(alloc, declared)?;
+    match named(alloc, table, marks, &scope, header, declared) {
+        Ok(nets) => Ok(Declarations { scope, nets }),
+        Err(fault) => {
+            drop(scope);
+            Err(fault)
+        }
+    }
+}
+
 /// What a module declares, or the first fault of its declarations.
 #[tactic(auto, unfolding(crate::specs::Declaring::declaring_fault))]
 pub fn declare(alloc: Global, table: &Table, top: &Module) -> Result<Declarations, VerilogFault>
@@ -61,7 +81,7 @@ pub fn declare(alloc: Global, table: &Table, top: &Module) -> Result<Declaration
     let header = top.header.slice();
     let declared = top.declared.slice();
     let marks = header_marks(alloc, header)?;
-    let scope = scope_of(alloc, declared)?;
-    let nets = named(alloc, table, &marks, &scope, header, declared)?;
-    Ok(Declarations { scope, nets })
+    let declarations = declared_with(alloc, table, &marks, header, declared);
+    drop(marks);
+    declarations
 }
