@@ -14,7 +14,7 @@ use crate::moments::{replay, unload};
 use crate::pass::Pass;
 use crate::player::Player;
 use crate::signature_hashes::SignatureHashes;
-use crate::track::{at_reset, first_moment, keep_ahead, recall};
+use crate::track::{Started, at_reset, first_moment, keep_ahead, recall};
 use bs_bits::{Bits, List, NoMemory};
 use bs_break::Bank;
 use bs_lanes::Lanes;
@@ -115,6 +115,35 @@ fn cycles_within(bytes: usize, words: usize) -> usize
     bytes / 8 / words.saturating_add(8)
 }
 
+/// A chip of a player and a register, all runs at reset.
+fn chip_of<'a>(
+    alloc: Global,
+    player: Player<'a>,
+    choice: &'a Choice,
+    register: SigReg<'a>,
+    started: Started<'a>,
+    bytes: usize,
+) -> Chip<'a>
+    requires choice { choice.now ≡ register.choice }
+    requires recording { IsRecording (record { circuit = player.circuit; choice = register.choice; runs = player.runs }) }
+    requires circuit { started.pass.circuit ≡ player.circuit }
+    requires runs { started.pass.runs ≡ player.runs }
+    requires track { TrackShows player.circuit player.runs started.track }
+    ensures { result.recording ≡ record { circuit = player.entry.circuit; choice = register.entry.choice; runs = player.entry.runs } }
+{
+    let most = cycles_within(bytes, started.pass.planes().len());
+    Chip {
+        player,
+        choice,
+        register,
+        pass: started.pass,
+        track: started.track,
+        most,
+        index: Index::new(alloc),
+        credit: 0,
+    }
+}
+
 /// A chip of a player and a register, where the planes of the cycles that are kept take at most so many bytes.
 fn equipped<'a>(
     alloc: Global,
@@ -127,18 +156,14 @@ fn equipped<'a>(
     requires recording { IsRecording (record { circuit = player.circuit; choice = register.choice; runs = player.runs }) }
     ensures { IfOk result (λ chip. chip.recording ≡ record { circuit = player.entry.circuit; choice = register.entry.choice; runs = player.entry.runs }) }
 {
-    let started = at_reset(alloc, player.net(), player.runs())?;
-    let most = cycles_within(bytes, started.pass.planes().len());
-    Ok(Chip {
-        player,
-        choice,
-        register,
-        pass: started.pass,
-        track: started.track,
-        most,
-        index: Index::new(alloc),
-        credit: 0,
-    })
+    match at_reset(alloc, player.net(), player.runs()) {
+        Ok(started) => Ok(chip_of(alloc, player, choice, register, started, bytes)),
+        Err(want) => {
+            drop(player);
+            drop(register);
+            Err(want)
+        }
+    }
 }
 
 impl<'a> Chip<'a> {
@@ -173,9 +198,13 @@ impl<'a> Chip<'a> {
         let _depth = choice.depth();
         let _count = runs.count();
         let register = SigReg::new(alloc, choice)?;
-        let player = Player::new(alloc, net, runs)?;
-        let chip = equipped(alloc, player, choice, register, bytes)?;
-        Ok(chip)
+        match Player::new(alloc, net, runs) {
+            Ok(player) => equipped(alloc, player, choice, register, bytes),
+            Err(want) => {
+                drop(register);
+                Err(want)
+            }
+        }
     }
 
     /// The recording has its widths, and its netlist has passed the check.

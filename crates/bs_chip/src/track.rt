@@ -47,8 +47,13 @@ pub fn at_reset<'a>(
     ensures track { IfOk result (λ s. TrackShows (circuit net.now) (inputs_of runs.now) s.track) }
 {
     let pass = Pass::new(alloc, net, runs)?;
-    let track = first_track(alloc, pass.planes())?;
-    Ok(Started { pass, track })
+    match first_track(alloc, pass.planes()) {
+        Ok(track) => Ok(Started { pass, track }),
+        Err(want) => {
+            drop(pass);
+            Err(want)
+        }
+    }
 }
 
 /// Puts the planes of a cycle at the end of a track that has all cycles before, unless it has as many cycles as it may.
