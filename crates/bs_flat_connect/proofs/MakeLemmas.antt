@@ -1,11 +1,12 @@
 -- The modules with their joined nets are those of the definition.
 use Rattle.std.proofs.Common.{◌≡◌, ℕ, zero, suc, ◌<◌, ◌≤◌, ◌+◌, Bool, true, false, cond, List, [], ◌∷◌, ◌++◌, map, length, get_or, refl, sym, ap, ◌∙◌, arith}
 use Rattle.std.proofs.Common.{Option, Some, None, Result, Ok, Err, subst, ◌⊎◌, inl, inr, ⊎_elim}
-use Rattle.std.specs.Prelude.{IsTrue, not}
+use Rattle.std.specs.Prelude.{IsTrue, String, not, string_bytes}
 use Rattle.std.specs.List.{All, flat_map}
 use Rattle.std.proofs.lemmas.List.{get_or-map, length-map, map-append}
 use Rattle.std.proofs.lemmas.List.Concat.{flat_map_single}
 use Rattle.bs_bits.specs.Reading.{Answers}
+use Rattle.bs_net.specs.declared.net.Const.{Const}
 use Rattle.bs_net.specs.declared.net.Gate.{Gate}
 use Rattle.bs_net.specs.Parts.{Parts}
 use Rattle.bs_net.specs.Gate.{takes}
@@ -36,7 +37,7 @@ use Rattle.bs_flat_wiring.specs.declared.ports.Ports.{Ports}
 use Rattle.bs_flat_wiring.specs.declared.wiring.Wiring.{Wiring}
 use Rattle.bs_flat_connect.specs.Joining.{unless, Tells}
 use Rattle.bs_flat_connect.specs.Instances.{AreAllPorts, ArePortsOfAll, instance_by, TellsChildren}
-use Rattle.bs_flat_connect.specs.Connecting.{ConnectsTo, IsMade, fault_in, module_by, TellsBlock, reads, TellsBlocks, fault_of, Connects}
+use Rattle.bs_flat_connect.specs.Connecting.{ConnectsTo, IsMade, with_parts, without_parts, fault_in, module_by, TellsBlock, reads, TellsBlocks, fault_of, Connects}
 use Rattle.bs_flat_connect.specs.declared.fault.Fault.{Fault}
 use Rattle.bs_flat_connect.specs.declared.fault.Fault.TheVariants.{At, NoMemory}
 use Rattle.bs_flat_connect.proofs.FirstLemmas.{first_each}
@@ -165,6 +166,31 @@ told_at table ps below owns written k o r ks at lt long tells ports e =
 -- each gate of a module has as many inputs as its kind takes
 abbrev pub Takes : FlatModule → Type 0
 Takes b = All (λ (g : Gate). IsTrue (takes g.kind (length g.ins))) b.gates
+
+-- a module of its nets, its instances and its own parts
+parts_put : (own : Own) (cs : List Child) (names : List String) (consts : List Const) (bare b : FlatModule) → bare ≡ without_parts names consts cs →
+    b ≡ with_parts bare own → b ≡ with_parts (without_parts names consts cs) own
+parts_put own cs names consts bare b e eb = eb ∙ ap (λ (x : FlatModule). with_parts x own) e
+
+pub made_is : (own : Own) (w : Wiring) (cs : List Child) (names : List String) (consts : List Const) (bare b : FlatModule) →
+    bare ≡ without_parts names consts cs → b ≡ with_parts bare own → map string_bytes names ≡ w.keys → consts ≡ w.consts → IsMade own w cs b
+made_is own w cs names consts bare b e eb en ec =
+    let all = parts_put own cs names consts bare b e eb in
+    record {
+      names = ap (λ (x : FlatModule). map string_bytes x.names) all ∙ en;
+      consts = ap (λ (x : FlatModule). x.consts) all ∙ ec;
+      inputs = ap (λ (x : FlatModule). x.inputs) all;
+      outputs = ap (λ (x : FlatModule). x.outputs) all;
+      gates = ap (λ (x : FlatModule). x.gates) all;
+      flops = ap (λ (x : FlatModule). x.flops) all;
+      children = ap (λ (x : FlatModule). x.children) all;
+    }
+
+pub made_takes : (own : Own) (cs : List Child) (names : List String) (consts : List Const) (bare b : FlatModule) → bare ≡ without_parts names consts cs →
+    b ≡ with_parts bare own → All (λ (g : Gate). IsTrue (takes g.kind (length g.ins))) own.parts.gates → Takes b
+made_takes own cs names consts bare b e eb h =
+    subst (λ (gs : List Gate). All (λ (g : Gate). IsTrue (takes g.kind (length g.ins))) gs)
+    (sym (ap (λ (x : FlatModule). x.gates) (parts_put own cs names consts bare b e eb))) h
 
 pub counted : (below : List (List ℕ)) (written : List (List Written)) → map length below ≡ map length written → length below ≡ length written
 counted below written e =

@@ -1,6 +1,7 @@
 -- The modules of a design with their joined nets, or the first connection that does not go with its port.
-use Rattle.std.specs.Prelude.{◌≡◌, ℕ, List, map, zip, Option, Result, string_bytes}
+use Rattle.std.specs.Prelude.{◌≡◌, ℕ, List, [], ◌++◌, map, zip, Option, Result, String, string_bytes}
 use Rattle.bs_bits.specs.Reading.{Answers}
+use Rattle.bs_net.specs.declared.net.Const.{Const}
 use Rattle.bs_flat_meaning.specs.declared.fault.FlatFault.{FlatFault}
 use Rattle.bs_flat_meaning.specs.declared.fault.FlatFault.TheVariants.{NoMemory as want, Connect}
 use Rattle.bs_flat_meaning.specs.declared.statements.Written.{Written}
@@ -29,6 +30,32 @@ pub record ConnectsTo (table : List (List ℕ)) (ids : List (Option ℕ)) (modul
       Answers want (λ bs. map module_of bs) result (connected_modules table ms (read_modules_of modules))
 
 -- ---- what inner functions promise each other
+
+-- a module with these nets and instances, and no parts yet
+abbrev pub without_parts : List String → List Const → List Child → FlatModule
+without_parts names consts children =
+    record {
+      names = names;
+      inputs = [];
+      outputs = [];
+      consts = consts;
+      gates = [];
+      flops = [];
+      children = children;
+    }
+
+-- a block with a module's own parts behind its own
+abbrev pub with_parts : FlatModule → Own → FlatModule
+with_parts block own =
+    record {
+      names = block.names;
+      inputs = block.inputs ++ own.parts.inputs;
+      outputs = block.outputs ++ own.parts.outputs;
+      consts = block.consts;
+      gates = block.gates ++ own.parts.gates;
+      flops = block.flops ++ own.parts.flops;
+      children = block.children;
+    }
 
 -- a module with its nets and its instances
 pub record IsMade (own : Own) (w : Wiring) (cs : List Child) (b : FlatModule) : Type 0 where

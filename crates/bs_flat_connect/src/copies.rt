@@ -1,48 +1,46 @@
 //! Parts of a module once more.
-ghost use Rattle.std.specs.Prelude.{◌≡◌, IfOk};
+ghost use Rattle.std.specs.Prelude.{◌≡◌, ◌++◌, IfOk, OnOk};
 
 use bs_bits::{List, NoMemory};
 use bs_net::{Flop, Gate, NetId, Terms};
 use std::alloc::Global;
 
-/// Nets once more.
-pub fn nets(alloc: Global, from: &[NetId]) -> Result<List<NetId>, NoMemory>
-    ensures { IfOk result (λ l. l ≡ from.now) }
+/// Puts nets at the end.
+pub fn add_nets(all: &mut List<NetId>, from: &[NetId]) -> Result<(), NoMemory>
+    ensures { OnOk result (all.new ≡ all.old ++ from.now) }
 {
-    let mut all = List::new(alloc);
     'nets: for net in from {
         all.push(*net)?;
     }
-    Ok(all)
+    Ok(())
 }
 
-/// Flip-flops once more.
-pub fn flops(alloc: Global, from: &[Flop]) -> Result<List<Flop>, NoMemory>
-    ensures { IfOk result (λ l. l ≡ from.now) }
+/// Puts flip-flops at the end.
+pub fn add_flops(all: &mut List<Flop>, from: &[Flop]) -> Result<(), NoMemory>
+    ensures { OnOk result (all.new ≡ all.old ++ from.now) }
 {
-    let mut all = List::new(alloc);
     'flops: for flop in from {
         all.push(*flop)?;
     }
-    Ok(all)
+    Ok(())
 }
 
-/// The inputs of a gate once more.
-fn terms(alloc: Global, from: &[NetId]) -> Result<Terms, NoMemory>
-    ensures { IfOk result (λ l. l ≡ from.now) }
+/// Puts nets at the end of a gate's inputs.
+fn add_terms(all: &mut Terms, from: &[NetId]) -> Result<(), NoMemory>
+    ensures { OnOk result (all.new ≡ all.old ++ from.now) }
 {
-    let mut all = Terms::new(alloc);
     'nets: for net in from {
         all.push(*net)?;
     }
-    Ok(all)
+    Ok(())
 }
 
 /// A gate once more.
 fn gate(alloc: Global, from: &Gate) -> Result<Gate, NoMemory>
     ensures { IfOk result (λ g. g ≡ from.now) }
 {
-    let ins = terms(alloc, from.ins.slice())?;
+    let mut ins = Terms::new(alloc);
+    add_terms(&mut ins, from.ins.slice())?;
     Ok(Gate {
         kind: from.kind,
         out: from.out,
@@ -50,14 +48,13 @@ fn gate(alloc: Global, from: &Gate) -> Result<Gate, NoMemory>
     })
 }
 
-/// Gates once more.
-pub fn gates(alloc: Global, from: &[Gate]) -> Result<List<Gate>, NoMemory>
-    ensures { IfOk result (λ l. l ≡ from.now) }
+/// Puts gates at the end.
+pub fn add_gates(alloc: Global, all: &mut List<Gate>, from: &[Gate]) -> Result<(), NoMemory>
+    ensures { OnOk result (all.new ≡ all.old ++ from.now) }
 {
-    let mut all = List::new(alloc);
     'gates: for one in from {
         let copy = gate(alloc, one)?;
         all.push(copy)?;
     }
-    Ok(all)
+    Ok(())
 }

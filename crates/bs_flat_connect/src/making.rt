@@ -1,5 +1,5 @@
 //! The modules of a design with their joined nets, or the first connection that does not go with its port.
-ghost use Rattle.std.specs.Prelude.{◌≡◌, ◌<◌, length, map, All, IsTrue, IfOk};
+ghost use Rattle.std.specs.Prelude.{◌≡◌, ◌<◌, length, map, All, IsTrue, IfOk, OnOk};
 ghost use Rattle.bs_net.specs.Gate.{takes};
 ghost use Rattle.bs_flat_order.specs.Numbers.{numbers_by};
 ghost use Rattle.bs_flat_nets.specs.Blocks.{AreThere, numbers_of};
@@ -7,7 +7,7 @@ ghost use Rattle.bs_flat_nets.specs.Order.{below_blocks};
 ghost use Rattle.bs_flat_wiring.specs.Wiring.{IsWiringOf, read_of};
 ghost use Rattle.bs_flat_connect.specs.Connecting as spec;
 
-use crate::copies::{flops, gates, nets};
+use crate::copies::{add_flops, add_gates, add_nets};
 use crate::fault::Fault;
 use crate::instances::{all_ports, children};
 use bs_bits::{List, NoMemory};
@@ -15,8 +15,55 @@ use bs_flat_meaning::{FlatFault, Written};
 use bs_flat_modules::{Modules, Own};
 use bs_flat_nets::{Child, FlatModule};
 use bs_flat_wiring::{Ports, Wiring, wire};
+use bs_net::Const;
 use bs_verilog_lexemes::Table;
 use std::alloc::Global;
+
+/// A module with these nets and instances, and no parts yet.
+fn without_parts(
+    alloc: Global,
+    names: List<String>,
+    consts: List<Const>,
+    children: List<Child>,
+) -> FlatModule
+    ensures { result ≡ spec.without_parts names consts children }
+{
+    FlatModule {
+        names,
+        inputs: List::new(alloc),
+        outputs: List::new(alloc),
+        consts,
+        gates: List::new(alloc),
+        flops: List::new(alloc),
+        children,
+    }
+}
+
+/// Puts a module's own parts behind those of a block.
+fn add_parts(alloc: Global, block: &mut FlatModule, own: &Own) -> Result<(), NoMemory>
+    ensures parts { OnOk result (block.new ≡ spec.with_parts block.old own.now) }
+    ensures takes { OnOk result (All (λ g. IsTrue (takes g.kind (length g.ins))) own.now.parts.gates) }
+{
+    add_nets(&mut block.inputs, own.parts.inputs.slice())?;
+    add_nets(&mut block.outputs, own.parts.outputs.slice())?;
+    add_gates(alloc, &mut block.gates, own.parts.gates.slice())?;
+    add_flops(&mut block.flops, own.parts.flops.slice())?;
+    Ok(())
+}
+
+/// A block with a module's own parts behind its own.
+fn with_parts(alloc: Global, mut block: FlatModule, own: &Own) -> Result<FlatModule, NoMemory>
+    ensures parts { IfOk result (λ b. b ≡ spec.with_parts block own.now) }
+    ensures takes { IfOk result (λ b. All (λ g. IsTrue (takes g.kind (length g.ins))) own.now.parts.gates) }
+{
+    match add_parts(alloc, &mut block, own) {
+        Ok(()) => Ok(block),
+        Err(want) => {
+            drop(block);
+            Err(want)
+        }
+    }
+}
 
 /// A module with its nets and its instances.
 fn made(
@@ -28,20 +75,26 @@ fn made(
     ensures made { IfOk result (λ b. spec.IsMade own.now wiring children b) }
     ensures takes { IfOk result (λ b. All (λ g. IsTrue (takes g.kind (length g.ins))) b.gates) }
 {
-    let inputs = nets(alloc, own.parts.inputs.slice())?;
-    let outputs = nets(alloc, own.parts.outputs.slice())?;
-    let gates = gates(alloc, own.parts.gates.slice())?;
-    let flops = flops(alloc, own.parts.flops.slice())?;
-    let names = wiring.keys.into_names(alloc)?;
-    Ok(FlatModule {
-        names,
-        inputs,
-        outputs,
-        consts: wiring.consts,
-        gates,
-        flops,
-        children,
-    })
+    let Wiring {
+        keys,
+        consts,
+        scope,
+        spans,
+    } = wiring;
+    drop(scope);
+    drop(spans);
+    match keys.into_names(alloc) {
+        Ok(names) => {
+            let bare = without_parts(alloc, names, consts, children);
+            let block = with_parts(alloc, bare, own)?;
+            Ok(block)
+        }
+        Err(want) => {
+            drop(consts);
+            drop(children);
+            Err(want)
+        }
+    }
 }
 
 /// The module with this wiring, whose instances are of the modules with these numbers.
@@ -66,7 +119,10 @@ fn wired(
             let block = made(alloc, own, wiring, children)?;
             Ok(block)
         }
-        Err(fault) => Err(fault),
+        Err(fault) => {
+            drop(wiring);
+            Err(fault)
+        }
     }
 }
 
@@ -138,8 +194,9 @@ fn connected(
         below,
         owns,
         modules.written.slice(),
-    )?;
-    Ok(all)
+    );
+    drop(ports);
+    all
 }
 
 /// A refusal as one of a text.

@@ -30,6 +30,32 @@ pub struct Laid {
     pub named: Named,
 }
 
+/// Lays a design out by the nodes of its paths and the numbering of its flat nets.
+fn lay_names(
+    alloc: Global,
+    blocks: &[FlatModule],
+    top: u32,
+    nodes: List<Node>,
+    numbering: Numbering,
+) -> Result<Laid, NoMemory>
+    requires laid { IsLaid blocks.now nodes top numbering }
+    requires small { spec.IsSmall (design_of blocks.now top) }
+    ensures { IfOk result (λ laid. spec.IsMadeOf blocks.now top laid) }
+{
+    match name_nets(alloc, blocks, nodes.slice(), top, &numbering) {
+        Ok(named) => Ok(Laid {
+            nodes,
+            numbering,
+            named,
+        }),
+        Err(want) => {
+            drop(nodes);
+            drop(numbering);
+            Err(want)
+        }
+    }
+}
+
 /// Lays a design out.
 fn lay(alloc: Global, blocks: &[FlatModule], top: u32) -> Result<Laid, NoMemory>
     requires top { top < length blocks.now }
@@ -39,13 +65,13 @@ fn lay(alloc: Global, blocks: &[FlatModule], top: u32) -> Result<Laid, NoMemory>
     ensures { IfOk result (λ laid. spec.IsMadeOf blocks.now top laid) }
 {
     let nodes = path_nodes(alloc, blocks, top)?;
-    let numbering = number_nets(alloc, blocks, nodes.slice(), top)?;
-    let named = name_nets(alloc, blocks, nodes.slice(), top, &numbering)?;
-    Ok(Laid {
-        nodes,
-        numbering,
-        named,
-    })
+    match number_nets(alloc, blocks, nodes.slice(), top) {
+        Ok(numbering) => lay_names(alloc, blocks, top, nodes, numbering),
+        Err(want) => {
+            drop(nodes);
+            Err(want)
+        }
+    }
 }
 
 /// The flat parts of a small design whose keys are the names of its flat nets; or it has too many
@@ -65,6 +91,7 @@ fn whole(
     ensures { Answers want parts_of result (elaborated (design_of blocks.now top)) }
 {
     if has_many_terminals(blocks, nodes, top) {
+        drop(names);
         return Err(FlatFault::FlatTerminals);
     }
     match flat(alloc, blocks, nodes, top, numbering, names) {

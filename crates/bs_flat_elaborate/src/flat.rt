@@ -95,6 +95,11 @@ pub fn flat(
     requires paths { length nodes.now ≤ MAX_PARTS + 1 }
     ensures { IfOk result (λ r. parts_of r ≡ flat_parts (design_of blocks.now top)) }
 {
-    let lists = lists_of(alloc, blocks, nodes, top, numbering)?;
-    Ok(raw_of(names, lists))
+    match lists_of(alloc, blocks, nodes, top, numbering) {
+        Ok(lists) => Ok(raw_of(names, lists)),
+        Err(want) => {
+            drop(names);
+            Err(want)
+        }
+    }
 }

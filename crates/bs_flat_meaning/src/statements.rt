@@ -6,8 +6,8 @@ ghost use Rattle.bs_flat_meaning.specs.Instancing as instancing_spec;
 use bs_bits::List;
 use bs_verilog_lexemes::{Lexeme, Name};
 use bs_verilog_syntax::{
-    Due, PackedConnection, Reader, VerilogFault, What, connections, expect, expect_name, is_at,
-    listed, name_of, place_of, rest_of,
+    Due, PackedConnection, Reader, VerilogFault, What, closed, connections, expect, expect_name,
+    is_at, listed, name_of, place_of, rest_of,
 };
 use std::alloc::Global;
 
@@ -56,6 +56,5 @@ pub fn instancing(alloc: Global, ts: &[Lexeme]) -> Result<(List<Written>, &[Lexe
         return Err(VerilogFault::Unsupported(place_of(rest), What::Parameter));
     }
     let (all, rest) = listed(alloc, &InstanceReader { of: name_of(ts) }, rest)?;
-    let rest = expect(b';', Due::Nothing, rest)?;
-    Ok((all, rest))
+    closed(b';', Due::Nothing, all, rest)
 }

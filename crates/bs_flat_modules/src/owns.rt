@@ -70,8 +70,13 @@ fn said(alloc: Global, table: &Table, own: &[Lexeme]) -> Result<Own, VerilogFaul
     ensures { Answers want spec.module_and_parts result (spec.said table.now own.now) }
 {
     let says = syntax(alloc, own)?;
-    let parts = meaning(alloc, table, &says)?;
-    Ok(Own { says, parts })
+    match meaning(alloc, table, &says) {
+        Ok(parts) => Ok(Own { says, parts }),
+        Err(fault) => {
+            drop(says);
+            Err(fault)
+        }
+    }
 }
 
 /// The own text of the module at a place, without what stands outside the modules.
@@ -192,6 +197,7 @@ fn fitted(own: Own, room: u32, at: u32) -> Result<Own, FlatFault>
     ensures refused { IfErr result (λ fault. (fault ≡ OwnNets at) × (room < length own.parts.names)) }
 {
     if own.parts.names.len() > room {
+        drop(own);
         Err(FlatFault::OwnNets(at))
     } else {
         Ok(own)

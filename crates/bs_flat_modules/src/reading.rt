@@ -65,7 +65,10 @@ fn with_written(
 {
     match read_written(alloc, ts, marks, modules) {
         Ok(written) => Ok(Modules { owns, written }),
-        Err(fault) => Err(fault_of(fault)),
+        Err(fault) => {
+            drop(owns);
+            Err(fault_of(fault))
+        }
     }
 }
 
@@ -97,7 +100,10 @@ fn with_names_apart(alloc: Global, read: Modules) -> Result<Modules, FlatFault>
 {
     match all_apart(alloc, read.written.slice()) {
         Ok(()) => Ok(read),
-        Err(fault) => Err(twice_of(fault)),
+        Err(fault) => {
+            drop(read);
+            Err(twice_of(fault))
+        }
     }
 }
 

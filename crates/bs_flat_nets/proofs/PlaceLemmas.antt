@@ -28,7 +28,7 @@ use Rattle.bs_flat_nets.specs.declared.constants.Bit.{Bit}
 use Rattle.bs_flat_nets.specs.Free.{free_nets, free_on, free_of, roots, count_in, known_in, free_of_node}
 use Rattle.bs_flat_nets.specs.Numbering.{net_at, no_net, no_place, IsFirst, IsNumbering, IsNumberIn, AreByNode}
 use Rattle.bs_flat_nets.specs.Rows.{AreRows}
-use Rattle.bs_flat_nets.specs.Tally.{bit_in, no_tally, with_nets, IsFound, IsTally}
+use Rattle.bs_flat_nets.specs.Tally.{bit_in, no_tally, with_nets, IsFound, IsTally, IsWholeTally}
 use Rattle.bs_flat_nets.specs.declared.numbers.Numbering.{Numbering}
 use Rattle.bs_flat_nets.specs.declared.tally.Tally.{Tally}
 use Rattle.bs_flat_nets.proofs.FreeLemmas.{flat_apart, flat_in_roots}
@@ -187,25 +187,30 @@ first_is d b places (Some n) e f =
     let lt = f.within n refl in
     (omega (arith, lt, wide), ap (λ (l : List PathNet). get_or l n no_net) (sym e) ∙ f.is n refl)
 
-pub numbering_is : (blocks : List FlatModule) (nodes : List Node) (top k : ℕ) (t : Tally) (n : Numbering) → IsDesign (design_of blocks top) →
+pub whole_tally : (blocks : List FlatModule) (nodes : List Node) (top k : ℕ) (t : Tally) →
     ArePaths (design_of blocks top) nodes (paths (design_of blocks top)) → length nodes ≤ k →
-    IsTally (design_of blocks top) (free_of (design_of blocks top) (take k (paths (design_of blocks top)))) t → Placed (length nodes) t →
-    n.places ≡ t.places → n.bits ≡ all_bits_of blocks → n.zero ≡ t.zero → n.one ≡ t.one → AreRows blocks n.rows → AreByNode n.places n.starts →
-    IsNumbering blocks nodes top n
-numbering_is blocks nodes top k t n h a le it placed ep eb ez eo rows by_node =
+    IsTally (design_of blocks top) (free_of (design_of blocks top) (take k (paths (design_of blocks top)))) t →
+    IsTally (design_of blocks top) (roots (design_of blocks top)) t
+whole_tally blocks nodes top k t a le it =
     let d = design_of blocks top in
     let all : take k (paths d) ≡ paths d = take_all k (paths d) (omega (arith, le, a.count)) in
-    let whole : IsTally d (roots d) t = subst (λ (ps : List Path). IsTally d (free_of d ps) t) all it in
-    let nets : map (net_at d) t.places ≡ flat_nets d = whole.are ∙ sym (flat_in_roots d h) in
+    subst (λ (ps : List Path). IsTally d (free_of d ps) t) all it
+
+pub numbering_is : (blocks : List FlatModule) (nodes : List Node) (top : ℕ) (t : Tally) (n : Numbering) → IsDesign (design_of blocks top) →
+    IsWholeTally blocks nodes top t n.starts → n.places ≡ t.places → n.bits ≡ all_bits_of blocks → n.zero ≡ t.zero → n.one ≡ t.one →
+    AreRows blocks n.rows → IsNumbering blocks nodes top n
+numbering_is blocks nodes top t n h whole ep eb ez eo rows =
+    let d = design_of blocks top in
+    let nets : map (net_at d) t.places ≡ flat_nets d = whole.nets.are ∙ sym (flat_in_roots d h) in
     record {
       nets = ap (map (net_at d)) ep ∙ nets;
-      placed = subst (λ (ps : List NetOnPath). All (λ (p : NetOnPath). p.node < length nodes) ps) (sym ep) placed;
+      placed = subst (λ (ps : List NetOnPath). All (λ (p : NetOnPath). p.node < length nodes) ps) (sym ep) whole.placed;
       known = eb;
-      first_zero = subst (λ (o : Option ℕ). IfSome o (IsFirst d false)) (sym ez) (first_is d false t.places t.zero nets (whole.first false));
-      first_one = subst (λ (o : Option ℕ). IfSome o (IsFirst d true)) (sym eo) (first_is d true t.places t.one nets (whole.first true));
-      no_zero = λ e. (whole.first false).none (sym ez ∙ e);
-      no_one = λ e. (whole.first true).none (sym eo ∙ e);
-      by_node = by_node;
+      first_zero = subst (λ (o : Option ℕ). IfSome o (IsFirst d false)) (sym ez) (first_is d false t.places t.zero nets (whole.nets.first false));
+      first_one = subst (λ (o : Option ℕ). IfSome o (IsFirst d true)) (sym eo) (first_is d true t.places t.one nets (whole.nets.first true));
+      no_zero = λ e. (whole.nets.first false).none (sym ez ∙ e);
+      no_one = λ e. (whole.nets.first true).none (sym eo ∙ e);
+      by_node = subst (λ (ps : List NetOnPath). AreByNode ps n.starts) (sym ep) whole.by_node;
       rows = rows;
     }
 

@@ -1,12 +1,16 @@
 -- The flat nets, taken one by one: each net that is no constant, and a constant the first time.
-use Rattle.std.specs.Prelude.{◌≡◌, ℕ, ◌<◌, Bool, true, false, if◌then◌else◌, ◌==◌, List, [], ◌∷◌, ◌++◌, length, map, filter, slice_index_or, Option, Some, None}
+use Rattle.std.specs.Prelude.{◌≡◌, ℕ, ◌<◌, Bool, true, false, if◌then◌else◌, ◌==◌, List, [], ◌∷◌, ◌++◌, length, map, filter, slice_index_or, All, Option, Some, None}
 use Rattle.std.specs.Prelude.{is_some, find, option_map}
 use Rattle.bs_flat_meaning.specs.Design.{Design, PathNet}
 use Rattle.bs_flat_meaning.specs.Meaning.{is_same}
 use Rattle.bs_flat_meaning.specs.Flat.{bit_of, is_bit, first_constant, home}
+use Rattle.bs_flat_meaning.specs.declared.paths.Node.{Node}
+use Rattle.bs_flat_nets.specs.Blocks.{design_of}
+use Rattle.bs_flat_nets.specs.Free.{roots}
+use Rattle.bs_flat_nets.specs.declared.blocks.FlatModule.{FlatModule}
 use Rattle.bs_flat_nets.specs.declared.climbing.NetOnPath.{NetOnPath}
 use Rattle.bs_flat_nets.specs.declared.constants.Bit.{Bit}
-use Rattle.bs_flat_nets.specs.Numbering.{net_at, no_net}
+use Rattle.bs_flat_nets.specs.Numbering.{net_at, no_net, AreByNode}
 use Rattle.bs_flat_nets.specs.declared.tally.Tally.{Tally}
 
 -- the bit of a net by a list of constants
@@ -61,3 +65,9 @@ pub record IsFound (d : Design) (b : Bool) (nets : List PathNet) (places : List 
 pub record IsTally (d : Design) (nets : List PathNet) (t : Tally) : Type 0 where
   pub are : map (net_at d) t.places ≡ filter (is_home d) nets
   pub first : (b : Bool) → IsFound d b nets t.places (first_of t b)
+
+-- the flat nets on all paths are taken, and the list has where those of each node begin
+pub record IsWholeTally (blocks : List FlatModule) (nodes : List Node) (top : ℕ) (t : Tally) (starts : List ℕ) : Type 0 where
+  pub nets : IsTally (design_of blocks top) (roots (design_of blocks top)) t
+  pub placed : All (λ p. p.node < length nodes) t.places
+  pub by_node : AreByNode t.places starts

@@ -1,5 +1,5 @@
 //! The flat nets of a design in order, by the nodes of their paths.
-ghost use Rattle.std.specs.Prelude.{◌≡◌, ◌<◌, length, All, IfOk, OnOk, []};
+ghost use Rattle.std.specs.Prelude.{◌≡◌, ◌<◌, ◌≤◌, length, All, IfOk, OnOk, []};
 ghost use Rattle.bs_flat_meaning.specs.Design.{paths};
 ghost use Rattle.bs_flat_meaning.specs.Flat.{IsDesign};
 ghost use Rattle.bs_flat_meaning.specs.Paths.{ArePaths};
@@ -8,7 +8,7 @@ ghost use Rattle.bs_flat_nets.specs.Climbing.{AreClimbable, node_at};
 ghost use Rattle.bs_flat_nets.specs.Sums.{all_bits_of};
 ghost use Rattle.bs_flat_nets.specs.Free as spec;
 ghost use Rattle.bs_flat_nets.specs.Numbering.{IsNumbering};
-ghost use Rattle.bs_flat_nets.specs.Tally.{no_tally, with_nets};
+ghost use Rattle.bs_flat_nets.specs.Tally.{no_tally, with_nets, IsWholeTally};
 
 use crate::blocks::{FlatModule, JoinedNets};
 use crate::climbing::NetOnPath;
@@ -116,6 +116,129 @@ fn push_node(
     Ok(())
 }
 
+/// Adds the flat nets of the nodes below the top's, and notes where those of each node begin.
+fn push_nodes(
+    tally: &mut Tally,
+    starts: &mut List<usize>,
+    free: &[List<List<usize>>],
+    bits: &[List<Bit>],
+    blocks: &[FlatModule],
+    nodes: &[Node],
+    _top: u32,
+) -> Result<(), NoMemory>
+    requires few { length nodes.now ≤ 4294967295 }
+    requires paths { ArePaths (design_of blocks.now _top) nodes.now (paths (design_of blocks.now _top)) }
+    requires climb { AreClimbable blocks.now nodes.now }
+    requires within { All (λ p. p.of < length blocks.now) nodes.now }
+    requires design { IsDesign (design_of blocks.now _top) }
+    requires free { free.now ≡ spec.free_of_all blocks.now }
+    requires bits { bits.now ≡ all_bits_of blocks.now }
+    requires first { tally.old ≡ with_nets no_tally 0 (spec.known_in blocks.now _top) (spec.free_nets [] (spec.count_in blocks.now _top)) }
+    requires none { starts.old ≡ [] }
+    ensures { OnOk result (IsWholeTally blocks.now nodes.now _top tally.new starts.new) }
+{
+    starts.push(0)?;
+    'nodes: for at in 1..nodes.len() {
+        starts.push(tally.places.len())?;
+        push_node(tally, free, bits, blocks, nodes, at as u32)?;
+    }
+    starts.push(tally.places.len())?;
+    Ok(())
+}
+
+/// The same, where the nets that joins leave to each instance are not known yet.
+fn push_below(
+    alloc: Global,
+    tally: &mut Tally,
+    starts: &mut List<usize>,
+    bits: &[List<Bit>],
+    blocks: &[FlatModule],
+    nodes: &[Node],
+    top: u32,
+) -> Result<(), NoMemory>
+    requires few { length nodes.now ≤ 4294967295 }
+    requires paths { ArePaths (design_of blocks.now top) nodes.now (paths (design_of blocks.now top)) }
+    requires climb { AreClimbable blocks.now nodes.now }
+    requires within { All (λ p. p.of < length blocks.now) nodes.now }
+    requires design { IsDesign (design_of blocks.now top) }
+    requires bits { bits.now ≡ all_bits_of blocks.now }
+    requires first { tally.old ≡ with_nets no_tally 0 (spec.known_in blocks.now top) (spec.free_nets [] (spec.count_in blocks.now top)) }
+    requires none { starts.old ≡ [] }
+    ensures { OnOk result (IsWholeTally blocks.now nodes.now top tally.new starts.new) }
+{
+    let free = free_of_all(alloc, blocks)?;
+    let pushed = push_nodes(tally, starts, free.slice(), bits, blocks, nodes, top);
+    drop(free);
+    pushed
+}
+
+/// The flat nets of all nodes, and where those of each node begin.
+#[derive(Drop)]
+struct NetsByNode {
+    tally: Tally,
+    starts: List<usize>,
+}
+
+/// The flat nets of all nodes of a design.
+fn nets_by_node(
+    alloc: Global,
+    bits: &[List<Bit>],
+    blocks: &[FlatModule],
+    nodes: &[Node],
+    top: u32,
+) -> Result<NetsByNode, NoMemory>
+    requires top { top < length blocks.now }
+    requires few { length nodes.now ≤ 4294967295 }
+    requires paths { ArePaths (design_of blocks.now top) nodes.now (paths (design_of blocks.now top)) }
+    requires climb { AreClimbable blocks.now nodes.now }
+    requires within { All (λ p. p.of < length blocks.now) nodes.now }
+    requires design { IsDesign (design_of blocks.now top) }
+    requires bits { bits.now ≡ all_bits_of blocks.now }
+    ensures { IfOk result (λ n. IsWholeTally blocks.now nodes.now top n.tally n.starts) }
+{
+    let mut tally = top_tally(alloc, blocks, bits, top)?;
+    let mut starts = List::new(alloc);
+    match push_below(alloc, &mut tally, &mut starts, bits, blocks, nodes, top) {
+        Ok(()) => Ok(NetsByNode { tally, starts }),
+        Err(want) => {
+            drop(tally);
+            drop(starts);
+            Err(want)
+        }
+    }
+}
+
+/// The numbering of a design's flat nets, with the runs of all instances.
+fn numbering_of(
+    alloc: Global,
+    blocks: &[FlatModule],
+    _nodes: &[Node],
+    _top: u32,
+    bits: List<List<Bit>>,
+    nets: NetsByNode,
+) -> Result<Numbering, NoMemory>
+    requires design { IsDesign (design_of blocks.now _top) }
+    requires bits { bits ≡ all_bits_of blocks.now }
+    requires nets { IsWholeTally blocks.now _nodes.now _top nets.tally nets.starts }
+    ensures { IfOk result (λ n. IsNumbering blocks.now _nodes.now _top n) }
+{
+    match rows_of_all(alloc, blocks) {
+        Ok(rows) => Ok(Numbering {
+            places: nets.tally.places,
+            starts: nets.starts,
+            bits,
+            zero: nets.tally.zero,
+            one: nets.tally.one,
+            rows,
+        }),
+        Err(want) => {
+            drop(bits);
+            drop(nets);
+            Err(want)
+        }
+    }
+}
+
 /// The flat nets of a design. It takes time by the instances in the text with their runs, by the nodes, and by the nets that
 /// joins leave to each.
 pub fn number_nets(
@@ -136,29 +259,11 @@ pub fn number_nets(
         return Err(NoMemory);
     }
     let bits = all_bits(alloc, blocks)?;
-    let free = free_of_all(alloc, blocks)?;
-    let rows = rows_of_all(alloc, blocks)?;
-    let mut tally = top_tally(alloc, blocks, bits.slice(), top)?;
-    let mut starts = List::new(alloc);
-    starts.push(0)?;
-    'nodes: for at in 1..nodes.len() {
-        starts.push(tally.places.len())?;
-        push_node(
-            &mut tally,
-            free.slice(),
-            bits.slice(),
-            blocks,
-            nodes,
-            at as u32,
-        )?;
+    match nets_by_node(alloc, bits.slice(), blocks, nodes, top) {
+        Ok(nets) => numbering_of(alloc, blocks, nodes, top, bits, nets),
+        Err(want) => {
+            drop(bits);
+            Err(want)
+        }
     }
-    starts.push(tally.places.len())?;
-    Ok(Numbering {
-        places: tally.places,
-        starts,
-        bits,
-        zero: tally.zero,
-        one: tally.one,
-        rows,
-    })
 }

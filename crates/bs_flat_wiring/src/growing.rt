@@ -52,8 +52,13 @@ pub fn own_made(alloc: Global, names: &Names, consts: &[Const]) -> Result<Module
     ensures consts { IfOk result (λ m. m.consts ≡ consts.now) }
 {
     let keys = own_keys(alloc, names)?;
-    let consts = own_consts(alloc, consts)?;
-    Ok(ModuleNets { keys, consts })
+    match own_consts(alloc, consts) {
+        Ok(consts) => Ok(ModuleNets { keys, consts }),
+        Err(want) => {
+            drop(keys);
+            Err(want)
+        }
+    }
 }
 
 /// Adds a constant where it is new.

@@ -19,28 +19,14 @@ blocks-requires-clause-there c =
     sym (ap length c.slice.ensures ∙ (long ∙ ap length c.slice-owns.ensures)) in
     subst (λ n. All (λ ns. All (λ k. k < n) ns) c.args.below.now) same c.requires.there
 
-pub returns-in_err-all-clause-connects : goal.returns-in_err-all-clause-connects
-returns-in_err-all-clause-connects c =
-    let f = c.in_err-all.field-0.0 in
-    let ports : AreAllPorts c.args.modules.now.owns c.slice.result.now =
-    subst (λ (l : List Ports). AreAllPorts c.args.modules.now.owns l) (sym c.slice.ensures)
-    (subst (λ (l : List Own). AreAllPorts l c.in_ok-ports.ports) c.slice-owns.ensures c.in_ok-ports.ensures) in
-    let tells : TellsBlocks c.args.table.now c.slice.result.now c.args.below.now c.args.modules.now.owns c.args.modules.now.written (Err f) =
-    subst (λ (l : List (List Written)). TellsBlocks c.args.table.now c.slice.result.now c.args.below.now c.args.modules.now.owns l (Err f)) c.slice-2.ensures
-    (subst (λ (l : List Own). TellsBlocks c.args.table.now c.slice.result.now c.args.below.now l c.slice-2.result.now (Err f)) c.slice-owns.ensures
-    c.in_err-all.ensures.tells) in
-    subst (λ (r : Result (List FlatModule) Fault). Connects c.args.table.now c.args.below.now c.args.modules.now r)
-    (sym (fails c.from_residual-in_err-all.result f c.from_residual-in_err-all.ensures))
-    (connects c.args.table.now c.slice.result.now c.args.below.now c.args.modules.now (Err f) c.requires.owns ports tells)
-
 pub returns-clause-connects : goal.returns-clause-connects
 returns-clause-connects c =
-    let all = c.in_ok-all.all in
+    let r = c.blocks-all.result in
     let ports : AreAllPorts c.args.modules.now.owns c.slice.result.now =
     subst (λ (l : List Ports). AreAllPorts c.args.modules.now.owns l) (sym c.slice.ensures)
     (subst (λ (l : List Own). AreAllPorts l c.in_ok-ports.ports) c.slice-owns.ensures c.in_ok-ports.ensures) in
-    let tells : TellsBlocks c.args.table.now c.slice.result.now c.args.below.now c.args.modules.now.owns c.args.modules.now.written (Ok all) =
-    subst (λ (l : List (List Written)). TellsBlocks c.args.table.now c.slice.result.now c.args.below.now c.args.modules.now.owns l (Ok all)) c.slice-2.ensures
-    (subst (λ (l : List Own). TellsBlocks c.args.table.now c.slice.result.now c.args.below.now l c.slice-2.result.now (Ok all)) c.slice-owns.ensures
-    c.in_ok-all.ensures.tells) in
-    connects c.args.table.now c.slice.result.now c.args.below.now c.args.modules.now (Ok all) c.requires.owns ports tells
+    let tells : TellsBlocks c.args.table.now c.slice.result.now c.args.below.now c.args.modules.now.owns c.args.modules.now.written r =
+    subst (λ (l : List (List Written)). TellsBlocks c.args.table.now c.slice.result.now c.args.below.now c.args.modules.now.owns l r) c.slice-2.ensures
+    (subst (λ (l : List Own). TellsBlocks c.args.table.now c.slice.result.now c.args.below.now l c.slice-2.result.now r) c.slice-owns.ensures
+    c.blocks-all.ensures.tells) in
+    connects c.args.table.now c.slice.result.now c.args.below.now c.args.modules.now r c.requires.owns ports tells

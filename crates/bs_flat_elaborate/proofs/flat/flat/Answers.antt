@@ -13,8 +13,8 @@ raw_of-requires-clause-named c =
     let few : length (keys_of d) ≤ MAX_NETS = subst (λ (l : List (List ℕ)). length l ≤ MAX_NETS) c.requires.named c.requires.few in
     subst AreNamed
     (sym
-    (whole_is d c.args.names c.in_ok-lists.lists.inputs c.in_ok-lists.lists.outputs c.in_ok-lists.lists.consts c.in_ok-lists.lists.gates c.in_ok-lists.lists.flops c.requires.named
-    c.in_ok-lists.ensures.inputs c.in_ok-lists.ensures.outputs c.in_ok-lists.ensures.consts c.in_ok-lists.ensures.gates c.in_ok-lists.ensures.flops))
+    (whole_is d c.args.names c.in-Ok.lists.inputs c.in-Ok.lists.outputs c.in-Ok.lists.consts c.in-Ok.lists.gates c.in-Ok.lists.flops c.requires.named
+    c.in-Ok.ensures.inputs c.in-Ok.ensures.outputs c.in-Ok.ensures.consts c.in-Ok.ensures.gates c.in-Ok.ensures.flops))
     (flat_named c.args.blocks.now c.args.top c.requires.laid.design c.requires.takes few)
 
 pub raw_of-requires-clause-short : goal.raw_of-requires-clause-short
@@ -22,13 +22,13 @@ raw_of-requires-clause-short c =
     let d = design_of c.args.blocks.now c.args.top in
     subst AreShort
     (sym
-    (whole_is d c.args.names c.in_ok-lists.lists.inputs c.in_ok-lists.lists.outputs c.in_ok-lists.lists.consts c.in_ok-lists.lists.gates c.in_ok-lists.lists.flops c.requires.named
-    c.in_ok-lists.ensures.inputs c.in_ok-lists.ensures.outputs c.in_ok-lists.ensures.consts c.in_ok-lists.ensures.gates c.in_ok-lists.ensures.flops))
+    (whole_is d c.args.names c.in-Ok.lists.inputs c.in-Ok.lists.outputs c.in-Ok.lists.consts c.in-Ok.lists.gates c.in-Ok.lists.flops c.requires.named
+    c.in-Ok.ensures.inputs c.in-Ok.ensures.outputs c.in-Ok.ensures.consts c.in-Ok.ensures.gates c.in-Ok.ensures.flops))
     (flat_short d c.requires.small.parts c.requires.narrow)
 
-pub returns : goal.returns
-returns c =
+pub returns-in-Ok : goal.returns-in-Ok
+returns-in-Ok c =
     let d = design_of c.args.blocks.now c.args.top in
     c.raw_of.ensures
-    ∙ whole_is d c.args.names c.in_ok-lists.lists.inputs c.in_ok-lists.lists.outputs c.in_ok-lists.lists.consts c.in_ok-lists.lists.gates c.in_ok-lists.lists.flops c.requires.named
-    c.in_ok-lists.ensures.inputs c.in_ok-lists.ensures.outputs c.in_ok-lists.ensures.consts c.in_ok-lists.ensures.gates c.in_ok-lists.ensures.flops
+    ∙ whole_is d c.args.names c.in-Ok.lists.inputs c.in-Ok.lists.outputs c.in-Ok.lists.consts c.in-Ok.lists.gates c.in-Ok.lists.flops c.requires.named
+    c.in-Ok.ensures.inputs c.in-Ok.ensures.outputs c.in-Ok.ensures.consts c.in-Ok.ensures.gates c.in-Ok.ensures.flops

@@ -1,5 +1,0 @@
-use Rattle.std.proofs.Common.{◌≡◌, take}
-use Rattle.bs_flat_connect.proofs.copies.terms.Given as goal
-
-abbrev pub invariant-nets : goal.invariant-nets
-invariant-nets l = l.all ≡ take l.net-index l.from
