@@ -8,12 +8,13 @@ ghost use Rattle.bs_verilog.specs.Netlist as spec;
 ghost use Rattle.bs_verilog_syntax.specs.declared.fault.VerilogFault.TheVariants.{NoMemory as OutOfMemory};
 ghost use Rattle.bs_bits.specs.Reading.{Answers};
 ghost use Rattle.bs_verilog_syntax.specs.declared.fault.VerilogFault.TheVariants.{NoMemory as want};
+ghost use Rattle.bs_verilog_syntax.specs.declared.tree.Direction.TheVariants as directions;
 
 use crate::building::{Built, with_parts};
 use crate::placing::NetTable;
 use crate::ports::{port_nets, supplies};
 use bs_bits::List;
-use bs_net::{NetId, Raw};
+use bs_net::{Names, NetId, Raw};
 use bs_verilog_lexemes::{Name, Table};
 use bs_verilog_scope::{Known, Scope, declare, numbered};
 use bs_verilog_syntax::{Component, Direction, Module, VerilogFault};
@@ -68,21 +69,28 @@ fn raw_of(built: Built, inputs: List<NetId>, outputs: List<NetId>) -> Result<Raw
     requires { IsFinished built inputs outputs }
     ensures { Answers want parts_of result (Ok (spec.parts_with built inputs outputs)) }
 {
-    are_short(
+    match are_short(
         inputs.len(),
         outputs.len(),
         built.made.consts.len(),
         built.gates.len(),
         built.flops.len(),
-    )?;
-    Ok(Raw {
-        names: built.made.names,
-        inputs,
-        outputs,
-        consts: built.made.consts,
-        gates: built.gates,
-        flops: built.flops,
-    })
+    ) {
+        Ok(()) => Ok(Raw {
+            names: built.made.names,
+            inputs,
+            outputs,
+            consts: built.made.consts,
+            gates: built.gates,
+            flops: built.flops,
+        }),
+        Err(fault) => {
+            drop(built);
+            drop(inputs);
+            drop(outputs);
+            Err(fault)
+        }
+    }
 }
 
 /// What stands before the first part: the declared nets and the supplies.
@@ -92,12 +100,66 @@ fn start(alloc: Global, table: &Table, top: &Module, nets: &[Known]) -> Result<B
     ensures { Answers want (λ b. b) result (Ok (spec.start_of table.now top.now)) }
 {
     let names = numbered(alloc, table, nets)?;
-    let consts = supplies(alloc, table, &names, top.declared.slice())?;
-    Ok(Built {
-        made: NetTable { names, consts },
-        gates: List::new(alloc),
-        flops: List::new(alloc),
-    })
+    match supplies(alloc, table, &names, top.declared.slice()) {
+        Ok(consts) => Ok(Built {
+            made: NetTable { names, consts },
+            gates: List::new(alloc),
+            flops: List::new(alloc),
+        }),
+        Err(fault) => {
+            drop(names);
+            Err(fault)
+        }
+    }
+}
+
+/// The nets of a module's ports, by direction.
+#[derive(Drop)]
+struct PortNets {
+    inputs: List<NetId>,
+    outputs: List<NetId>,
+}
+
+/// The nets of the ports that a header names.
+fn all_port_nets(
+    alloc: Global,
+    table: &Table,
+    scope: &Scope,
+    names: &Names,
+    header: &[Name],
+) -> Result<PortNets, VerilogFault>
+    ensures inputs { Answers want (λ p. p.inputs) result (Ok (spec.port_nets directions.Input table.now (looked scope.now) names.now header.now)) }
+    ensures outputs { Answers want (λ p. p.outputs) result (Ok (spec.port_nets directions.Output table.now (looked scope.now) names.now header.now)) }
+{
+    let inputs = port_nets(alloc, Direction::Input, table, scope, names, header)?;
+    let outputs = port_nets(alloc, Direction::Output, table, scope, names, header)?;
+    Ok(PortNets { inputs, outputs })
+}
+
+/// What the parts build after what stands before them, with these ports.
+fn finished_with(
+    alloc: Global,
+    table: &Table,
+    scope: &Scope,
+    _header: &[Name],
+    parts: &[Component],
+    start: Built,
+    ports: PortNets,
+) -> Result<Raw, VerilogFault>
+    requires finish { WillFinish table.now (looked scope.now) _header.now parts.now start }
+    requires inputs { spec.port_nets directions.Input table.now (looked scope.now) start.made.names _header.now ≡ ports.inputs }
+    requires outputs { spec.port_nets directions.Output table.now (looked scope.now) start.made.names _header.now ≡ ports.outputs }
+    ensures { Answers want parts_of result (spec.finished_of table.now (looked scope.now) _header.now parts.now start) }
+{
+    let mut built = start;
+    match with_parts(alloc, &mut built, table, scope, parts) {
+        Ok(()) => raw_of(built, ports.inputs, ports.outputs),
+        Err(fault) => {
+            drop(built);
+            drop(ports);
+            Err(fault)
+        }
+    }
 }
 
 /// What the parts build after what stands before them.
@@ -112,25 +174,13 @@ fn finished(
     requires { WillFinish table.now (looked scope.now) header.now parts.now start }
     ensures { Answers want parts_of result (spec.finished_of table.now (looked scope.now) header.now parts.now start) }
 {
-    let inputs = port_nets(
-        alloc,
-        Direction::Input,
-        table,
-        scope,
-        &start.made.names,
-        header,
-    )?;
-    let outputs = port_nets(
-        alloc,
-        Direction::Output,
-        table,
-        scope,
-        &start.made.names,
-        header,
-    )?;
-    let mut built = start;
-    with_parts(alloc, &mut built, table, scope, parts)?;
-    raw_of(built, inputs, outputs)
+    match all_port_nets(alloc, table, scope, &start.made.names, header) {
+        Ok(ports) => finished_with(alloc, table, scope, header, parts, start, ports),
+        Err(fault) => {
+            drop(start);
+            Err(fault)
+        }
+    }
 }
 
 /// What a module builds whose declarations are in order.

@@ -31,8 +31,15 @@ fn module(alloc: Global, bytes: &[u8]) -> Result<(Module, Table), VerilogFault>
     ensures { Answers want (λ x. x) result (spec.module_text bytes.now) }
 {
     let (lexemes, table) = lexed(alloc, bytes)?;
-    let module = syntax(alloc, lexemes.slice())?;
-    Ok((module, table))
+    let parsed = syntax(alloc, lexemes.slice());
+    drop(lexemes);
+    match parsed {
+        Ok(module) => Ok((module, table)),
+        Err(fault) => {
+            drop(table);
+            Err(fault)
+        }
+    }
 }
 
 /// The netlist that a text of at most 16 MiB is (docs/FORMATS.md, "Netlists"): its names in the order of their
