@@ -3,11 +3,11 @@
 
 - Each word bs_.. is a crate of crates.txt (or one of the cells that a netlist of the examples has).
 - Each path in backticks below crates/, docs/, examples/ or tools/ is there. Behind a path may stand what it defines:
-  `crates/NAME/specs/File.antt: definition`, `crates/NAME/src/file.rt: function` or `crates/NAME/src/file.rt: function (clause, clause)`.
+  `crates/NAME/specs/File.antt: definition`, `crates/NAME/src/file.rt: function` or `crates/NAME/src/file.rt: function (clause, clause)`;
+  several stand behind one path with commas between.
 - In a table with a column «Stands on» each row's crate stands on just the crates of the repository that are named there.
 - Each link to a document leads to one.
-- A type or definition that stands in two crates, and that other crates use of both, stands in DECISIONS' table of words with two meanings;
-  any other that stands in two crates stands in the list below it.
+- A type, a record or a relation that other crates use of two crates stands in DECISIONS' table of words with two meanings.
 """
 import glob
 import os
@@ -54,8 +54,11 @@ def faults_of_place(path, names):
     text = read(path)
     if path.endswith(".antt"):
         return [f"{path} does not define {it}" for it in re.findall(r"[\w-]+", names) if not re.search(DEFINED.format(re.escape(it)), text, re.M)]
-    function, _, clauses = names.partition("(")
-    function = function.strip().split("::")[-1]
+    return [it for function, clauses in re.findall(r"([\w:]+)(?: \(([^)]*)\))?", names) for it in faults_of_function(path, text, function, clauses)]
+
+
+def faults_of_function(path, text, function, clauses):
+    function = function.split("::")[-1]
     said = clauses_of(text, function)
     if said is None:
         is_item = re.search(rf"\b(struct|enum|trait|const|type|mod) {re.escape(function)}\b", text)
@@ -100,7 +103,7 @@ def texts_of(crate, *patterns):
 
 
 def doubled(below):
-    """The types and definitions of two crates or more: those that other crates use of two of them, with these crates, and all."""
+    """The types, records and relations that other crates use of two crates, with these crates."""
     defined, used = {}, {}
     for crate in below:
         for name in set().union(
@@ -112,21 +115,17 @@ def doubled(below):
             for of, names in found:
                 for name in re.findall(r"\w+", names) if of != crate else []:
                     used.setdefault(name, set()).add(of)
-    both = {name: sorted(defined[name] & used.get(name, set())) for name in defined}
-    return {name: of for name, of in both.items() if len(of) > 1}, {name for name in defined if len(defined[name]) > 1}
+    both = {name: sorted(defined[name] & used.get(name, set())) for name in defined if name[0].isupper()}
+    return {name: of for name, of in both.items() if len(of) > 1}
 
 
 def faults_of_words(below):
     """The names with two meanings that the table of such words does not have, and those that it has and that have one."""
-    path = "docs/DECISIONS.md"
-    table = read(path).partition("### Words with two meanings")[2].partition("\n## ")[0]
+    table = read("docs/DECISIONS.md").partition("### Words with two meanings")[2].partition("\n## ")[0]
     listed = {it for row in re.findall(r"^\|(`[^|]*)\|", table, re.M) for it in re.findall(r"`(\w+)`", row)}
-    own = set(re.findall(r"\w+", table.partition("```text")[2].partition("```")[0]))
-    found, every = doubled(below)
+    found = doubled(below)
     faults = [f"{name} is used of {' and '.join(found[name])}, and is no word of the table" for name in sorted({*found} - listed)]
-    faults += [f"{name} has one meaning outside its crate" for name in sorted(listed - {*found})]
-    faults += [f"{name} stands in two crates, and not in the list" for name in sorted(every - listed - own)]
-    return faults + [f"{name} stands in one crate, or in the table" for name in sorted(own - (every - listed))]
+    return faults + [f"{name} has one meaning outside its crate" for name in sorted(listed - {*found})]
 
 
 def main():
