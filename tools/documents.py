@@ -5,9 +5,9 @@
 - Each path in backticks below crates/, docs/, examples/ or tools/ is there. Behind a path may stand what it defines:
   `crates/NAME/specs/File.antt: definition`, `crates/NAME/src/file.rt: function` or `crates/NAME/src/file.rt: function (clause, clause)`;
   several stand behind one path with commas between.
-- In a table with a column «Stands on» each row's crate stands on just the crates of the repository that are named there.
-- Each link to a document leads to one.
-- A type, a record or a relation that other crates use of two crates stands in DECISIONS' table of words with two meanings.
+- Each link to a document leads to one. Each section of a document that a source or a document cites, as docs/FORMATS.md, "Dump", is a heading of it,
+  or a word in bold type.
+- A type, a record or a relation that other crates use of two crates has a line in TWO_MEANINGS, with what it means in each.
 """
 import glob
 import os
@@ -15,11 +15,36 @@ import re
 import sys
 
 CELLS = {"bs_map", "bs_obuf"}
+CRATE = r"\bbs_[a-z_]+\b"
 TYPES = r"^\s*pub (?:struct|enum|trait|type) (\w+)"
 DEFINITIONS = r"^(?:abbrev|unfoldable) (?:pub )?(\w+)|^(?:pub )?(?:record|data) (?:pub )?(\w+)"
 CITED = r"\bRattle\.(bs_\w+)\.(?:specs|proofs)[\w.]*\.\{([^}]*)\}"
 IMPORTED = r"^\s*(?:pub )?use (bs_\w+)(?:::\w+)*::(?:\{([^}]*)\}|(\w+))"
 DOCUMENTS = ["README.md", "CHANGELOG.md", "CONTRIBUTING.md", "examples/README.md", *sorted(glob.glob("docs/*.md"))]
+SECTION = r"\bdocs/([A-Z_]+)\.md`?, \"([^\"\n]+)\""
+TWO_MEANINGS = {
+    "Answer": "of a text of several modules in bs_flat_meaning; of a solve in bs_solve_recording",
+    "ArePlaced": "parts whose nets have numbers in bs_net; clauses with a place in the arena in bs_watch",
+    "Due": "a note that is due in bs_top_answer; what is due in a text in bs_verilog_syntax",
+    "Fits": "a valuation in bs_net; a log at a stage in bs_solve_recording",
+    "HasValues": "the trail as the arena has it in bs_watch; as the log has it in bs_solve_recording",
+    "IsBefore": "a moment in bs_scan; a state in bs_encode",
+    "IsClear": "marks in bs_solve_analysis; words without a further bit in bs_stim",
+    "IsCut": "a mask of runs in bs_break; where a log is cut in bs_solve_recording",
+    "IsImplied": "a literal of a unit run in bs_clause; a place on the trail in bs_watch",
+    "IsRecorded": "runs in bs_stim; a log in bs_solve_recording",
+    "Marks": "of variables in bs_solve_analysis; of names in bs_verilog_scope",
+    "Module": "of a design in bs_flat_meaning; as read in bs_verilog_syntax",
+    "Outcome": "of propagation in bs_watch; of a search for a state in bs_reach",
+    "Piece": "a module's part of a text in bs_flat_meaning; what begins at a place in bs_lex",
+    "Ports": "of a design, with numbers of nets, in bs_flat_wiring; as read in bs_verilog_syntax",
+    "Range": "of a name in bs_net_names; of a declaration in bs_verilog_syntax",
+    "Recorded": "a moment with its candidate in bs_preimage_recorded; a run in bs_stim",
+    "Recording": "a chip's circuit, choice and runs in bs_scan; a solver's log and what it is about in bs_solve_recording",
+    "Says": "words for a reason in bs_top_plan; what a declaration says in bs_verilog_syntax",
+    "ShowsCycle": "planes in bs_chip; an assignment in bs_encode",
+    "Step": "of gates in bs_net; of a report in bs_report; a state and the next one in bs_inspect_film",
+}
 DEFINED = r"^(?:pub )?(?:abbrev|unfoldable|record|data)?\s*(?:pub )?(?:record |data )?{}\b"
 
 
@@ -67,31 +92,29 @@ def faults_of_function(path, text, function, clauses):
     return [f"{path}: {function} has no clause {it}" for it in named]
 
 
-def faults_of_tables(text, below):
-    faults, column = [], None
-    for line in text.splitlines():
-        cells = [it.strip() for it in line.strip().strip("|").split("|")] if line.startswith("|") else None
-        if cells is None:
-            column = None
-        elif "Stands on" in cells:
-            column = cells.index("Stands on")
-        elif column is not None and column < len(cells):
-            name = cells[0].strip("`")
-            if name in below and set(re.findall(r"\w+", cells[column])) & set(below) != below[name]:
-                faults.append(f"{name} stands on {' '.join(sorted(below[name])) or 'nothing'}")
-    return faults
-
-
 def faults_of(document, below):
     text = read(document)
-    faults = [f"{it} is no crate" for it in sorted(set(re.findall(r"\bbs_[a-z_]+\b", text)) - set(below) - CELLS)]
+    faults = [f"{it} is no crate" for it in sorted(set(re.findall(CRATE, text)) - set(below) - CELLS)]
     for path, _, names in re.findall(r"`((?:crates|docs|examples|tools)/[\w./-]+)(: ([^`]+))?`", text):
         if "/out/" not in path and "/NAME/" not in path and "/CRATE/" not in path:
             faults += faults_of_place(path.rstrip("."), names)
     for link in re.findall(r"\]\(([\w./-]+\.md)\b[^)]*\)", text):
         if not os.path.exists(os.path.join(os.path.dirname(document), link)):
             faults.append(f"the link to {link} leads nowhere")
-    return faults + faults_of_tables(text, below)
+    return faults
+
+
+def faults_of_sections():
+    """The cited sections that the documents do not have."""
+    cited = {}
+    for path in DOCUMENTS + [it for kind in ("src/**/*.rt", "specs/*.antt", "proofs/**/*.antt") for it in glob.glob(f"crates/*/{kind}", recursive=True)]:
+        for name, section in re.findall(SECTION, read(path)) if os.path.exists(path) else []:
+            cited.setdefault((name, section), path)
+    heads = {}
+    for name in {name for name, _ in cited}:
+        text = read(f"docs/{name}.md")
+        heads[name] = "\n".join(re.findall(r"^#+ (.*)$", text, re.M) + re.findall(r"\*\*([^*]+)\*\*", text)).lower()
+    return [f"{path}: docs/{name}.md has no section {section}" for (name, section), path in sorted(cited.items()) if section.lower() not in heads[name]]
 
 
 def items_of(text, pattern):
@@ -120,18 +143,20 @@ def doubled(below):
 
 
 def faults_of_words(below):
-    """The names with two meanings that the table of such words does not have, and those that it has and that have one."""
-    table = read("docs/DECISIONS.md").partition("### Words with two meanings")[2].partition("\n## ")[0]
-    listed = {it for row in re.findall(r"^\|(`[^|]*)\|", table, re.M) for it in re.findall(r"`(\w+)`", row)}
+    """The names with two meanings that TWO_MEANINGS does not have, and those that it has and that have one, or other crates."""
     found = doubled(below)
-    faults = [f"{name} is used of {' and '.join(found[name])}, and is no word of the table" for name in sorted({*found} - listed)]
-    return faults + [f"{name} has one meaning outside its crate" for name in sorted(listed - {*found})]
+    faults = [f"{name} is used of {' and '.join(found[name])}, and TWO_MEANINGS has no line for it" for name in sorted({*found} - {*TWO_MEANINGS})]
+    faults += [f"TWO_MEANINGS: {name} has one meaning outside its crate" for name in sorted({*TWO_MEANINGS} - {*found})]
+    return faults + [f"TWO_MEANINGS: {name} is used of {' and '.join(found[name])}" for name in sorted({*TWO_MEANINGS} & {*found}) if {*re.findall(CRATE, TWO_MEANINGS[name])} != {*found[name]}]
 
 
 def main():
     below, count = crates(), 0
     for fault in faults_of_words(below):
-        print(f"docs/DECISIONS.md: {fault}")
+        print(f"tools/documents.py: {fault}")
+        count += 1
+    for fault in faults_of_sections():
+        print(fault)
         count += 1
     for document in DOCUMENTS:
         for fault in faults_of(document, below) if os.path.exists(document) else [f"{document} is not there"]:
