@@ -78,9 +78,6 @@ fn logged_part(
     }
 }
 
-/// Lets the assumptions of steps go.
-fn drop_assumptions(_assumptions: List<Lits>) {}
-
 /// The first part that fails against the log, over the encoding's clauses.
 fn encoded_part(
     alloc: Global,
@@ -99,15 +96,12 @@ fn encoded_part(
     match assumptions(alloc, encoding, report.steps.slice()) {
         Ok(assumptions) => {
             let part = logged_part(alloc, encoding, net.width(), report, &assumptions);
-            drop_assumptions(assumptions);
+            drop(assumptions);
             part
         }
         Err(want) => Err(want),
     }
 }
-
-/// Lets an encoding go.
-fn drop_encoding(_encoding: Encoding) {}
 
 /// The first part that fails against the log.
 fn log_part(
@@ -124,7 +118,7 @@ fn log_part(
     match encoding(alloc, net, choice) {
         Ok(encoding) => {
             let part = encoded_part(alloc, net, choice, &encoding, report);
-            drop_encoding(encoding);
+            drop(encoding);
             part
         }
         Err(want) => Err(want),
@@ -154,9 +148,6 @@ fn part_behind(
     log_part(alloc, net, choice, report)
 }
 
-/// Lets a replay go.
-fn drop_replay(_replay: Replay<'_>) {}
-
 /// What is found of the steps.
 fn walked(
     alloc: Global,
@@ -174,7 +165,7 @@ fn walked(
         Ok(replay) => {
             let mut replay = replay;
             let walk = replay.walk(alloc, report);
-            drop_replay(replay);
+            drop(replay);
             walk
         }
         Err(want) => Err(want),

@@ -12,6 +12,7 @@ use std::alloc::Global;
 use std::collections::HashMap;
 
 /// How many hashes of one side are noted when no further cycle is. There are never more than this many and one a run.
+/// The bound of an index (`MAX_HASHES` of bs_chip), for the same reason.
 const MAX_FIRSTS: usize = 2_097_152;
 
 /// For each hash of the first so many rows, the first row that has it: where the data input is 0, and where it is 1.

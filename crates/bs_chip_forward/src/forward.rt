@@ -249,13 +249,30 @@ fn is_aimed(row: &NextStateHashes, lane: usize, aim: Aim) -> bool
 /// Where the recorded states lead, made cycle by cycle as it is asked for: 16 bytes for a run and a cycle. Next states are
 /// made where one data input is 0 and where it is 1, and are looked at in the flip-flops that no other data input moves
 /// then, by the parities of groups of them. Contracts see the machine, the runs, and these groups.
-#[derive(Drop)]
 pub struct Forward<'a> {
     pass: Pass<'a>,
     low: Held<'a>,
     high: Held<'a>,
     rows: List<NextStateHashes>,
     firsts: Firsts,
+}
+
+// One function for every place that drops one, so that the proof of each such place stays small.
+impl<'a> Drop for Forward<'a> {
+    fn drop(self) {
+        let Forward {
+            pass,
+            low,
+            high,
+            rows,
+            firsts,
+        } = self;
+        drop(pass);
+        drop(low);
+        drop(high);
+        drop(rows);
+        drop(firsts);
+    }
 }
 
 impl<'a> Model for Forward<'a> {

@@ -15,7 +15,6 @@ use std::alloc::Global;
 use std::marker::Model;
 
 /// A netlist in which one data input is held at a value, and groups of flip-flops that no other one moves then.
-#[derive(Drop)]
 pub struct Held<'a> {
     lanes: Lanes<'a>,
     inputs: Planes,
@@ -23,6 +22,23 @@ pub struct Held<'a> {
     value: bool,
     width: usize,
     groups: List<List<u32>>,
+}
+
+// One function for every place that drops one, so that the proof of each such place stays small.
+impl<'a> Drop for Held<'a> {
+    fn drop(self) {
+        let Held {
+            lanes,
+            inputs,
+            input: _,
+            value: _,
+            width: _,
+            groups,
+        } = self;
+        drop(lanes);
+        drop(inputs);
+        drop(groups);
+    }
 }
 
 impl<'a> Model for Held<'a> {

@@ -25,6 +25,23 @@ pub record Encoded : Type 0 where
 abbrev pub literals : List ℕ → List Literal
 literals vs = map (λ v. lit v true) vs
 
+-- clauses over so many variables and these literals, with no signature and no second copy
+abbrev pub unsigned : List Clause → ℕ → List Literal → List Literal → List Literal → Encoded
+unsigned clauses variables states next inputs =
+    record {
+      clauses = clauses;
+      variables = variables;
+      states = states;
+      next = next;
+      signatures = [];
+      inputs = inputs;
+      link = None;
+      older_states = [];
+      older_inputs = [];
+      older_signatures = [];
+      at_reset = [];
+    }
+
 -- so many variables and these clauses and signatures, over the literals of a circuit
 abbrev pub joined : Circuit → List Clause → ℕ → List Literal → Encoded
 joined c clauses variables signatures =

@@ -7,9 +7,9 @@ ghost use Rattle.bs_clause.specs.Literal.{IsVariable};
 ghost use Rattle.bs_net.specs.Netlist.{circuit};
 ghost use Rattle.bs_encode.specs.Tables.{lit};
 ghost use Rattle.bs_encode.specs.Transition.{cycle_clauses, table_clauses, tidied, state_vars, net_var, item_vars, first_item, first_next, variables};
-ghost use Rattle.bs_encode.specs.Encoded.{literals, joined, encoding_of};
+ghost use Rattle.bs_encode.specs.Encoded.{literals, joined, unsigned, encoding_of};
 ghost use Rattle.bs_encode.specs.Assuming.{asking, AreWide, before_assumed, assumptions_for, block_for};
-ghost use Rattle.bs_encode.specs.Depth.{IsLinkable, linked, encoding_by};
+ghost use Rattle.bs_encode.specs.Depth.{IsLinkable, linked, linked_clauses, encoding_by};
 
 use crate::law::encodings_are_linkable;
 use crate::older::{Older, append, no_older, older_clauses, older_literals};
@@ -136,7 +136,6 @@ fn net_literals(alloc: Global, nets: &[NetId]) -> Result<Lits, NoMemory>
 
 /// The transition relation of a netlist as clauses, with the literals of its state, its next state,
 /// its inputs and its signature; where two signatures are kept, with a second time frame of all, for the cycle before.
-#[derive(Drop)]
 pub struct Encoding {
     clauses: Clauses,
     variables: u32,
@@ -147,6 +146,27 @@ pub struct Encoding {
     older: Older,
 }
 
+// One function for every place that drops an encoding, so that the proof of each such place stays small.
+impl Drop for Encoding {
+    fn drop(self) {
+        let Encoding {
+            clauses,
+            variables: _,
+            states,
+            next,
+            signatures,
+            inputs,
+            older,
+        } = self;
+        drop(clauses);
+        drop(states);
+        drop(next);
+        drop(signatures);
+        drop(inputs);
+        drop(older);
+    }
+}
+
 impl Model for Encoding {
     ghost use Rattle.bs_encode.specs.Encoded.{Encoded};
 
@@ -155,35 +175,150 @@ impl Model for Encoding {
     ghost view = { λ e. record { clauses = e.clauses; variables = e.variables; states = e.states; next = e.next; signatures = e.signatures; inputs = e.inputs; link = e.older.link; older_states = e.older.states; older_inputs = e.older.inputs; older_signatures = e.older.signatures; at_reset = e.older.at_reset } };
 }
 
-/// The encoding of these clauses and signatures over the literals of a netlist.
+/// The literals of a netlist's state, next state and data inputs.
+#[derive(Drop)]
+struct NetLiterals {
+    states: Lits,
+    next: Lits,
+    inputs: Lits,
+}
+
+/// The literals of a netlist, whose next variables begin at `first`.
+fn literals_in(
+    alloc: Global,
+    net: &Netlist,
+    states: &[u32],
+    first: u32,
+) -> Result<NetLiterals, NoMemory>
+    requires states { states.now ≡ state_vars (circuit net.now) }
+    requires range { All IsVariable states.now }
+    requires next { first ≡ first_next (circuit net.now) }
+    requires room { first_item (circuit net.now) ≤ VARIABLE_LIMIT }
+    ensures states { IfOk result (λ own. own.states ≡ literals (state_vars (circuit net.now))) }
+    ensures next { IfOk result (λ own. own.next ≡ literals (range_with_len (first_next (circuit net.now)) (length (circuit net.now).flops))) }
+    ensures inputs { IfOk result (λ own. own.inputs ≡ literals (map net_var (circuit net.now).inputs)) }
+{
+    let raw = net.raw();
+    let next = literals_from(alloc, first, raw.flops.len())?;
+    let inputs = net_literals(alloc, net.data_inputs().slice())?;
+    let states = literals_of(alloc, states)?;
+    Ok(NetLiterals {
+        states,
+        next,
+        inputs,
+    })
+}
+
+/// The encoding of its parts, with no signature.
+fn encoding_with(alloc: Global, clauses: Clauses, variables: u32, own: NetLiterals) -> Encoding
+    ensures { result ≡ unsigned clauses variables own.states own.next own.inputs }
+{
+    Encoding {
+        clauses,
+        variables,
+        states: own.states,
+        next: own.next,
+        signatures: Lits::new(alloc),
+        inputs: own.inputs,
+        older: no_older(alloc),
+    }
+}
+
+/// The encoding of clauses over these literals, with no signature.
+fn join_literals(
+    alloc: Global,
+    partial: &PartialEncoding,
+    own: NetLiterals,
+) -> Result<Encoding, NoMemory>
+    requires end { 1 ≤ partial.now.end }
+    ensures { IfOk result (λ e. e ≡ unsigned (tidied partial.now.clauses) (partial.now.end - 1) own.states own.next own.inputs) }
+{
+    match tidy(alloc, &partial.clauses) {
+        Ok(clauses) => Ok(encoding_with(alloc, clauses, partial.end - 1, own)),
+        Err(want) => {
+            drop(own);
+            Err(want)
+        }
+    }
+}
+
+/// The encoding of clauses over the literals of a netlist, with no signature.
 fn join(
     alloc: Global,
     net: &Netlist,
     states: &[u32],
     partial: &PartialEncoding,
-    signatures: Lits,
 ) -> Result<Encoding, NoMemory>
     requires states { states.now ≡ state_vars (circuit net.now) }
     requires range { All IsVariable states.now }
     requires next { partial.now.next ≡ first_next (circuit net.now) }
     requires room { first_item (circuit net.now) ≤ VARIABLE_LIMIT }
     requires end { 1 ≤ partial.now.end }
-    ensures { IfOk result (λ e. e ≡ joined (circuit net.now) (tidied partial.now.clauses) (partial.now.end - 1) signatures) }
+    ensures { IfOk result (λ e. e ≡ joined (circuit net.now) (tidied partial.now.clauses) (partial.now.end - 1) []) }
 {
-    let raw = net.raw();
-    let clauses = tidy(alloc, &partial.clauses)?;
-    let next = literals_from(alloc, partial.next, raw.flops.len())?;
-    let inputs = net_literals(alloc, net.data_inputs().slice())?;
-    let states = literals_of(alloc, states)?;
-    Ok(Encoding {
-        clauses,
-        variables: partial.end - 1,
-        states,
-        next,
-        signatures,
-        inputs,
-        older: no_older(alloc),
-    })
+    match literals_in(alloc, net, states, partial.next) {
+        Ok(own) => join_literals(alloc, partial, own),
+        Err(want) => Err(want),
+    }
+}
+
+/// The encoding with the literals of a signature.
+fn with_signatures(encoding: Encoding, signatures: Lits) -> Encoding
+    ensures { result ≡ record encoding { signatures = signatures } }
+{
+    let mut encoding = encoding;
+    encoding.signatures = signatures;
+    encoding
+}
+
+/// The encoding of clauses and signatures over the literals of a netlist.
+fn join_signed(
+    alloc: Global,
+    net: &Netlist,
+    states: &[u32],
+    partial: PartialEncoding,
+    signatures: Lits,
+) -> Result<Encoding, NoMemory>
+    requires states { states.now ≡ state_vars (circuit net.now) }
+    requires range { All IsVariable states.now }
+    requires next { partial.next ≡ first_next (circuit net.now) }
+    requires room { first_item (circuit net.now) ≤ VARIABLE_LIMIT }
+    requires end { 1 ≤ partial.end }
+    ensures { IfOk result (λ e. e ≡ joined (circuit net.now) (tidied partial.clauses) (partial.end - 1) signatures) }
+{
+    let unsigned = join(alloc, net, states, &partial);
+    drop(partial);
+    match unsigned {
+        Ok(encoding) => Ok(with_signatures(encoding, signatures)),
+        Err(want) => {
+            drop(signatures);
+            Err(want)
+        }
+    }
+}
+
+/// One time frame of the transition over the state's variables, and the signature.
+fn frame_over(
+    alloc: Global,
+    net: &Netlist,
+    states: &[u32],
+    choice: &Choice,
+) -> Result<Encoding, NoMemory>
+    requires width { choice.now.width ≡ length (circuit net.now).flops }
+    requires states { states.now ≡ state_vars (circuit net.now) }
+    requires range { All IsVariable states.now }
+    ensures { IfOk result (λ e. e ≡ encoding_of (circuit net.now) choice.now.items) }
+{
+    let _raw = net.raw();
+    let _items = choice.items();
+    let mut signatures = Lits::new(alloc);
+    match encode_parts(alloc, net, states, choice, &mut signatures) {
+        Ok(partial) => join_signed(alloc, net, states, partial, signatures),
+        Err(want) => {
+            drop(signatures);
+            Err(want)
+        }
+    }
 }
 
 /// One time frame of the transition, and the signature.
@@ -191,13 +326,28 @@ fn one_frame(alloc: Global, net: &Netlist, choice: &Choice) -> Result<Encoding, 
     requires { choice.now.width ≡ length (circuit net.now).flops }
     ensures { IfOk result (λ e. e ≡ encoding_of (circuit net.now) choice.now.items) }
 {
-    let raw = net.raw();
-    let _items = choice.items();
-    let states = state_variables(alloc, raw.flops.slice())?;
-    let mut signatures = Lits::new(alloc);
-    let partial = encode_parts(alloc, net, states.as_slice(), choice, &mut signatures)?;
-    let encoding = join(alloc, net, states.as_slice(), &partial, signatures)?;
+    let states = state_variables(alloc, net.raw().flops.slice())?;
+    let encoding = frame_over(alloc, net, states.as_slice(), choice)?;
     Ok(encoding)
+}
+
+/// Puts the clauses of a second time frame to those of one.
+fn add_older_clauses(alloc: Global, one: &mut Encoding) -> Result<(), NoMemory>
+    requires { IsLinkable one.old }
+    ensures { OnOk result (one.new ≡ record one.old { clauses = linked_clauses one.old }) }
+{
+    match older_clauses(alloc, one) {
+        Ok(more) => append(&mut one.clauses, more),
+        Err(want) => Err(want),
+    }
+}
+
+/// Gives an encoding the literals of a second time frame, and so many variables.
+fn set_older(one: &mut Encoding, variables: u32, older: Older)
+    ensures { one.new ≡ record one.old { variables = variables; link = older.link; older_states = older.states; older_inputs = older.inputs; older_signatures = older.signatures; at_reset = older.at_reset } }
+{
+    one.variables = variables;
+    one.older = older;
 }
 
 /// Gives an encoding of one time frame a second one, for the cycle before.
@@ -208,11 +358,16 @@ fn link_older(alloc: Global, one: &mut Encoding, reset: &Bits) -> Result<(), NoM
 {
     let variables = 2 * one.variables + 1;
     let older = older_literals(alloc, one, reset)?;
-    let more = older_clauses(alloc, one)?;
-    append(&mut one.clauses, more)?;
-    one.variables = variables;
-    one.older = older;
-    Ok(())
+    match add_older_clauses(alloc, one) {
+        Ok(_) => {
+            set_older(one, variables, older);
+            Ok(())
+        }
+        Err(want) => {
+            drop(older);
+            Err(want)
+        }
+    }
 }
 
 impl Encoding {
@@ -237,7 +392,7 @@ impl Encoding {
         let raw = net.raw();
         let states = state_variables(alloc, raw.flops.slice())?;
         let partial = encode_cycle(alloc, net)?;
-        let encoding = join(alloc, net, states.as_slice(), &partial, Lits::new(alloc))?;
+        let encoding = join(alloc, net, states.as_slice(), &partial)?;
         Ok(encoding)
     }
 

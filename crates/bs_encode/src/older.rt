@@ -54,13 +54,29 @@ fn raise_frame(alloc: Global, one: &Encoding, literals: &[Lit]) -> Result<Lits, 
 
 /// The link of a second time frame and its literals, and those of the first that are true at reset; no link and none where there is
 /// one time frame.
-#[derive(Drop)]
 pub(crate) struct Older {
     pub(crate) link: Option<Lit>,
     pub(crate) states: Lits,
     pub(crate) inputs: Lits,
     pub(crate) signatures: Lits,
     pub(crate) at_reset: Lits,
+}
+
+// One function for every place that drops one, so that the proof of each such place stays small.
+impl Drop for Older {
+    fn drop(self) {
+        let Older {
+            link: _,
+            states,
+            inputs,
+            signatures,
+            at_reset,
+        } = self;
+        drop(states);
+        drop(inputs);
+        drop(signatures);
+        drop(at_reset);
+    }
 }
 
 /// There is no second time frame.
@@ -88,6 +104,44 @@ fn link_lit(one: &Encoding) -> Lit
     Lit::new(Var(2 * one.vars() + 1), true)
 }
 
+/// Writes the literals of the variables of the second time frame.
+fn set_raised(
+    alloc: Global,
+    one: &Encoding,
+    literals: &[Lit],
+    into: &mut Lits,
+) -> Result<(), NoMemory>
+    requires linkable { IsLinkable one.now }
+    requires range { HasVariables one.now.variables literals.now }
+    ensures { OnOk result (into.new ≡ raised_all one.now.variables literals.now) }
+{
+    *into = raise_frame(alloc, one, literals)?;
+    Ok(())
+}
+
+/// Writes the link and the literals of a second time frame.
+fn fill_older(
+    alloc: Global,
+    one: &Encoding,
+    reset: &Bits,
+    older: &mut Older,
+) -> Result<(), NoMemory>
+    requires linkable { IsLinkable one.now }
+    requires width { length one.now.states ≡ length reset.now }
+    requires empty { older.old.at_reset ≡ [] }
+    ensures link { OnOk result (older.new.link ≡ Some (link_of one.now)) }
+    ensures states { OnOk result (older.new.states ≡ raised_all one.now.variables one.now.states) }
+    ensures inputs { OnOk result (older.new.inputs ≡ raised_all one.now.variables one.now.inputs) }
+    ensures signatures { OnOk result (older.new.signatures ≡ raised_all one.now.variables one.now.signatures) }
+    ensures at_reset { OnOk result (older.new.at_reset ≡ signed one.now.states reset.now) }
+{
+    older.link = Some(link_lit(one));
+    set_raised(alloc, one, one.states(), &mut older.states)?;
+    set_raised(alloc, one, one.inputs(), &mut older.inputs)?;
+    set_raised(alloc, one, one.signatures(), &mut older.signatures)?;
+    push_signed(&mut older.at_reset, one.states(), reset)
+}
+
 /// The link and the literals of a second time frame.
 pub(crate) fn older_literals(alloc: Global, one: &Encoding, reset: &Bits) -> Result<Older, NoMemory>
     requires linkable { IsLinkable one.now }
@@ -98,19 +152,9 @@ pub(crate) fn older_literals(alloc: Global, one: &Encoding, reset: &Bits) -> Res
     ensures signatures { IfOk result (λ o. o.signatures ≡ raised_all one.now.variables one.now.signatures) }
     ensures at_reset { IfOk result (λ o. o.at_reset ≡ signed one.now.states reset.now) }
 {
-    let link = Some(link_lit(one));
-    let states = raise_frame(alloc, one, one.states())?;
-    let inputs = raise_frame(alloc, one, one.inputs())?;
-    let signatures = raise_frame(alloc, one, one.signatures())?;
-    let mut at_reset = Lits::new(alloc);
-    push_signed(&mut at_reset, one.states(), reset)?;
-    Ok(Older {
-        link,
-        states,
-        inputs,
-        signatures,
-        at_reset,
-    })
+    let mut older = no_older(alloc);
+    fill_older(alloc, one, reset, &mut older)?;
+    Ok(older)
 }
 
 /// The clauses of the second time frame, and of its link to the first.

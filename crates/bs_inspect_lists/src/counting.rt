@@ -11,10 +11,10 @@ use bs_report::ListEnd;
 use bs_scan::Dump;
 use std::alloc::Global;
 
-/// A list that has more members is cut.
+/// A list that has more members is cut. `run` without an option cuts a list there too.
 pub const MAX_LISTED: usize = 256;
 
-/// A solve may log so many lemmas.
+/// A solve may log so many lemmas. So one hard list does not hold up the others.
 pub const MAX_LEMMAS: u64 = 10_000;
 
 /// How many predecessors there are.

@@ -22,9 +22,10 @@ use bs_stim::Runs;
 use std::alloc::Global;
 
 /// How many bits the members of all lists by one signature may have, a bit a flip-flop: then no further list is begun.
+/// A list of a wide netlist takes longer, so there are fewer of them.
 pub const MAX_LISTED_BITS: usize = 1_048_576;
 
-/// How many bytes the cycles that are kept of the runs may take.
+/// How many bytes the cycles that are kept of the runs may take. An eighth of what a backtrace keeps: few moments are looked at.
 const TRACK_BYTES: usize = 67_108_864;
 
 /// A moment, and how many predecessors its state has that agree with what the register holds there.

@@ -8,7 +8,7 @@ ghost use Rattle.bs_inspect_lists.specs.declared.spread.TheConstants.{MAX_MOMENT
 use bs_scan::Moment;
 use bs_stim::Runs;
 
-/// The greatest number of moments that are taken.
+/// The greatest number of moments that are taken. Each takes a list of predecessors.
 pub const MAX_MOMENTS: usize = 32;
 
 /// The number of moments behind reset in all runs.

@@ -8,7 +8,7 @@ use bs_bits::{NoMemory, push_piece};
 use bs_note_places::{NAMED, push_quoted};
 use std::alloc::Global;
 
-/// How many names a listing has at most.
+/// How many names a listing has at most. A note is to be read at a glance.
 pub const LISTED: usize = 16;
 
 /// Appends a name in quotes.

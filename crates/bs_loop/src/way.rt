@@ -86,31 +86,6 @@ fn walk_turns<'a>(
     Ok(Way { steps, stop })
 }
 
-/// The same, and lets go of what searches.
-fn walk_with<'a>(
-    alloc: Global,
-    chip: &mut Chip<'a>,
-    finder: Finder<'a, '_>,
-    preimage: &mut Preimage<'_>,
-    dump: &Dump,
-    budgets: &Budgets,
-    searched: &mut List<Reach>,
-) -> Result<Way, NoMemory>
-    requires searched { searched.old ≡ [] }
-    requires finder { finder.recording ≡ chip.old.recording }
-    requires fresh { preimage.old ≡ fresh chip.old.recording.circuit chip.old.recording.choice }
-    requires dump { DumpFits chip.old.recording.circuit chip.old.recording.choice dump.now }
-    requires budgets { IsBudget budgets.now }
-    ensures searched { IfOk result (λ way. AreSearched chip.old.recording way.steps searched.new) }
-    ensures made { IfOk result (λ way. HasMade (crash_of chip.old.recording dump.now) budgets.now way.steps preimage.new) }
-    ensures few { IfOk result (λ way. length way.steps ≤ budgets.now.steps) }
-    ensures stop { IfOk result (λ way. StopsFor (crash_of chip.old.recording dump.now) budgets.now way.steps way.stop) }
-    ensures chip { chip.new.recording ≡ chip.old.recording }
-{
-    let mut finder = finder;
-    walk_turns(alloc, chip, &mut finder, preimage, dump, budgets, searched)
-}
-
 /// What searches the recorded moments of a chip for predecessors of the same netlist and signature.
 fn finder_of<'a, 'p>(
     alloc: Global,
@@ -147,7 +122,12 @@ fn walk(
     ensures chip { chip.new.recording ≡ chip.old.recording }
 {
     match finder_of(alloc, chip, preimage) {
-        Ok(finder) => walk_with(alloc, chip, finder, preimage, dump, budgets, searched),
+        Ok(found) => {
+            let mut finder = found;
+            let way = walk_turns(alloc, chip, &mut finder, preimage, dump, budgets, searched);
+            drop(finder);
+            way
+        }
         Err(want) => Err(want),
     }
 }
@@ -247,10 +227,15 @@ fn with_log(report: Report, log: Log) -> Report
 fn logged(report: Result<Report, NoMemory>, preimage: Preimage<'_>) -> Result<Report, NoMemory>
     ensures { MatchResult report (λ report. IfOk result (IsWithLog preimage.entry report)) (λ want. result ≡ Err want) }
 {
-    let log = log_of(preimage);
     match report {
-        Ok(report) => Ok(with_log(report, log)),
-        Err(want) => Err(want),
+        Ok(report) => {
+            let log = log_of(preimage);
+            Ok(with_log(report, log))
+        }
+        Err(want) => {
+            drop(preimage);
+            Err(want)
+        }
     }
 }
 
@@ -310,5 +295,7 @@ pub fn backtrace(
     ensures chip { chip.new.recording ≡ chip.old.recording }
 {
     let mut searched = List::new(alloc);
-    backtrace_searched(alloc, chip, preimage, dump, budgets, &mut searched)
+    let report = backtrace_searched(alloc, chip, preimage, dump, budgets, &mut searched);
+    drop(searched);
+    report
 }

@@ -15,7 +15,7 @@ use bs_net::{Count, NetFault, NetId, Raw};
 use bs_note_places::push_quoted;
 use std::alloc::Global;
 
-/// How many nets of a ring are named at most.
+/// How many nets of a ring are named at most. A note is to be read at a glance, and a part of the ring leads to the rest.
 pub const RING: usize = 8;
 
 /// The key of a net, or none where it has no name.

@@ -53,12 +53,6 @@ pub(crate) fn solver_of(alloc: Global, encoding: &Encoding) -> Result<Solver, No
     Ok(solver)
 }
 
-/// Drops an encoding.
-pub(crate) fn let_go(_encoding: Encoding) {}
-
-/// Drops a solver.
-pub(crate) fn let_solver_go(_solver: Solver) {}
-
 /// What lists candidates. Contracts see its netlist's circuit, what the signature is taken of, what its log is about, the
 /// log's lines, the newest first, how many lists were asked for, and whether memory ran out.
 pub struct Preimage<'a> {
@@ -81,8 +75,8 @@ impl<'a> Drop for Preimage<'a> {
             calls: _,
             failed: _,
         } = self;
-        let_go(encoding);
-        let_solver_go(solver);
+        drop(encoding);
+        drop(solver);
     }
 }
 
@@ -255,7 +249,7 @@ impl<'a> Preimage<'a> {
             calls: _,
             failed: _,
         } = self;
-        let_go(encoding);
+        drop(encoding);
         solver.into_log()
     }
 }

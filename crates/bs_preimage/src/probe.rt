@@ -10,7 +10,7 @@ ghost use Rattle.bs_preimage.specs.Rest.{IsAbout};
 ghost use Rattle.bs_preimage.specs.Turn.{IsReadable, MayTurn, TurnsTo};
 ghost use Rattle.bs_preimage.specs.Probe.{last_of, probed_of, probing_at, probing_for, HasAnswered, HasProbed, IsPaused, IsProbed, IsQuestion, IsReadyEngine, IsReadyFor, MayProbe};
 
-use crate::preimage::{let_go, let_solver_go, solver_of};
+use crate::preimage::solver_of;
 use crate::turn::{TurnEnd, take_turn};
 use bs_bits::Bits;
 use bs_clause::{Lit, Lits, NoMemory};
@@ -25,6 +25,7 @@ use std::alloc::Global;
 use std::marker::Model;
 
 /// How many states one solver is asked about, before another one takes its place.
+/// As many as a search for a recorded moment asks about.
 pub const MAX_PROBES: u64 = 1_000;
 
 /// What is said of a state.
@@ -220,8 +221,8 @@ impl Drop for Engine {
             solver,
             count: _,
         } = self;
-        let_go(encoding);
-        let_solver_go(solver);
+        drop(encoding);
+        drop(solver);
     }
 }
 

@@ -122,7 +122,6 @@ fn start_by(forward: &mut Option<Forward<'_>>, present: &Bits, aim: Aim) -> Resu
 }
 
 /// What looks for recorded predecessors. Contracts see the recording, and the present that it stands at with its stored signature.
-#[derive(Drop)]
 pub struct Finder<'a, 'p> {
     signature_hashes: SignatureHashes<'a>,
     probe: Probe<'p>,
@@ -131,6 +130,26 @@ pub struct Finder<'a, 'p> {
     stored: Bits,
     hash: u64,
     aim: Aim,
+}
+
+// One function for every place that drops a finder, so that the proof of each such place stays small.
+impl<'a, 'p> Drop for Finder<'a, 'p> {
+    fn drop(self) {
+        let Finder {
+            signs,
+            probe,
+            forward,
+            present,
+            stored,
+            print: _,
+            aim: _,
+        } = self;
+        drop(signs);
+        drop(probe);
+        drop(forward);
+        drop(present);
+        drop(stored);
+    }
 }
 
 impl<'a, 'p> Model for Finder<'a, 'p> {

@@ -17,6 +17,7 @@ use bs_scan::Moment;
 use std::alloc::Global;
 
 /// How many states a search may ask about at most.
+/// Each takes a solve. A search that comes to this many says up to where it has asked.
 pub const MAX_ASKS: u64 = 1_000;
 
 /// How many it asks about before it sees where recorded states lead, which takes the time of some replays of all runs.

@@ -24,6 +24,7 @@ use bs_reach_unrolled::{netlists_unroll, unrolled_clauses_are_executions};
 use std::alloc::Global;
 
 /// A search for an execution that is not logged has at most so many lemmas.
+/// Where they do not suffice, the search that keeps a log looks for the state.
 const MAX_LEMMAS: u64 = 2_000;
 
 /// Logs a length without a lemma, and answers the last id that is given then.

@@ -5,6 +5,7 @@ use bs_clause::{Lit, Lits, NoMemory, is_same};
 use std::alloc::Global;
 
 /// A search for a root ends after so many steps.
+/// No search comes near: by this bound the loop has an end without a proof that roots are no ring.
 const MAX_STEPS: u64 = 1 << 40;
 
 /// For each variable the code of a literal that has its value, its root; and the clauses that do not say that two are equal.

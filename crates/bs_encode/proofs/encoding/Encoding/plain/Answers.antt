@@ -1,5 +1,5 @@
 use Rattle.std.proofs.Common.{◌≡◌, ◌-◌, ◌<◌, ◌^◌, ◌∙◌, ℕ, List, [], ap, arith}
-use Rattle.bs_clause.specs.Literal.{Literal, Clause}
+use Rattle.bs_clause.specs.Literal.{Clause}
 use Rattle.bs_net.specs.Circuit.{Circuit}
 use Rattle.bs_net.specs.Netlist.{circuit}
 use Rattle.bs_encode.specs.Transition.{variables, transition_clauses}
@@ -25,6 +25,5 @@ returns c =
     let k : Circuit = circuit c.args.net.now in
     let count : c.in_ok-partial.partial.end - 1 ≡ variables k [] = omega (arith, c.in_ok-partial.ensures.end) in
     c.in_ok-encoding.ensures
-    ∙ (ap (λ (cs : List Clause). joined k cs (c.in_ok-partial.partial.end - 1) c.new.result) (plain_tables k c.in_ok-partial.partial.clauses c.in_ok-partial.ensures.clauses)
-    ∙ (ap (λ (n : ℕ). joined k (transition_clauses k []) n c.new.result) count
-    ∙ ap (λ (ls : List Literal). joined k (transition_clauses k []) (variables k []) ls) c.new.ensures))
+    ∙ (ap (λ (cs : List Clause). joined k cs (c.in_ok-partial.partial.end - 1) []) (plain_tables k c.in_ok-partial.partial.clauses c.in_ok-partial.ensures.clauses)
+    ∙ ap (λ (n : ℕ). joined k (transition_clauses k []) n []) count)

@@ -3,7 +3,7 @@ use Rattle.std.specs.List.{All}
 use Rattle.bs_net.specs.declared.net.NetId.{NetId}
 use Rattle.bs_net.specs.Netlist.{circuit}
 use Rattle.bs_net.proofs.NetlistLemmas.{without_placed}
-use Rattle.bs_encode.proofs.encoding.join.Goals as goal
+use Rattle.bs_encode.proofs.encoding.literals_in.Goals as goal
 
 pub net_literals-requires : goal.net_literals-requires
 net_literals-requires c =
