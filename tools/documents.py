@@ -5,6 +5,7 @@
 - Each path in backticks below crates/, docs/, examples/ or tools/ is there. Behind a path may stand what it defines:
   `crates/NAME/specs/File.antt: definition`, `crates/NAME/src/file.rt: function` or `crates/NAME/src/file.rt: function (clause, clause)`;
   several stand behind one path with commas between.
+- A name in backticks behind a crate's, as bs_rup's `checker`, is a module of that crate, or stands in its sources.
 - Each link to a document leads to one. Each section of a document that a source or a document cites, as docs/FORMATS.md, "Dump", is a heading of it,
   or a word in bold type.
 - A type, a record or a relation that other crates use of two crates has a line in TWO_MEANINGS, with what it means in each.
@@ -21,6 +22,7 @@ DEFINITIONS = r"^(?:abbrev|unfoldable) (?:pub )?(\w+)|^(?:pub )?(?:record|data) 
 CITED = r"\bRattle\.(bs_\w+)\.(?:specs|proofs)[\w.]*\.\{([^}]*)\}"
 IMPORTED = r"^\s*(?:pub )?use (bs_\w+)(?:::\w+)*::(?:\{([^}]*)\}|(\w+))"
 DOCUMENTS = ["README.md", "CHANGELOG.md", "CONTRIBUTING.md", "examples/README.md", *sorted(glob.glob("docs/*.md"))]
+OWNED = r"\b(bs_[a-z_]+)'s? ((?:`[\w:]+`(?:, | and )?)+)"
 SECTION = r"\bdocs/([A-Z_]+)\.md`?, \"([^\"\n]+)\""
 TWO_MEANINGS = {
     "Answer": "of a text of several modules in bs_flat_meaning; of a solve in bs_solve_recording",
@@ -98,6 +100,11 @@ def faults_of(document, below):
     for path, _, names in re.findall(r"`((?:crates|docs|examples|tools)/[\w./-]+)(: ([^`]+))?`", text):
         if "/out/" not in path and "/NAME/" not in path and "/CRATE/" not in path:
             faults += faults_of_place(path.rstrip("."), names)
+    for crate, names in re.findall(OWNED, text):
+        owned = texts_of(crate, "src/**/*.rt", "specs/*.antt")
+        for name in re.findall(r"`(?:\w+::)*(\w+)`", names):
+            if not glob.glob(f"crates/{crate}/src/**/{name}.rt", recursive=True) and not any(re.search(rf"\b{name}\b", it) for it in owned):
+                faults.append(f"{crate} has no {name}")
     for link in re.findall(r"\]\(([\w./-]+\.md)\b[^)]*\)", text):
         if not os.path.exists(os.path.join(os.path.dirname(document), link)):
             faults.append(f"the link to {link} leads nowhere")
