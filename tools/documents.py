@@ -3,11 +3,12 @@
 
 - Each word bs_.. is a crate of crates.txt (or one of the cells that a netlist of the examples has).
 - Each path in backticks below crates/, docs/, examples/ or tools/ is there. Behind a path may stand what it defines:
-  `crates/NAME/specs/File.antt: definition`, `crates/NAME/src/file.rt: function` or `crates/NAME/src/file.rt: function (clause, clause)`.
-- In a table with a column «Stands on» each row's crate stands on just the crates of the repository that are named there.
-- Each link to a document leads to one.
-- A type or definition that stands in two crates, and that other crates use of both, stands in DECISIONS' table of words with two meanings;
-  any other that stands in two crates stands in the list below it.
+  `crates/NAME/specs/File.antt: definition`, `crates/NAME/src/file.rt: function` or `crates/NAME/src/file.rt: function (clause, clause)`;
+  several stand behind one path with commas between.
+- A name in backticks behind a crate's, as bs_rup's `checker`, is a module of that crate, or stands in its sources.
+- Each link to a document leads to one. Each section of a document that a source or a document cites, as docs/FORMATS.md, "Dump", is a heading of it,
+  or a word in bold type.
+- A type, a record or a relation that other crates use of two crates has a line in TWO_MEANINGS, with what it means in each.
 """
 import glob
 import os
@@ -15,11 +16,37 @@ import re
 import sys
 
 CELLS = {"bs_map", "bs_obuf"}
+CRATE = r"\bbs_[a-z_]+\b"
 TYPES = r"^\s*pub (?:struct|enum|trait|type) (\w+)"
 DEFINITIONS = r"^(?:abbrev|unfoldable) (?:pub )?(\w+)|^(?:pub )?(?:record|data) (?:pub )?(\w+)"
 CITED = r"\bRattle\.(bs_\w+)\.(?:specs|proofs)[\w.]*\.\{([^}]*)\}"
 IMPORTED = r"^\s*(?:pub )?use (bs_\w+)(?:::\w+)*::(?:\{([^}]*)\}|(\w+))"
 DOCUMENTS = ["README.md", "CHANGELOG.md", "CONTRIBUTING.md", "examples/README.md", *sorted(glob.glob("docs/*.md"))]
+OWNED = r"\b(bs_[a-z_]+)'s? ((?:`[\w:]+`(?:, | and )?)+)"
+SECTION = r"\bdocs/([A-Z_]+)\.md`?, \"([^\"\n]+)\""
+TWO_MEANINGS = {
+    "Answer": "of a text of several modules in bs_flat_meaning; of a solve in bs_solve_recording",
+    "ArePlaced": "parts whose nets have numbers in bs_net; clauses with a place in the arena in bs_watch",
+    "Due": "a note that is due in bs_top_answer; what is due in a text in bs_verilog_syntax",
+    "Fits": "a valuation in bs_net; a log at a stage in bs_solve_recording",
+    "HasValues": "the trail as the arena has it in bs_watch; as the log has it in bs_solve_recording",
+    "IsBefore": "a moment in bs_scan; a state in bs_encode",
+    "IsClear": "marks in bs_solve_analysis; words without a further bit in bs_stim",
+    "IsCut": "a mask of runs in bs_break; where a log is cut in bs_solve_recording",
+    "IsImplied": "a literal of a unit run in bs_clause; a place on the trail in bs_watch",
+    "IsRecorded": "runs in bs_stim; a log in bs_solve_recording",
+    "Marks": "of variables in bs_solve_analysis; of names in bs_verilog_scope",
+    "Module": "of a design in bs_flat_meaning; as read in bs_verilog_syntax",
+    "Outcome": "of propagation in bs_watch; of a search for a state in bs_reach",
+    "Piece": "a module's part of a text in bs_flat_meaning; what begins at a place in bs_lex",
+    "Ports": "of a design, with numbers of nets, in bs_flat_wiring; as read in bs_verilog_syntax",
+    "Range": "of a name in bs_net_names; of a declaration in bs_verilog_syntax",
+    "Recorded": "a moment with its candidate in bs_preimage_recorded; a run in bs_stim",
+    "Recording": "a chip's circuit, choice and runs in bs_scan; a solver's log and what it is about in bs_solve_recording",
+    "Says": "words for a reason in bs_top_plan; what a declaration says in bs_verilog_syntax",
+    "ShowsCycle": "planes in bs_chip; an assignment in bs_encode",
+    "Step": "of gates in bs_net; of a report in bs_report; a state and the next one in bs_inspect_film",
+}
 DEFINED = r"^(?:pub )?(?:abbrev|unfoldable|record|data)?\s*(?:pub )?(?:record |data )?{}\b"
 
 
@@ -54,8 +81,11 @@ def faults_of_place(path, names):
     text = read(path)
     if path.endswith(".antt"):
         return [f"{path} does not define {it}" for it in re.findall(r"[\w-]+", names) if not re.search(DEFINED.format(re.escape(it)), text, re.M)]
-    function, _, clauses = names.partition("(")
-    function = function.strip().split("::")[-1]
+    return [it for function, clauses in re.findall(r"([\w:]+)(?: \(([^)]*)\))?", names) for it in faults_of_function(path, text, function, clauses)]
+
+
+def faults_of_function(path, text, function, clauses):
+    function = function.split("::")[-1]
     said = clauses_of(text, function)
     if said is None:
         is_item = re.search(rf"\b(struct|enum|trait|const|type|mod) {re.escape(function)}\b", text)
@@ -64,31 +94,34 @@ def faults_of_place(path, names):
     return [f"{path}: {function} has no clause {it}" for it in named]
 
 
-def faults_of_tables(text, below):
-    faults, column = [], None
-    for line in text.splitlines():
-        cells = [it.strip() for it in line.strip().strip("|").split("|")] if line.startswith("|") else None
-        if cells is None:
-            column = None
-        elif "Stands on" in cells:
-            column = cells.index("Stands on")
-        elif column is not None and column < len(cells):
-            name = cells[0].strip("`")
-            if name in below and set(re.findall(r"\w+", cells[column])) & set(below) != below[name]:
-                faults.append(f"{name} stands on {' '.join(sorted(below[name])) or 'nothing'}")
-    return faults
-
-
 def faults_of(document, below):
     text = read(document)
-    faults = [f"{it} is no crate" for it in sorted(set(re.findall(r"\bbs_[a-z_]+\b", text)) - set(below) - CELLS)]
+    faults = [f"{it} is no crate" for it in sorted(set(re.findall(CRATE, text)) - set(below) - CELLS)]
     for path, _, names in re.findall(r"`((?:crates|docs|examples|tools)/[\w./-]+)(: ([^`]+))?`", text):
         if "/out/" not in path and "/NAME/" not in path and "/CRATE/" not in path:
             faults += faults_of_place(path.rstrip("."), names)
+    for crate, names in re.findall(OWNED, text):
+        owned = texts_of(crate, "src/**/*.rt", "specs/*.antt")
+        for name in re.findall(r"`(?:\w+::)*(\w+)`", names):
+            if not glob.glob(f"crates/{crate}/src/**/{name}.rt", recursive=True) and not any(re.search(rf"\b{name}\b", it) for it in owned):
+                faults.append(f"{crate} has no {name}")
     for link in re.findall(r"\]\(([\w./-]+\.md)\b[^)]*\)", text):
         if not os.path.exists(os.path.join(os.path.dirname(document), link)):
             faults.append(f"the link to {link} leads nowhere")
-    return faults + faults_of_tables(text, below)
+    return faults
+
+
+def faults_of_sections():
+    """The cited sections that the documents do not have."""
+    cited = {}
+    for path in DOCUMENTS + [it for kind in ("src/**/*.rt", "specs/*.antt", "proofs/**/*.antt") for it in glob.glob(f"crates/*/{kind}", recursive=True)]:
+        for name, section in re.findall(SECTION, read(path)) if os.path.exists(path) else []:
+            cited.setdefault((name, section), path)
+    heads = {}
+    for name in {name for name, _ in cited}:
+        text = read(f"docs/{name}.md")
+        heads[name] = "\n".join(re.findall(r"^#+ (.*)$", text, re.M) + re.findall(r"\*\*([^*]+)\*\*", text)).lower()
+    return [f"{path}: docs/{name}.md has no section {section}" for (name, section), path in sorted(cited.items()) if section.lower() not in heads[name]]
 
 
 def items_of(text, pattern):
@@ -100,7 +133,7 @@ def texts_of(crate, *patterns):
 
 
 def doubled(below):
-    """The types and definitions of two crates or more: those that other crates use of two of them, with these crates, and all."""
+    """The types, records and relations that other crates use of two crates, with these crates."""
     defined, used = {}, {}
     for crate in below:
         for name in set().union(
@@ -112,27 +145,25 @@ def doubled(below):
             for of, names in found:
                 for name in re.findall(r"\w+", names) if of != crate else []:
                     used.setdefault(name, set()).add(of)
-    both = {name: sorted(defined[name] & used.get(name, set())) for name in defined}
-    return {name: of for name, of in both.items() if len(of) > 1}, {name for name in defined if len(defined[name]) > 1}
+    both = {name: sorted(defined[name] & used.get(name, set())) for name in defined if name[0].isupper()}
+    return {name: of for name, of in both.items() if len(of) > 1}
 
 
 def faults_of_words(below):
-    """The names with two meanings that the table of such words does not have, and those that it has and that have one."""
-    path = "docs/DECISIONS.md"
-    table = read(path).partition("### Words with two meanings")[2].partition("\n## ")[0]
-    listed = {it for row in re.findall(r"^\|(`[^|]*)\|", table, re.M) for it in re.findall(r"`(\w+)`", row)}
-    own = set(re.findall(r"\w+", table.partition("```text")[2].partition("```")[0]))
-    found, every = doubled(below)
-    faults = [f"{name} is used of {' and '.join(found[name])}, and is no word of the table" for name in sorted({*found} - listed)]
-    faults += [f"{name} has one meaning outside its crate" for name in sorted(listed - {*found})]
-    faults += [f"{name} stands in two crates, and not in the list" for name in sorted(every - listed - own)]
-    return faults + [f"{name} stands in one crate, or in the table" for name in sorted(own - (every - listed))]
+    """The names with two meanings that TWO_MEANINGS does not have, and those that it has and that have one, or other crates."""
+    found = doubled(below)
+    faults = [f"{name} is used of {' and '.join(found[name])}, and TWO_MEANINGS has no line for it" for name in sorted({*found} - {*TWO_MEANINGS})]
+    faults += [f"TWO_MEANINGS: {name} has one meaning outside its crate" for name in sorted({*TWO_MEANINGS} - {*found})]
+    return faults + [f"TWO_MEANINGS: {name} is used of {' and '.join(found[name])}" for name in sorted({*TWO_MEANINGS} & {*found}) if {*re.findall(CRATE, TWO_MEANINGS[name])} != {*found[name]}]
 
 
 def main():
     below, count = crates(), 0
     for fault in faults_of_words(below):
-        print(f"docs/DECISIONS.md: {fault}")
+        print(f"tools/documents.py: {fault}")
+        count += 1
+    for fault in faults_of_sections():
+        print(fault)
         count += 1
     for document in DOCUMENTS:
         for fault in faults_of(document, below) if os.path.exists(document) else [f"{document} is not there"]:
