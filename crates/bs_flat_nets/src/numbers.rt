@@ -222,18 +222,20 @@ fn numbering_of(
     requires nets { IsWholeTally blocks.now _nodes.now _top nets.tally nets.starts }
     ensures { IfOk result (λ n. IsNumbering blocks.now _nodes.now _top n) }
 {
+    let NetsByNode { tally, starts } = nets;
     match rows_of_all(alloc, blocks) {
         Ok(rows) => Ok(Numbering {
-            places: nets.tally.places,
-            starts: nets.starts,
+            places: tally.places,
+            starts,
             bits,
-            zero: nets.tally.zero,
-            one: nets.tally.one,
+            zero: tally.zero,
+            one: tally.one,
             rows,
         }),
         Err(want) => {
             drop(bits);
-            drop(nets);
+            drop(tally);
+            drop(starts);
             Err(want)
         }
     }
