@@ -136,15 +136,15 @@ pub struct Finder<'a, 'p> {
 impl<'a, 'p> Drop for Finder<'a, 'p> {
     fn drop(self) {
         let Finder {
-            signs,
+            signature_hashes,
             probe,
             forward,
             present,
             stored,
-            print: _,
+            hash: _,
             aim: _,
         } = self;
-        drop(signs);
+        drop(signature_hashes);
         drop(probe);
         drop(forward);
         drop(present);
