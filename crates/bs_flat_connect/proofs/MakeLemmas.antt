@@ -3,6 +3,7 @@ use Rattle.std.proofs.Common.{◌≡◌, ℕ, zero, suc, ◌<◌, ◌≤◌, ◌
 use Rattle.std.proofs.Common.{Option, Some, None, Result, Ok, Err, subst, ◌⊎◌, inl, inr, ⊎_elim}
 use Rattle.std.specs.Prelude.{IsTrue, String, not, string_bytes}
 use Rattle.std.specs.List.{All, flat_map}
+use Rattle.std.specs.declared.alloc.Global.{Global}
 use Rattle.std.proofs.lemmas.List.{get_or-map, length-map, map-append}
 use Rattle.std.proofs.lemmas.List.Concat.{flat_map_single}
 use Rattle.bs_bits.specs.Reading.{Answers}
@@ -168,11 +169,11 @@ abbrev pub Takes : FlatModule → Type 0
 Takes b = All (λ (g : Gate). IsTrue (takes g.kind (length g.ins))) b.gates
 
 -- a module of its nets, its instances and its own parts
-parts_put : (own : Own) (cs : List Child) (names : List String) (consts : List Const) (bare b : FlatModule) → bare ≡ without_parts names consts cs →
+parts_put : (own : Own) (cs : List Child) (names : List (String Global)) (consts : List Const) (bare b : FlatModule) → bare ≡ without_parts names consts cs →
     b ≡ with_parts bare own → b ≡ with_parts (without_parts names consts cs) own
 parts_put own cs names consts bare b e eb = eb ∙ ap (λ (x : FlatModule). with_parts x own) e
 
-pub made_is : (own : Own) (w : Wiring) (cs : List Child) (names : List String) (consts : List Const) (bare b : FlatModule) →
+pub made_is : (own : Own) (w : Wiring) (cs : List Child) (names : List (String Global)) (consts : List Const) (bare b : FlatModule) →
     bare ≡ without_parts names consts cs → b ≡ with_parts bare own → map string_bytes names ≡ w.keys → consts ≡ w.consts → IsMade own w cs b
 made_is own w cs names consts bare b e eb en ec =
     let all = parts_put own cs names consts bare b e eb in
@@ -186,7 +187,7 @@ made_is own w cs names consts bare b e eb en ec =
       children = ap (λ (x : FlatModule). x.children) all;
     }
 
-pub made_takes : (own : Own) (cs : List Child) (names : List String) (consts : List Const) (bare b : FlatModule) → bare ≡ without_parts names consts cs →
+pub made_takes : (own : Own) (cs : List Child) (names : List (String Global)) (consts : List Const) (bare b : FlatModule) → bare ≡ without_parts names consts cs →
     b ≡ with_parts bare own → All (λ (g : Gate). IsTrue (takes g.kind (length g.ins))) own.parts.gates → Takes b
 made_takes own cs names consts bare b e eb h =
     subst (λ (gs : List Gate). All (λ (g : Gate). IsTrue (takes g.kind (length g.ins))) gs)

@@ -1,5 +1,6 @@
 -- The modules of a design with their joined nets, or the first connection that does not go with its port.
 use Rattle.std.specs.Prelude.{◌≡◌, ℕ, List, [], ◌++◌, map, zip, Option, Result, String, string_bytes}
+use Rattle.std.specs.declared.alloc.Global.{Global}
 use Rattle.bs_bits.specs.Reading.{Answers}
 use Rattle.bs_net.specs.declared.net.Const.{Const}
 use Rattle.bs_flat_meaning.specs.declared.fault.FlatFault.{FlatFault}
@@ -32,7 +33,7 @@ pub record ConnectsTo (table : List (List ℕ)) (ids : List (Option ℕ)) (modul
 -- ---- what inner functions promise each other
 
 -- a module with these nets and instances, and no parts yet
-abbrev pub without_parts : List String → List Const → List Child → FlatModule
+abbrev pub without_parts : List (String Global) → List Const → List Child → FlatModule
 without_parts names consts children =
     record {
       names = names;

@@ -12,8 +12,8 @@ use Rattle.bs_flat_connect.proofs.ChildLemmas.{ports_long}
 use Rattle.bs_flat_connect.proofs.MakeLemmas.{connects}
 use Rattle.bs_flat_connect.proofs.making.connected.Goals as goal
 
-pub blocks-requires-clause-there : goal.blocks-requires-clause-there
-blocks-requires-clause-there c =
+pub blocks-all-requires-clause-there : goal.blocks-requires-clause-there
+blocks-all-requires-clause-there c =
     let long = ports_long c.slice-owns.result.now c.in_ok-ports.ports c.in_ok-ports.ensures in
     let same : length c.args.modules.now.owns ≡ length c.slice.result.now =
     sym (ap length c.slice.ensures ∙ (long ∙ ap length c.slice-owns.ensures)) in
