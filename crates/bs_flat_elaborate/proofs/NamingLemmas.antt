@@ -25,7 +25,7 @@ use Rattle.bs_flat_nets.specs.Numbering.{net_at}
 use Rattle.bs_flat_nets.specs.declared.numbers.Numbering.{Numbering}
 use Rattle.bs_flat_elaborate.specs.Keys.{key_of_place}
 use Rattle.bs_flat_elaborate.specs.Laid.{IsLaid}
-use Rattle.bs_flat_elaborate.specs.Naming.{keys_of, bytes_of, added, AreAdded, IsMade, IsSearched}
+use Rattle.bs_flat_elaborate.specs.Naming.{keys_of, bytes_of, added, IsMade, IsSearched}
 use Rattle.bs_flat_elaborate.specs.declared.naming.KeyList.{KeyList}
 
 -- ---- names
@@ -181,15 +181,6 @@ long_is f places i p key m lt ek h gt =
 -- all places
 pub made_all : (f : NetOnPath → List ℕ) (places : List NetOnPath) (i : ℕ) (m : KeyList) → length places ≤ i → IsMade (map f (take i places)) m → IsMade (map f places) m
 made_all f places i m ge h = subst (λ (l : List NetOnPath). IsMade (map f l) m) (take_all i places ge) h
-
--- what is known where all are added, and where not
-pub added_all : (keys : List (List ℕ)) (m : KeyList) (all : Bool) → all ≡ true → AreAdded keys m all → IsMade keys m
-added_all keys m true e h = h
-added_all keys m false e h = absurd (false≢true e)
-
-pub added_long : (keys : List (List ℕ)) (m : KeyList) (all : Bool) → all ≡ false → AreAdded keys m all → MAX_KEY_BYTES < bytes_of keys
-added_long keys m true e h = absurd (true≢false e)
-added_long keys m false e h = h
 
 -- ---- the keys of a numbering
 

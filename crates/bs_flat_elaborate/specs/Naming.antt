@@ -1,5 +1,5 @@
 -- The names of the flat nets: their keys, where those are short enough and each stands once.
-use Rattle.std.specs.Prelude.{◌≡◌, ℕ, ◌+◌, ◌<◌, ◌≤◌, Bool, true, false, ◌||◌, List, [], map, length, sum, drop, slice_index_or, Option, Some, None, option_map, IfSome, string_bytes}
+use Rattle.std.specs.Prelude.{◌≡◌, ℕ, ◌+◌, ◌<◌, ◌≤◌, false, ◌||◌, List, [], map, length, sum, drop, slice_index_or, Option, Some, None, option_map, IfSome, string_bytes}
 use Rattle.std.specs.List.{list_any}
 use Rattle.std.specs.Str.{bytes_eq}
 use Rattle.bs_net.specs.Names.{with_key}
@@ -44,11 +44,6 @@ pub record IsMade (keys : List (List ℕ)) (m : KeyList) : Type 0 where
   pub few : length m.names ≤ length keys
   pub names : m.again ≡ false → m.names ≡ keys
   pub apart : m.again ≡ false → clash_in keys ≡ None
-
--- all keys are added; or they have too many bytes
-abbrev pub AreAdded : List (List ℕ) → KeyList → Bool → Type 0
-AreAdded keys m true = IsMade keys m
-AreAdded keys m false = MAX_KEY_BYTES < bytes_of keys
 
 -- at most `MAX_NETS` names that are the keys, each once; or too many bytes; or the first key that stands again later
 abbrev pub IsNamed : List (List ℕ) → Named → Type 0

@@ -8,7 +8,7 @@ ghost use Rattle.bs_flat_elaborate.specs.Laid.{IsLaid};
 ghost use Rattle.bs_flat_elaborate.specs.Naming as spec;
 
 use crate::clashes::first_clash;
-use crate::labels::{Label, first_label, next_key};
+use crate::labels::{first_label, next_key};
 use bs_bits::{List, NoMemory};
 use bs_flat_meaning::{MAX_KEY_BYTES, Node};
 use bs_flat_nets::{FlatModule, Numbering};
@@ -73,78 +73,6 @@ fn nothing(alloc: Global) -> KeyList
     }
 }
 
-/// Adds the keys of all flat nets, up to the first with which they have too many bytes. Says whether all are added.
-fn add_keys(
-    alloc: Global,
-    blocks: &[FlatModule],
-    nodes: &[Node],
-    top: u32,
-    numbering: &Numbering,
-    label: &mut Label,
-    made: &mut KeyList,
-) -> Result<bool, NoMemory>
-    requires laid { IsLaid blocks.now nodes.now top numbering.now }
-    requires few { length numbering.now.places ≤ MAX_NETS }
-    requires label { spec.IsLabel blocks.now nodes.now label.old }
-    requires none { spec.IsMade [] made.old }
-    ensures { IfOk result (spec.AreAdded (spec.keys_of (design_of blocks.now top)) made.new) }
-{
-    let places = numbering.places.slice();
-    'nets: for place in places {
-        let key = next_key(alloc, blocks, nodes, top, numbering, label, *place)?;
-        if is_long(made.bytes, &key) {
-            return Ok(false);
-        }
-        add(alloc, made, &key)?;
-    }
-    Ok(true)
-}
-
-/// The first key that stands again later.
-fn clash(
-    alloc: Global,
-    blocks: &[FlatModule],
-    nodes: &[Node],
-    top: u32,
-    numbering: &Numbering,
-) -> Result<Named, NoMemory>
-    requires laid { IsLaid blocks.now nodes.now top numbering.now }
-    requires few { length numbering.now.places ≤ MAX_NETS }
-    requires short { spec.bytes_of (spec.keys_of (design_of blocks.now top)) ≤ most }
-    ensures { IfOk result (λ named. spec.IsNamed (spec.keys_of (design_of blocks.now top)) named) }
-{
-    let key = first_clash(alloc, blocks, nodes, top, numbering)?;
-    Ok(Named::Clash(key))
-}
-
-/// The names of the flat nets out of what their keys made, if all were added.
-fn names_of(
-    alloc: Global,
-    blocks: &[FlatModule],
-    nodes: &[Node],
-    top: u32,
-    numbering: &Numbering,
-    made: KeyList,
-    all: bool,
-) -> Result<Named, NoMemory>
-    requires laid { IsLaid blocks.now nodes.now top numbering.now }
-    requires few { length numbering.now.places ≤ MAX_NETS }
-    requires added { spec.AreAdded (spec.keys_of (design_of blocks.now top)) made all }
-    ensures { IfOk result (λ named. spec.IsNamed (spec.keys_of (design_of blocks.now top)) named) }
-{
-    if all {
-        if made.again {
-            drop(made);
-            clash(alloc, blocks, nodes, top, numbering)
-        } else {
-            Ok(Named::Apart(made.names))
-        }
-    } else {
-        drop(made);
-        Ok(Named::Long)
-    }
-}
-
 /// The names of the flat nets of a design, each made of its net's key.
 pub fn name_nets(
     alloc: Global,
@@ -157,15 +85,19 @@ pub fn name_nets(
     requires few { length numbering.now.places ≤ MAX_NETS }
     ensures { IfOk result (λ named. spec.IsNamed (spec.keys_of (design_of blocks.now top)) named) }
 {
+    let places = numbering.places.slice();
     let mut label = first_label(alloc, blocks, nodes);
     let mut made = nothing(alloc);
-    let added = add_keys(alloc, blocks, nodes, top, numbering, &mut label, &mut made);
-    drop(label);
-    match added {
-        Ok(all) => names_of(alloc, blocks, nodes, top, numbering, made, all),
-        Err(want) => {
-            drop(made);
-            Err(want)
+    'nets: for place in places {
+        let key = next_key(alloc, blocks, nodes, top, numbering, &mut label, *place)?;
+        if is_long(made.bytes, &key) {
+            return Ok(Named::Long);
         }
+        add(alloc, &mut made, &key)?;
     }
+    if made.again {
+        let key = first_clash(alloc, blocks, nodes, top, numbering)?;
+        return Ok(Named::Clash(key));
+    }
+    Ok(Named::Apart(made.names))
 }

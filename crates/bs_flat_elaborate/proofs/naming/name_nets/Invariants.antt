@@ -2,7 +2,7 @@ use Rattle.std.proofs.Common.{map, take}
 use Rattle.bs_flat_nets.specs.Blocks.{design_of}
 use Rattle.bs_flat_elaborate.specs.Keys.{key_of_place}
 use Rattle.bs_flat_elaborate.specs.Naming as spec
-use Rattle.bs_flat_elaborate.proofs.naming.add_keys.Given as goal
+use Rattle.bs_flat_elaborate.proofs.naming.name_nets.Given as goal
 
 abbrev pub invariant-nets : goal.invariant-nets
 invariant-nets l = record {

@@ -5,7 +5,7 @@ use Rattle.bs_flat_nets.specs.Blocks.{design_of}
 use Rattle.bs_flat_elaborate.specs.Keys.{key_of_place}
 use Rattle.bs_flat_elaborate.specs.Naming.{keys_of, bytes_of, added, IsMade}
 use Rattle.bs_flat_elaborate.proofs.NamingLemmas.{keys_are, keys_count, made_more, made_all, long_is}
-use Rattle.bs_flat_elaborate.proofs.naming.add_keys.Goals as goal
+use Rattle.bs_flat_elaborate.proofs.naming.name_nets.Goals as goal
 
 pub returns-then-is_long : goal.returns-then-is_long
 returns-then-is_long c =
@@ -42,4 +42,7 @@ returns c =
     let places = c.slice-places.result.now in
     let keys : keys_of d ≡ map f places =
     keys_are c.args.blocks.now c.args.nodes.now c.args.top c.args.numbering.now c.requires.laid ∙ ap (map f) (sym c.slice-places.ensures) in
-    subst (λ (l : List (List ℕ)). IsMade l c.nets.made) (sym keys) (made_all f places c.nets.place-index c.nets.made c.nets-test.false c.nets.invariant.made)
+    let all : IsMade (keys_of d) c.nets.made =
+    subst (λ (l : List (List ℕ)). IsMade l c.nets.made) (sym keys) (made_all f places c.nets.place-index c.nets.made c.nets-test.false c.nets.invariant.made) in
+    let count = keys_count c.args.blocks.now c.args.nodes.now c.args.top c.args.numbering.now c.requires.laid in
+    (all.names c.if-made.false, omega (arith, all.bytes, all.low), all.apart c.if-made.false, omega (arith, count, c.requires.few))
