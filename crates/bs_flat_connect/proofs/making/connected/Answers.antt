@@ -12,7 +12,7 @@ use Rattle.bs_flat_connect.proofs.ChildLemmas.{ports_long}
 use Rattle.bs_flat_connect.proofs.MakeLemmas.{connects}
 use Rattle.bs_flat_connect.proofs.making.connected.Goals as goal
 
-pub blocks-all-requires-clause-there : goal.blocks-requires-clause-there
+pub blocks-all-requires-clause-there : goal.blocks-all-requires-clause-there
 blocks-all-requires-clause-there c =
     let long = ports_long c.slice-owns.result.now c.in_ok-ports.ports c.in_ok-ports.ensures in
     let same : length c.args.modules.now.owns ≡ length c.slice.result.now =
