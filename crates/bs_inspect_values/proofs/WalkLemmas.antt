@@ -21,8 +21,8 @@ pub diagnosed_want : {S R Q V W U : Type 0} {says : R → List ℕ → Type 0} {
     {leads : S → FetchCall → S → Type 0} {before : S} {view : U → V} {seen : U → W} (plan : Plan R V) (looked : Plan Q W) →
     WalksDiagnosed says notes held faults leads before before plan looked view seen (Err (K.Plain NoMemory))
 diagnosed_want plan looked = record {
-  line = record { diagnostic = λ n. refl; counts = λ n. refl };
-  note = record { diagnostic = λ n. refl; counts = λ n. refl };
+  line = record { told = λ n. refl; counts = λ n. refl };
+  note = record { told = λ n. refl; counts = λ n. refl };
   fetches = [];
   asked = refl;
   line_along = along_none plan;
