@@ -26,7 +26,7 @@ use Rattle.bs_log_whole.specs.Cnf.{finish_of, rest_of, said_of, whole_behind, on
 use Rattle.bs_log_whole.specs.Proof.{under_of, so_far, place_of, whole_shown, whole_frame}
 use Rattle.bs_log_whole.specs.Walk.{problem_in, history_in, clauses_in, IsReady, under_behind, given_at, EndFits, IsAt, HasRoom}
 use Rattle.bs_log_whole.proofs.Finishes.{is_finished}
-use Rattle.bs_log_whole.proofs.Parts.{so_far_next, under_next, behind_is}
+use Rattle.bs_log_whole.proofs.Giving.{so_far_next, under_next, behind_is}
 use Rattle.bs_log_whole.proofs.Same.{whole_last}
 
 short_at : (xs : List Clause) (k : ℕ) → AllByRecursion (λ c. length c < FEW) xs → length (unwrap_or (slice_get xs k) []) < FEW

@@ -19,7 +19,7 @@ use Rattle.bs_log_dimacs.proofs.Found.{found_filter, found_append, found_above}
 use Rattle.bs_log_dimacs.proofs.Laws.{each_append, each_weaker}
 use Rattle.bs_log_whole.specs.Cnf.{one_of}
 use Rattle.bs_log_whole.specs.Proof.{under_of, ended_at, ended}
-use Rattle.bs_log_whole.proofs.Parts.{step_in}
+use Rattle.bs_log_whole.proofs.Giving.{step_in}
 
 -- the clause that a retire line adds
 abbrev pub retired : Problem → ℕ × ℕ → Entry
@@ -28,6 +28,9 @@ retired p e = record { id = e.0; origin = Retired; literals = closed p e.1 }
 -- it stands
 abbrev pub IsRetired : Problem → History → ℕ × ℕ → Type 0
 IsRetired p h e = entry_of (live p h) e.0 ≡ Some (retired p e)
+
+abbrev pub id_in : ℕ × ℕ → ℕ
+id_in e = e.0
 
 module _ (p : Problem) where
   found_last : (xs : List Entry) (x : Entry) (e : ℕ × ℕ) → entry_of xs e.0 ≡ Some (retired p e) → entry_of (xs ++ x ∷ []) e.0 ≡ Some (retired p e)
@@ -102,9 +105,6 @@ module _ (p : Problem) where
   all_ended (line ∷ h) right =
       each_append (IsRetired p (line ∷ h)) (ended h) (ended_at (under_of h) line)
       (each_weaker (IsRetired p h) (IsRetired p (line ∷ h)) (ended h) (λ e there. still line h e right there) (all_ended h right.1)) (news line h right)
-
-  abbrev pub id_in : ℕ × ℕ → ℕ
-  id_in e = e.0
 
   stand : (h : History) (es : List (ℕ × ℕ)) → AllByRecursion (IsRetired p h) es →
       list_all (λ i. is_some (entry_of (live p h) i)) (map id_in es) ≡ true

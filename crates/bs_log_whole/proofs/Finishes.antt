@@ -11,7 +11,7 @@ use Rattle.bs_log.specs.Refusal.{denies, assumptions_of}
 use Rattle.bs_log.proofs.Tests.{right_from_none}
 use Rattle.bs_log_dimacs.proofs.Rooms.{low_finish}
 use Rattle.bs_log_whole.specs.Cnf.{finish_of}
-use Rattle.bs_log_whole.proofs.Parts.{no_finish_later}
+use Rattle.bs_log_whole.proofs.Giving.{no_finish_later}
 
 -- the newest line names this lemma as the end of its step
 record EndsBy (h : History) (id : ℕ) : Type 0 where

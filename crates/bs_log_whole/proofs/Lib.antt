@@ -1,4 +1,4 @@
-pub mod Parts
+pub mod Giving
 pub mod Finishes
 pub mod Propagating
 pub mod Sound

@@ -59,13 +59,14 @@ module _ (v : ℕ) where
 
   any_besides : (w : ℕ) (ls : Clause) → list_any (λ m. eqb m.variable w) ls ≡ false → list_any (λ m. eqb m.variable w) (besides v ls) ≡ false
   any_besides w [] none = refl
-  any_besides w (l ∷ ls) none = by (eqb l.variable w) refl (eqb l.variable v) none
+  any_besides w (l ∷ ls) none = by (eqb l.variable w) refl (eqb l.variable v) none (λ rest. any_besides w ls rest)
     where
       by : (a : Bool) → eqb l.variable w ≡ a → (b : Bool) → (a || list_any (λ m. eqb m.variable w) ls) ≡ false →
+          (list_any (λ m. eqb m.variable w) ls ≡ false → list_any (λ m. eqb m.variable w) (besides v ls) ≡ false) →
           list_any (λ m. eqb m.variable w) (cond (not b) (l ∷ besides v ls) (besides v ls)) ≡ false
-      by true is b e = absurd (true≢false e)
-      by false is true e = any_besides w ls e
-      by false is false e = ap (λ t. t || list_any (λ m. eqb m.variable w) (besides v ls)) is ∙ any_besides w ls e
+      by true is b e later = absurd (true≢false e)
+      by false is true e later = later e
+      by false is false e later = ap (λ t. t || list_any (λ m. eqb m.variable w) (besides v ls)) is ∙ later e
 
   pub distinct_besides : (ls : Clause) → has_distinct_variables ls ≡ true → has_distinct_variables (besides v ls) ≡ true
   distinct_besides [] distinct = refl
@@ -81,11 +82,12 @@ module _ (v : ℕ) where
 
   fresh_besides : (ls : Clause) → AllByRecursion (Fresh (on ∷ [])) (besides v ls)
   fresh_besides [] = tt
-  fresh_besides (l ∷ ls) = by (eqb l.variable v) refl
+  fresh_besides (l ∷ ls) = by (eqb l.variable v) refl (fresh_besides ls)
     where
-      by : (b : Bool) → eqb l.variable v ≡ b → AllByRecursion (Fresh (on ∷ [])) (cond (not b) (l ∷ besides v ls) (besides v ls))
-      by true is = fresh_besides ls
-      by false is = (ap (λ t. t || false) is, fresh_besides ls)
+      by : (b : Bool) → eqb l.variable v ≡ b → AllByRecursion (Fresh (on ∷ [])) (besides v ls) →
+          AllByRecursion (Fresh (on ∷ [])) (cond (not b) (l ∷ besides v ls) (besides v ls))
+      by true is later = later
+      by false is later = (ap (λ t. t || false) is, later)
 
   on_there : has_literal (on ∷ []) on ≡ true
   on_there = or_left (same_literal on on) false (same_self on)

@@ -31,7 +31,7 @@ use Rattle.bs_log_whole.specs.Cnf.{finish_of, finished, rest_of, guarded, said_o
 use Rattle.bs_log_whole.specs.Proof.{under_of, so_far, place_of, besides, off_hints, whole_shown, whole_frame, ended, whole_ending, whole_proof_of}
 use Rattle.bs_log_whole.specs.Law.{IsLed, AreLed, WholeProofsAreRight, AcceptedIsUnmet}
 use Rattle.bs_log_whole.specs.Walk.{given_at}
-use Rattle.bs_log_whole.proofs.Parts.{top, step_in, so_far_next, finished_are, behind_is}
+use Rattle.bs_log_whole.proofs.Giving.{top, step_in, so_far_next, finished_are, behind_is}
 use Rattle.bs_log_whole.proofs.Finishes.{IsFinished, is_finished}
 use Rattle.bs_log_whole.proofs.Propagating.{guard, off_is_unit, off_is_false, all_off, besides_denied}
 use Rattle.bs_log_whole.proofs.Same.{whole_named, whole_kept, whole_hints, whole_hints_stand, whole_deleted_stand, whole_last}
@@ -68,7 +68,7 @@ module _ (p : Problem) (log : List Line) (ok : IsAccepted p log) where
   by_is = refl
 
   -- the clauses at the end of a front are there
-  shows : History → List Clause → Type 0
+  abbrev pub shows : History → List Clause → Type 0
   shows h rest = whole_behind p end ≡ so_far p h ++ rest
 
   stands_behind : (h : History) (k id : ℕ) (c : Clause) → slice_get (whole_behind p end) k ≡ Some c → id ≡ length p.clauses + k + 1 →

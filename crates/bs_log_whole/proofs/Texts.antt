@@ -21,7 +21,7 @@ use Rattle.bs_log_whole.specs.declared.walk.At.{At}
 use Rattle.bs_log_whole.specs.Cnf.{finished, one_of, whole_behind}
 use Rattle.bs_log_whole.specs.Proof.{under_of, so_far, place_of, besides, line_at, whole_shown, ended_at, ended}
 use Rattle.bs_log_whole.specs.Walk.{under_behind, IsAt}
-use Rattle.bs_log_whole.proofs.Parts.{under_next, step_in, finished_are, behind_is}
+use Rattle.bs_log_whole.proofs.Giving.{under_next, step_in, finished_are, behind_is}
 
 -- members more
 pub texts_more : {X : Type 0} (g : X → List ℕ) (old new all : List X) (start before after : List ℕ) → all ≡ old ++ new →

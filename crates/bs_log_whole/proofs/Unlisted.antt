@@ -25,6 +25,16 @@ each_flat : {X Y : Type 0} (P : Y → Type 0) (g : X → List Y) (xs : List X) �
 each_flat P g [] all = tt
 each_flat P g (x ∷ xs) all = each_append P (g x) (flat_map g xs) all.0 (each_flat P g xs all.1)
 
+all_false : (v : ℕ → Bool) (c : Clause) → list_any (literal_value v) c ≡ false → AllByRecursion (λ (m : Literal). literal_value v m ≡ false) c
+all_false v [] none = tt
+all_false v (m ∷ ms) none = by (literal_value v m) refl none (λ rest. all_false v ms rest)
+  where
+    by : (b : Bool) → literal_value v m ≡ b → (b || list_any (literal_value v) ms) ≡ false →
+        (list_any (literal_value v) ms ≡ false → AllByRecursion (λ (m : Literal). literal_value v m ≡ false) ms) →
+        AllByRecursion (λ (m : Literal). literal_value v m ≡ false) (m ∷ ms)
+    by true is e later = absurd (false≢true (sym e))
+    by false is e later = (is, later e)
+
 -- a clause with a true literal
 met_by : (v : ℕ → Bool) (l : Literal) (c : Clause) → literal_value v l ≡ true → Contains c l → Satisfies v c
 met_by v l c is there = elim (list_any (literal_value v) c) as (λ b. list_any (literal_value v) c ≡ b → b ≡ true) [
@@ -32,18 +42,10 @@ met_by v l c is there = elim (list_any (literal_value v) c) as (λ b. list_any (
   | false ↦ λ none. lost none
 ] refl
   where
-    each_false : (c : Clause) → list_any (literal_value v) c ≡ false → AllByRecursion (λ m. literal_value v m ≡ false) c
-    each_false [] none = tt
-    each_false (m ∷ ms) none = by (literal_value v m) refl none
-      where
-        by : (b : Bool) → literal_value v m ≡ b → (b || list_any (literal_value v) ms) ≡ false → AllByRecursion (λ m. literal_value v m ≡ false) (m ∷ ms)
-        by true is e = absurd (false≢true (sym e))
-        by false is e = (is, each_false ms e)
-
     lost : list_any (literal_value v) c ≡ false → false ≡ true
     lost none =
         sym (All-contains (λ (m : Literal). literal_value v m ≡ false) c l
-        (All-from_recursion (λ (m : Literal). literal_value v m ≡ false) c (each_false c none)) there) ∙ is
+        (All-from_recursion (λ (m : Literal). literal_value v m ≡ false) c (all_false v c none)) there) ∙ is
 
 off_value : (v : ℕ → Bool) (p : Problem) (step : ℕ) → v (p.vars + step) ≡ false → literal_value v (negation (activation_of p step)) ≡ true
 off_value v p step e = ap (λ b. beq b false) e
