@@ -59,7 +59,7 @@ LISTS = [
 
 
 def checked(inspect, words):
-    """What the strict checker says of the texts of a list."""
+    """What the strict checker says of the texts of a list, or of all lists."""
     texts = []
     for command in ("cnf", "lrat"):
         done = subprocess.run([inspect, command, *words.split()], cwd="examples", stdout=subprocess.PIPE, stderr=subprocess.PIPE)
@@ -85,12 +85,12 @@ def main():
             said = f"not {stored}"
         wrong += said not in ("as stored", "not stored")
         print(f"{os.path.basename(of[program])} {words}: {said}")
-    for *files, step in LISTS:
-        words = f"{' '.join(files)} --step {step}"
+    lists = [f"{' '.join(files)}{asked}" for *files, step in LISTS for asked in (f" --step {step}", "")]
+    for words in lists:
         said = checked(of["i"], words)
         wrong += not said.startswith("refuted")
         print(f"{os.path.basename(of['i'])} cnf, lrat {words}: {said}")
-    print(f"{len(ROWS) + len(LISTS) - wrong} of {len(ROWS) + len(LISTS)} as they should be")
+    print(f"{len(ROWS) + len(lists) - wrong} of {len(ROWS) + len(lists)} as they should be")
     sys.exit(1 if wrong else 0)
 
 

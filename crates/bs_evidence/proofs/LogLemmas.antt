@@ -1,6 +1,8 @@
 -- A step that a log finishes.
-use Rattle.std.proofs.Common.{◌≡◌, ℕ, ◌+◌, ◌-◌, ◌<◌, ◌≤◌, arith, Bool, true, false, List, ◌∷◌, length, take, drop, refl, ap, sym, subst, ◌∙◌, Some}
+use Rattle.std.proofs.Common.{◌≡◌, ℕ, ◌+◌, ◌-◌, ◌<◌, ◌≤◌, arith, Bool, true, false, List, [], ◌∷◌, length, take, drop, refl, ap, sym, subst, ◌∙◌, Some, None}
 use Rattle.std.specs.Prelude.{◌&&◌, nat_lt, slice_get}
+use Rattle.std.specs.List.{list_all, AllByRecursion}
+use Rattle.std.proofs.lemmas.List.Elements.{All-from_recursion}
 use Rattle.std.proofs.lemmas.Bool.{and_parts, ltb-true}
 use Rattle.std.proofs.lemmas.List.{length-take}
 use Rattle.std.proofs.lemmas.Option.{slice_get_within}
@@ -15,14 +17,16 @@ use Rattle.bs_log_dimacs.specs.declared.frame.TheConstants.{FEW}
 use Rattle.bs_log_dimacs.specs.Law.{IsFinishAt}
 use Rattle.bs_log_dimacs.specs.Walk.{problem_in, IsAsked, IsOneOf, IsProvable}
 use Rattle.bs_log_dimacs.proofs.Laws.{right_lines}
+use Rattle.bs_log_whole.specs.declared.asked.WholeLog.{WholeLog}
+use Rattle.bs_log_whole.specs.Walk.{problem_in as whole_problem, IsReady, IsSmall}
 use Rattle.bs_evidence.specs.declared.evidence.Format.{Format}
-use Rattle.bs_evidence.specs.Evidence.{is_short, text_of, ShowsLog}
+use Rattle.bs_evidence.specs.Evidence.{is_short, text_of, ShowsStep}
 
 pub place_within : (log : List Line) (step place id : ℕ) → IsFinishAt log step place id → place ≤ length log
 place_within log step place id fin = let less = slice_get_within log place (Finish id) fin.line in omega (arith, less)
 
 pub is_provable : (r : Refuted) (p : Problem) (log : List Line) (step place id : ℕ) → problem_in r ≡ p → r.lines.now ≡ take place log → r.step ≡ step → r.id ≡ id →
-    IsOneOf (length p.steps) step → p.vars + length p.steps < VARIABLE_LIMIT → IsAccepted p log → is_short p log step ≡ true → IsFinishAt log step place id →
+    IsOneOf (length p.steps) step → p.vars + length p.steps < VARIABLE_LIMIT → IsAccepted p log → is_short p log (Some step) ≡ true → IsFinishAt log step place id →
     IsProvable r
 is_provable r p log step place id problem lines steps ids one room ok short fin =
     let parts = and_parts (nat_lt (length p.clauses) FEW) (nat_lt (length (assumptions_of p step)) FEW && nat_lt (length log) FEW) short in
@@ -60,7 +64,7 @@ is_provable r p log step place id problem lines steps ids one room ok short fin 
 
 pub shows_log : (kind : Format) (r : Refuted) (p : Problem) (log : List Line) (step place id : ℕ) (text : List ℕ) → problem_in r ≡ p →
     r.lines.now ≡ take place log → r.step ≡ step → r.id ≡ id → IsAccepted p log → IsFinishAt log step place id →
-    text ≡ text_of kind (problem_in r) (history_of r.lines.now) r.step r.id → ShowsLog kind p log step text
+    text ≡ text_of kind (problem_in r) (history_of r.lines.now) r.step r.id → ShowsStep kind p log step text
 shows_log kind r p log step place id text problem lines steps ids ok fin is =
     record {
       accepted = ok;
@@ -72,4 +76,33 @@ shows_log kind r p log step place id text problem lines steps ids ok fin is =
           ∙ (ap (λ (q : Problem). text_of kind q (history_of r.lines.now) r.step r.id) problem
           ∙ (ap (λ (ls : List Line). text_of kind p (history_of ls) r.step r.id) lines
           ∙ (ap (λ n. text_of kind p (history_of (take place log)) n r.id) steps ∙ ap (text_of kind p (history_of (take place log)) step) ids)));
+    }
+
+-- ---- all finished lists
+
+few_each : (cs : List Clause) → list_all (λ c. nat_lt (length c) FEW) cs ≡ true → AllByRecursion (λ c. length c < FEW) cs
+few_each [] all = tt
+few_each (c ∷ cs) all =
+    let parts = and_parts (nat_lt (length c) FEW) (list_all (λ c. nat_lt (length c) FEW) cs) all in
+    (ltb-true (length c) FEW parts.0, few_each cs parts.1)
+
+is_small : (p : Problem) (log : List Line) → is_short p log None ≡ true → IsSmall p log
+is_small p log short =
+    let parts = and_parts (nat_lt (length p.clauses) FEW) (list_all (λ c. nat_lt (length c) FEW) p.steps && nat_lt (length log) FEW) short in
+    let later = and_parts (list_all (λ c. nat_lt (length c) FEW) p.steps) (nat_lt (length log) FEW) parts.1 in
+    record {
+      clauses = ltb-true (length p.clauses) FEW parts.0;
+      assumptions = All-from_recursion (λ c. length c < FEW) p.steps (few_each p.steps later.0);
+      lines = ltb-true (length log) FEW later.1;
+    }
+
+pub is_ready : (w : WholeLog) (p : Problem) (log : List Line) → whole_problem w ≡ p → w.lines.now ≡ log → p.vars + length p.steps < VARIABLE_LIMIT →
+    IsAccepted p log → is_short p log None ≡ true → IsReady w
+is_ready w p log problem lines room ok short =
+    let vars : (whole_problem w).vars ≡ p.vars = ap (λ (q : Problem). q.vars) problem in
+    let many : length (whole_problem w).steps ≡ length p.steps = ap (λ (q : Problem). length q.steps) problem in
+    record {
+      accepted = subst (λ (q : Problem). IsAccepted q w.lines.now) (sym problem) (subst (λ (ls : List Line). IsAccepted p ls) (sym lines) ok);
+      room = omega (arith, room, vars, many);
+      small = subst (λ (q : Problem). IsSmall q w.lines.now) (sym problem) (subst (λ (ls : List Line). IsSmall p ls) (sym lines) (is_small p log short));
     }

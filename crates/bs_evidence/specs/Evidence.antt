@@ -1,6 +1,7 @@
--- The evidence for a list of a report, and why there is none.
+-- The evidence for a list of a report or for all of them, and why there is none.
 use Rattle.std.specs.Prelude.{◌≡◌, ◌≢◌, ◌↔◌, ◌⊎◌, ℕ, ◌+◌, ◌-◌, ◌<◌, ◌≤◌, ◌^◌, List, ◌∷◌, length, map, take, All, Contains, Some, None, Option, slice_get}
-use Rattle.std.specs.Prelude.{Bool, true, false, ◌==◌, ◌&&◌, nat_lt, if◌then◌else◌, is_none, IsTrue}
+use Rattle.std.specs.Prelude.{Bool, true, false, ◌==◌, ◌&&◌, nat_lt, nat_le, if◌then◌else◌, is_none, is_some, IsTrue, IfSome}
+use Rattle.std.specs.List.{list_all}
 use Rattle.bs_clause.specs.Literal.{Literal, Clause, negation, Satisfies}
 use Rattle.bs_net.specs.Circuit.{Circuit, next}
 use Rattle.bs_scan.specs.Choice.{Chosen, depth_of}
@@ -13,8 +14,13 @@ use Rattle.bs_log.specs.Refusal.{IsAccepted, history_of, assumptions_of}
 use Rattle.bs_log.specs.Refutation.{blocks_of}
 use Rattle.bs_log_dimacs.specs.Cnf.{cnf_of, cnf_text}
 use Rattle.bs_log_dimacs.specs.Law.{IsFinishAt, HasNoFinish}
-use Rattle.bs_log_dimacs.specs.Proof.{lrat_text}
+use Rattle.bs_log_dimacs.specs.Proof.{lrat_text, IsRefutation}
+use Rattle.bs_log_dimacs.specs.Walk.{IsOneOf}
 use Rattle.bs_log_dimacs.specs.declared.frame.TheConstants.{FEW}
+use Rattle.bs_log_whole.specs.Cnf.{finish_of, whole_cnf_of, whole_cnf_text}
+use Rattle.bs_log_whole.specs.Law.{OthersAreGuarded}
+use Rattle.bs_log_whole.specs.Proof.{whole_proof_of, whole_lrat_text}
+use Rattle.bs_log_whole.specs.Walk.{has_finish}
 use Rattle.bs_encode.specs.Assuming.{block_for, AreWide}
 use Rattle.bs_encode.specs.Depth.{basis_of, encoding_by}
 use Rattle.bs_encode.specs.Encoded.{Encoded}
@@ -69,65 +75,118 @@ pub record Suits (e : Encoded) (step : Step) : Type 0 where
 abbrev pub problem_for : Circuit → Chosen → Report → Problem
 problem_for c choice r = (basis_of c choice (map present_of r.steps)).problem
 
+-- What is asked for is a step by its number, or nothing: all finished lists at once.
+
 -- the text of a step that the lemma of this id finishes, of which these are the lines before
 abbrev pub text_of : Format → Problem → History → (step id : ℕ) → List ℕ
 text_of Clauses p h step id = cnf_text p h step
 text_of Proof p h step id = lrat_text p h step id
 
+-- the text of all finished lists of a log with these lines
+abbrev pub whole_text_of : Format → Problem → History → List ℕ
+whole_text_of Clauses p h = whole_cnf_text p h
+whole_text_of Proof p h = whole_lrat_text p h
+
+-- what is asked for assumes less than 2^32 literals a step
+abbrev pub assumes_few : Problem → Option ℕ → Bool
+assumes_few p (Some step) = nat_lt (length (assumptions_of p step)) FEW
+assumes_few p None = list_all (λ c. nat_lt (length c) FEW) p.steps
+
 -- all parts have fewer members than 2^32
-abbrev pub is_short : Problem → List Line → (step : ℕ) → Bool
-is_short p log step = nat_lt (length p.clauses) FEW && (nat_lt (length (assumptions_of p step)) FEW && nat_lt (length log) FEW)
+abbrev pub is_short : Problem → List Line → Option ℕ → Bool
+is_short p log asked = nat_lt (length p.clauses) FEW && (assumes_few p asked && nat_lt (length log) FEW)
 
 -- the log is accepted and finishes the step, and this is the text
-pub record ShowsLog (kind : Format) (p : Problem) (log : List Line) (step : ℕ) (text : List ℕ) : Type 0 where
+pub record ShowsStep (kind : Format) (p : Problem) (log : List Line) (step : ℕ) (text : List ℕ) : Type 0 where
   pub accepted : IsAccepted p log
   pub place : ℕ
   pub id : ℕ
   pub finish : IsFinishAt log step place id
   pub is : text ≡ text_of kind p (history_of (take place log)) step id
 
+-- the log is accepted and finishes a step, and this is the text of all that it finishes
+pub record ShowsAll (kind : Format) (p : Problem) (log : List Line) (text : List ℕ) : Type 0 where
+  pub accepted : IsAccepted p log
+  pub finish : IsTrue (has_finish log)
+  pub is : text ≡ whole_text_of kind p (history_of log)
+
+abbrev pub ShowsLog : Format → Problem → List Line → Option ℕ → List ℕ → Type 0
+ShowsLog kind p log (Some step) text = ShowsStep kind p log step text
+ShowsLog kind p log None text = ShowsAll kind p log text
+
+-- the log does not finish what is asked for
+abbrev pub IsUnfinished : List Line → Option ℕ → Type 0
+IsUnfinished log (Some step) = HasNoFinish log step
+IsUnfinished log None = has_finish log ≡ false
+
 -- why a log gives no text
-abbrev pub IsLogFlaw : Problem → List Line → (step : ℕ) → Flaw → Type 0
-IsLogFlaw p log step (flaws.Log line why) = first_refused p log ≡ Some (line, why)
-IsLogFlaw p log step flaws.Unfinished = HasNoFinish log step
-IsLogFlaw p log step flaws.Long = is_short p log step ≡ false
-IsLogFlaw p log step flaw = ⊥
+abbrev pub IsLogFlaw : Problem → List Line → Option ℕ → Flaw → Type 0
+IsLogFlaw p log asked (flaws.Log line why) = first_refused p log ≡ Some (line, why)
+IsLogFlaw p log asked flaws.Unfinished = IsUnfinished log asked
+IsLogFlaw p log asked flaws.Long = is_short p log asked ≡ false
+IsLogFlaw p log asked flaw = ⊥
 
-abbrev pub IsLogEvidence : Format → Problem → List Line → (step : ℕ) → Evidence → Type 0
-IsLogEvidence kind p log step (Text text) = ShowsLog kind p log step text.items
-IsLogEvidence kind p log step (Flawed flaw) = IsLogFlaw p log step flaw
+abbrev pub IsLogEvidence : Format → Problem → List Line → Option ℕ → Evidence → Type 0
+IsLogEvidence kind p log asked (Text text) = ShowsLog kind p log asked text.items
+IsLogEvidence kind p log asked (Flawed flaw) = IsLogFlaw p log asked flaw
 
--- the report is of the depth of the signature, its steps fit and are as many as asked for at most, and it has the step
-pub record HasStep (c : Circuit) (choice : Chosen) (r : Report) (step : ℕ) : Type 0 where
+-- the report is of the depth of the signature, and its steps fit and are as many as asked for at most
+pub record HasFit (c : Circuit) (choice : Chosen) (r : Report) : Type 0 where
   pub depth : r.depth ≡ depth_of choice
   pub few : length r.steps ≤ r.budgets.steps
   pub fit : All (λ step. IsTrue (is_fit (length c.flops) (length choice.items) (depth_of choice) step)) r.steps
-  pub first : 1 ≤ step
-  pub last : step ≤ length r.steps
 
--- The step is there, its log is accepted and finishes the step, and this is the text.
-pub record Shows (kind : Format) (c : Circuit) (choice : Chosen) (r : Report) (step : ℕ) (text : List ℕ) : Type 0 where
-  pub there : HasStep c choice r step
-  pub log : ShowsLog kind (problem_for c choice r) r.log step text
+-- and it has the step that is asked for
+pub record HasAsked (c : Circuit) (choice : Chosen) (r : Report) (asked : Option ℕ) : Type 0 where
+  pub fits : HasFit c choice r
+  pub there : IfSome asked (IsOneOf (length r.steps))
 
--- why there is no text: each but the first four is one of a report that has the step
-abbrev pub IsFlawed : Circuit → Chosen → Report → (step : ℕ) → Flaw → Type 0
-IsFlawed c choice r step flaws.Format = r.depth ≢ depth_of choice
-IsFlawed c choice r step flaws.Stop = r.budgets.steps < length r.steps
-IsFlawed c choice r step (flaws.Present i) = IsMisfit (length c.flops) (length choice.items) (depth_of choice) r.steps (flaws.Present i)
-IsFlawed c choice r step (flaws.Stored i) = IsMisfit (length c.flops) (length choice.items) (depth_of choice) r.steps (flaws.Stored i)
-IsFlawed c choice r step flaws.NoStep = (step ≡ 0) ⊎ (length r.steps < step)
-IsFlawed c choice r step flaw = HasStep c choice r step × IsLogFlaw (problem_for c choice r) r.log step flaw
+-- What is asked for is there, its log is accepted and finishes it, and this is the text.
+pub record Shows (kind : Format) (c : Circuit) (choice : Chosen) (r : Report) (asked : Option ℕ) (text : List ℕ) : Type 0 where
+  pub there : HasAsked c choice r asked
+  pub log : ShowsLog kind (problem_for c choice r) r.log asked text
 
--- the report has the step, or why not
-abbrev pub IsMissing : Circuit → Chosen → Report → (step : ℕ) → Option Flaw → Type 0
-IsMissing c choice r step None = HasStep c choice r step
-IsMissing c choice r step (Some flaw) = IsFlawed c choice r step flaw
+-- why a report does not fit
+abbrev pub IsUnfit : Circuit → Chosen → Report → Flaw → Type 0
+IsUnfit c choice r flaws.Format = r.depth ≢ depth_of choice
+IsUnfit c choice r flaws.Stop = r.budgets.steps < length r.steps
+IsUnfit c choice r (flaws.Present i) = IsMisfit (length c.flops) (length choice.items) (depth_of choice) r.steps (flaws.Present i)
+IsUnfit c choice r (flaws.Stored i) = IsMisfit (length c.flops) (length choice.items) (depth_of choice) r.steps (flaws.Stored i)
+IsUnfit c choice r flaw = ⊥
+
+-- the report fits, or why not
+abbrev pub IsFitOr : Circuit → Chosen → Report → Option Flaw → Type 0
+IsFitOr c choice r None = HasFit c choice r
+IsFitOr c choice r (Some flaw) = IsUnfit c choice r flaw
+
+-- what is asked for is all lists, or one of so many steps
+abbrev pub is_there : (count : ℕ) → Option ℕ → Bool
+is_there count (Some step) = nat_le 1 step && nat_le step count
+is_there count None = true
+
+-- a step that is asked for is none of so many
+abbrev pub IsNoStep : (count : ℕ) → Option ℕ → Type 0
+IsNoStep count (Some step) = (step ≡ 0) ⊎ (count < step)
+IsNoStep count None = ⊥
+
+-- why there is no text: each but the first four is one of a report that fits and has what is asked for
+abbrev pub IsFlawed : Circuit → Chosen → Report → Option ℕ → Flaw → Type 0
+IsFlawed c choice r asked flaws.Format = IsUnfit c choice r flaws.Format
+IsFlawed c choice r asked flaws.Stop = IsUnfit c choice r flaws.Stop
+IsFlawed c choice r asked (flaws.Present i) = IsUnfit c choice r (flaws.Present i)
+IsFlawed c choice r asked (flaws.Stored i) = IsUnfit c choice r (flaws.Stored i)
+IsFlawed c choice r asked flaws.NoStep = IsNoStep (length r.steps) asked
+IsFlawed c choice r asked flaw = HasAsked c choice r asked × IsLogFlaw (problem_for c choice r) r.log asked flaw
+
+-- the report has what is asked for, or why not
+abbrev pub IsMissing : Circuit → Chosen → Report → Option ℕ → Option Flaw → Type 0
+IsMissing c choice r asked None = HasAsked c choice r asked
+IsMissing c choice r asked (Some flaw) = IsFlawed c choice r asked flaw
 
 -- the text, or why there is none
-abbrev pub IsEvidence : Format → Circuit → Chosen → Report → (step : ℕ) → Evidence → Type 0
-IsEvidence kind c choice r step (Text text) = Shows kind c choice r step text.items
-IsEvidence kind c choice r step (Flawed flaw) = IsFlawed c choice r step flaw
+abbrev pub IsEvidence : Format → Circuit → Chosen → Report → Option ℕ → Evidence → Type 0
+IsEvidence kind c choice r asked (Text text) = Shows kind c choice r asked text.items
+IsEvidence kind c choice r asked (Flawed flaw) = IsFlawed c choice r asked flaw
 
 -- ---- the law
 
@@ -146,3 +205,22 @@ UnlistedAreShown c choice =
     All (IsListedBlock (activation_of (basis_of c choice presents).problem step) (block_for (encoding_by c choice)) states) (blocks_of h step) →
     ¬ Contains states s → length s ≡ length c.flops → length x ≡ length c.inputs → agrees c choice q.stored s ≡ true → next c s x ≡ q.state →
     (v : ℕ → Bool) × All (Satisfies v) (cnf_of (basis_of c choice presents).problem h step)
+
+-- The same over the clauses of all finished lists, where the step is one of them and the blocks of the other steps have the literals that turn
+-- those steps off.
+abbrev pub AllUnlistedAreShown : Circuit → Chosen → Type 0
+AllUnlistedAreShown c choice =
+    (presents : List Present) (step : ℕ) (q : Present) (h : History) (states : List (List Bool)) (s x : List Bool) →
+    1 ≤ step → slice_get presents (step - 1) ≡ Some q → IsTrue (is_some (finish_of h step)) → All (λ t. length t ≡ length c.flops) states →
+    All (IsListedBlock (activation_of (basis_of c choice presents).problem step) (block_for (encoding_by c choice)) states) (blocks_of h step) →
+    OthersAreGuarded (basis_of c choice presents).problem h step →
+    ¬ Contains states s → length s ≡ length c.flops → length x ≡ length c.inputs → agrees c choice q.stored s ≡ true → next c s x ≡ q.state →
+    (v : ℕ → Bool) × All (Satisfies v) (whole_cnf_of (basis_of c choice presents).problem h)
+
+-- The proof of all finished lists of an accepted log over an encoding is right, line by line up to the empty clause, and so nothing meets
+-- their clauses.
+pub record ReportProofsAreRight (c : Circuit) (choice : Chosen) : Type 0 where
+  pub right : (presents : List Present) (log : List Line) → IsAccepted (basis_of c choice presents).problem log →
+      IsRefutation (whole_cnf_of (basis_of c choice presents).problem (history_of log)) (whole_proof_of (basis_of c choice presents).problem (history_of log))
+  pub unmet : (presents : List Present) (log : List Line) (v : ℕ → Bool) → IsAccepted (basis_of c choice presents).problem log →
+      All (Satisfies v) (whole_cnf_of (basis_of c choice presents).problem (history_of log)) → ⊥

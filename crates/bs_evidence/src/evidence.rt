@@ -1,24 +1,29 @@
-//! The evidence for a list of a report.
-ghost use Rattle.std.specs.Prelude.{◌≡◌, ◌≤◌, ◌<◌, ◌+◌, ◌++◌, ◌^◌, length, true, map, take, All, IfOk, OnOk};
+//! The evidence for a list of a report, or for all of them.
+ghost use Rattle.std.specs.Prelude.{◌≡◌, ◌≤◌, ◌<◌, ◌+◌, ◌++◌, ◌^◌, length, true, map, take, nat_lt, All, Some, None, IfOk, IfSome, OnOk};
+ghost use Rattle.std.specs.List.{list_all};
 ghost use Rattle.bs_net.specs.Netlist.{circuit};
 ghost use Rattle.bs_clause.specs.declared.literal.TheConstants.{VARIABLE_LIMIT};
 ghost use Rattle.bs_encode.specs.Depth.{encoding_by};
 ghost use Rattle.bs_encode.specs.Listing.{IsTidy};
 ghost use Rattle.bs_report.specs.declared.limits.TheConstants.{MAX_STEPS};
 ghost use Rattle.bs_log.specs.Refusal.{history_of, IsAccepted};
+ghost use Rattle.bs_log_dimacs.specs.declared.frame.TheConstants.{FEW};
 ghost use Rattle.bs_log_dimacs.specs.Law.{IsFinishAt};
 ghost use Rattle.bs_log_dimacs.specs.Walk.{problem_in, IsOneOf, IsProvable};
+ghost use Rattle.bs_log_whole.specs.Walk.{has_finish};
 ghost use Rattle.bs_evidence.specs.Encoded.{problem_with};
-ghost use Rattle.bs_evidence.specs.Evidence.{problem_for, text_of, is_short, HasStep, IsEvidence, IsLogEvidence, IsMissing};
+ghost use Rattle.bs_evidence.specs.Evidence.{problem_for, text_of, assumes_few, is_short, is_there, HasFit, IsEvidence, IsFitOr, IsLogEvidence, IsMissing};
 
 use crate::assumed::{assumptions, encoding};
 use crate::fits::misfit;
 use crate::flaw::{Evidence, Flaw};
+use crate::whole::{whole_log, whole_text};
 use bs_bits::{List, NoMemory};
 use bs_clause::Lits;
 use bs_encode::Encoding;
 use bs_log::{Line, Log};
 use bs_log_dimacs::{FEW, Refuted, finish_place, push_cnf, push_lrat};
+use bs_log_whole::has_finish;
 use bs_net::Netlist;
 use bs_report::Report;
 use bs_rup::{Verdict, check};
@@ -55,14 +60,36 @@ fn text_of(alloc: Global, kind: Format, asked: &Refuted<'_>) -> Result<Vec<u8>, 
     Ok(text)
 }
 
+/// Whether each of some clauses has fewer literals than 2^32.
+fn are_few(clauses: &[Lits]) -> bool
+    ensures { result ≡ list_all (λ c. nat_lt (length c) FEW) clauses.now }
+{
+    clauses.iter().all(|clause| clause.len() < FEW)
+}
+
+/// Whether what is asked for assumes less than 2^32 literals a step.
+fn assumes_few(encoding: &Encoding, assumptions: &List<Lits>, asked: Option<u64>) -> bool
+    requires { IfSome asked (IsOneOf (length assumptions.now)) }
+    ensures { result ≡ assumes_few (problem_with encoding.now assumptions.now) asked }
+{
+    match asked {
+        Some(step) => assumptions.get((step - 1) as usize).len() < FEW,
+        None => are_few(assumptions.slice()),
+    }
+}
+
 /// Whether all parts have fewer members than 2^32.
-fn is_short(encoding: &Encoding, assumptions: &List<Lits>, log: &[Line], step: u64) -> bool
-    requires { IsOneOf (length assumptions.now) step }
-    ensures { result ≡ is_short (problem_with encoding.now assumptions.now) log.now step }
+fn is_short(
+    encoding: &Encoding,
+    assumptions: &List<Lits>,
+    log: &[Line],
+    asked: Option<u64>,
+) -> bool
+    requires { IfSome asked (IsOneOf (length assumptions.now)) }
+    ensures { result ≡ is_short (problem_with encoding.now assumptions.now) log.now asked }
 {
     let clauses = encoding.clauses().len();
-    let assumed = assumptions.get((step - 1) as usize).len();
-    clauses < FEW && (assumed < FEW && log.len() < FEW)
+    clauses < FEW && (assumes_few(encoding, assumptions, asked) && log.len() < FEW)
 }
 
 /// The lines before a place.
@@ -85,7 +112,7 @@ fn asked<'a>(
     requires step { IsOneOf (length assumptions.now) step }
     requires room { encoding.now.variables + length assumptions.now < VARIABLE_LIMIT }
     requires accepted { IsAccepted (problem_with encoding.now assumptions.now) log.now }
-    requires short { is_short (problem_with encoding.now assumptions.now) log.now step ≡ true }
+    requires short { is_short (problem_with encoding.now assumptions.now) log.now (Some step) ≡ true }
     requires finish { IsFinishAt log.now step place id }
     ensures provable { IsProvable result }
     ensures problem { problem_in result ≡ problem_with encoding.now assumptions.now }
@@ -117,9 +144,9 @@ fn finished_evidence(
     requires room { encoding.now.variables + length assumptions.now < VARIABLE_LIMIT }
     requires accepted { IsAccepted (problem_with encoding.now assumptions.now) log.now }
     requires finish { IsFinishAt log.now step found.0 found.1 }
-    ensures { IfOk result (IsLogEvidence kind (problem_with encoding.now assumptions.now) log.now step) }
+    ensures { IfOk result (IsLogEvidence kind (problem_with encoding.now assumptions.now) log.now (Some step)) }
 {
-    if is_short(encoding, assumptions, log, step) {
+    if is_short(encoding, assumptions, log, Some(step)) {
         let refuted = asked(encoding, assumptions, log, step, found.0, found.1);
         let text = text_of(alloc, kind, &refuted)?;
         Ok(Evidence::Text(text))
@@ -129,7 +156,7 @@ fn finished_evidence(
 }
 
 /// The evidence for a step of a log that is accepted.
-fn accepted_evidence(
+fn step_evidence(
     alloc: Global,
     kind: Format,
     encoding: &Encoding,
@@ -140,7 +167,7 @@ fn accepted_evidence(
     requires step { IsOneOf (length assumptions.now) step }
     requires room { encoding.now.variables + length assumptions.now < VARIABLE_LIMIT }
     requires accepted { IsAccepted (problem_with encoding.now assumptions.now) log.now }
-    ensures { IfOk result (IsLogEvidence kind (problem_with encoding.now assumptions.now) log.now step) }
+    ensures { IfOk result (IsLogEvidence kind (problem_with encoding.now assumptions.now) log.now (Some step)) }
 {
     match finish_place(log, step) {
         None => Ok(Evidence::Flawed(Flaw::Unfinished)),
@@ -148,18 +175,79 @@ fn accepted_evidence(
     }
 }
 
-/// The evidence for a step of a log, which is checked first.
+/// The evidence for all finished lists of a log that is accepted and finishes a step.
+fn all_finished_evidence(
+    alloc: Global,
+    kind: Format,
+    encoding: &Encoding,
+    assumptions: &List<Lits>,
+    log: &[Line],
+) -> Result<Evidence, NoMemory>
+    requires room { encoding.now.variables + length assumptions.now < VARIABLE_LIMIT }
+    requires accepted { IsAccepted (problem_with encoding.now assumptions.now) log.now }
+    requires finish { has_finish log.now ≡ true }
+    ensures { IfOk result (IsLogEvidence kind (problem_with encoding.now assumptions.now) log.now None) }
+{
+    if is_short(encoding, assumptions, log, None) {
+        let whole = whole_log(encoding, assumptions, log);
+        let text = whole_text(alloc, kind, &whole)?;
+        Ok(Evidence::Text(text))
+    } else {
+        Ok(Evidence::Flawed(Flaw::Long))
+    }
+}
+
+/// The evidence for all finished lists of a log that is accepted.
+fn all_evidence(
+    alloc: Global,
+    kind: Format,
+    encoding: &Encoding,
+    assumptions: &List<Lits>,
+    log: &[Line],
+) -> Result<Evidence, NoMemory>
+    requires room { encoding.now.variables + length assumptions.now < VARIABLE_LIMIT }
+    requires accepted { IsAccepted (problem_with encoding.now assumptions.now) log.now }
+    ensures { IfOk result (IsLogEvidence kind (problem_with encoding.now assumptions.now) log.now None) }
+{
+    if has_finish(log) {
+        all_finished_evidence(alloc, kind, encoding, assumptions, log)
+    } else {
+        Ok(Evidence::Flawed(Flaw::Unfinished))
+    }
+}
+
+/// The evidence for what is asked for of a log that is accepted.
+fn accepted_evidence(
+    alloc: Global,
+    kind: Format,
+    encoding: &Encoding,
+    assumptions: &List<Lits>,
+    log: &[Line],
+    asked: Option<u64>,
+) -> Result<Evidence, NoMemory>
+    requires there { IfSome asked (IsOneOf (length assumptions.now)) }
+    requires room { encoding.now.variables + length assumptions.now < VARIABLE_LIMIT }
+    requires accepted { IsAccepted (problem_with encoding.now assumptions.now) log.now }
+    ensures { IfOk result (IsLogEvidence kind (problem_with encoding.now assumptions.now) log.now asked) }
+{
+    match asked {
+        Some(step) => step_evidence(alloc, kind, encoding, assumptions, log, step),
+        None => all_evidence(alloc, kind, encoding, assumptions, log),
+    }
+}
+
+/// The evidence for what is asked for of a log, which is checked first.
 fn log_evidence(
     alloc: Global,
     kind: Format,
     encoding: &Encoding,
     assumptions: &List<Lits>,
     log: &Log,
-    step: u64,
+    asked: Option<u64>,
 ) -> Result<Evidence, NoMemory>
-    requires step { IsOneOf (length assumptions.now) step }
+    requires there { IfSome asked (IsOneOf (length assumptions.now)) }
     requires room { encoding.now.variables + length assumptions.now < VARIABLE_LIMIT }
-    ensures { IfOk result (IsLogEvidence kind (problem_with encoding.now assumptions.now) log.now step) }
+    ensures { IfOk result (IsLogEvidence kind (problem_with encoding.now assumptions.now) log.now asked) }
 {
     let verdict = check(alloc, encoding.vars(), encoding.clauses(), assumptions, log)?;
     match verdict {
@@ -170,7 +258,7 @@ fn log_evidence(
             encoding,
             assumptions,
             log.slice(),
-            step,
+            asked,
         ),
     }
 }
@@ -178,7 +266,7 @@ fn log_evidence(
 /// Lets the assumptions of steps go.
 fn drop_assumptions(_assumptions: List<Lits>) {}
 
-/// The evidence for a step of a report, over the encoding's clauses.
+/// The evidence for what is asked for of a report, over the encoding's clauses.
 fn encoded_evidence(
     alloc: Global,
     kind: Format,
@@ -186,18 +274,19 @@ fn encoded_evidence(
     choice: &Choice,
     encoding: &Encoding,
     report: &Report,
-    step: u64,
+    asked: Option<u64>,
 ) -> Result<Evidence, NoMemory>
     requires value { encoding.now ≡ encoding_by (circuit net.now) choice.now }
     requires tidy { IsTidy (circuit net.now) choice.now encoding.now }
     requires few { report.now.budgets.steps ≤ MAX_STEPS }
-    requires there { HasStep (circuit net.now) choice.now report.now step }
-    ensures { IfOk result (IsLogEvidence kind (problem_for (circuit net.now) choice.now report.now) report.now.log step) }
+    requires fits { HasFit (circuit net.now) choice.now report.now }
+    requires there { IfSome asked (IsOneOf (length report.now.steps)) }
+    ensures { IfOk result (IsLogEvidence kind (problem_for (circuit net.now) choice.now report.now) report.now.log asked) }
 {
     let _depth = choice.depth();
     match assumptions(alloc, encoding, report.steps.slice()) {
         Ok(assumptions) => {
-            let evidence = log_evidence(alloc, kind, encoding, &assumptions, &report.log, step);
+            let evidence = log_evidence(alloc, kind, encoding, &assumptions, &report.log, asked);
             drop_assumptions(assumptions);
             evidence
         }
@@ -208,23 +297,24 @@ fn encoded_evidence(
 /// Lets an encoding go.
 fn drop_encoding(_encoding: Encoding) {}
 
-/// The evidence for a step that a report has.
-fn step_evidence(
+/// The evidence for what is asked for of a report that has it.
+fn report_evidence(
     alloc: Global,
     kind: Format,
     net: &Netlist,
     choice: &Choice,
     report: &Report,
-    step: u64,
+    asked: Option<u64>,
 ) -> Result<Evidence, NoMemory>
     requires choice { choice.now.width ≡ length (circuit net.now).flops }
     requires few { report.now.budgets.steps ≤ MAX_STEPS }
-    requires there { HasStep (circuit net.now) choice.now report.now step }
-    ensures { IfOk result (IsLogEvidence kind (problem_for (circuit net.now) choice.now report.now) report.now.log step) }
+    requires fits { HasFit (circuit net.now) choice.now report.now }
+    requires there { IfSome asked (IsOneOf (length report.now.steps)) }
+    ensures { IfOk result (IsLogEvidence kind (problem_for (circuit net.now) choice.now report.now) report.now.log asked) }
 {
     match encoding(alloc, net, choice) {
         Ok(encoding) => {
-            let evidence = encoded_evidence(alloc, kind, net, choice, &encoding, report, step);
+            let evidence = encoded_evidence(alloc, kind, net, choice, &encoding, report, asked);
             drop_encoding(encoding);
             evidence
         }
@@ -232,9 +322,9 @@ fn step_evidence(
     }
 }
 
-/// Why a report has no such step that fits, or `None` where it has.
-fn missing(net: &Netlist, choice: &Choice, report: &Report, step: u64) -> Option<Flaw>
-    ensures { IsMissing (circuit net.now) choice.now report.now step result }
+/// Why a report does not fit, or `None` where it does.
+fn unfit(net: &Netlist, choice: &Choice, report: &Report) -> Option<Flaw>
+    ensures { IsFitOr (circuit net.now) choice.now report.now result }
 {
     if report.depth != choice.depth() {
         return Some(Flaw::Format);
@@ -242,20 +332,56 @@ fn missing(net: &Netlist, choice: &Choice, report: &Report, step: u64) -> Option
     if report.steps.len() as u64 > report.budgets.steps {
         return Some(Flaw::Stop);
     }
-    match misfit(
+    misfit(
         net.width(),
         choice.items(),
         choice.depth(),
         report.steps.slice(),
-    ) {
+    )
+}
+
+/// Whether what is asked for is all lists, or one of so many steps.
+fn is_there(count: u64, asked: Option<u64>) -> bool
+    ensures { result ≡ is_there count asked }
+{
+    match asked {
+        Some(step) => 1 <= step && step <= count,
+        None => true,
+    }
+}
+
+/// Why a report has not what is asked for, or `None` where it has.
+fn missing(net: &Netlist, choice: &Choice, report: &Report, asked: Option<u64>) -> Option<Flaw>
+    ensures { IsMissing (circuit net.now) choice.now report.now asked result }
+{
+    match unfit(net, choice, report) {
         Some(flaw) => Some(flaw),
         None => {
-            if 1 <= step && step <= report.steps.len() as u64 {
+            if is_there(report.steps.len() as u64, asked) {
                 None
             } else {
                 Some(Flaw::NoStep)
             }
         }
+    }
+}
+
+/// The evidence for what is asked for of a report, or why there is none.
+fn evidence(
+    alloc: Global,
+    kind: Format,
+    net: &Netlist,
+    choice: &Choice,
+    report: &Report,
+    asked: Option<u64>,
+) -> Result<Evidence, NoMemory>
+    requires choice { choice.now.width ≡ length (circuit net.now).flops }
+    requires few { report.now.budgets.steps ≤ MAX_STEPS }
+    ensures { IfOk result (IsEvidence kind (circuit net.now) choice.now report.now asked) }
+{
+    match missing(net, choice, report, asked) {
+        Some(flaw) => Ok(Evidence::Flawed(flaw)),
+        None => report_evidence(alloc, kind, net, choice, report, asked),
     }
 }
 
@@ -270,10 +396,22 @@ pub fn evidence_of(
 ) -> Result<Evidence, NoMemory>
     requires choice { choice.now.width ≡ length (circuit net.now).flops }
     requires few { report.now.budgets.steps ≤ MAX_STEPS }
-    ensures { IfOk result (IsEvidence kind (circuit net.now) choice.now report.now step) }
+    ensures { IfOk result (IsEvidence kind (circuit net.now) choice.now report.now (Some step)) }
 {
-    match missing(net, choice, report, step) {
-        Some(flaw) => Ok(Evidence::Flawed(flaw)),
-        None => step_evidence(alloc, kind, net, choice, report, step),
-    }
+    evidence(alloc, kind, net, choice, report, Some(step))
+}
+
+/// The evidence for all finished lists of a report at once: the text that is asked for, or why there is none.
+pub fn evidence_for(
+    alloc: Global,
+    kind: Format,
+    net: &Netlist,
+    choice: &Choice,
+    report: &Report,
+) -> Result<Evidence, NoMemory>
+    requires choice { choice.now.width ≡ length (circuit net.now).flops }
+    requires few { report.now.budgets.steps ≤ MAX_STEPS }
+    ensures { IfOk result (IsEvidence kind (circuit net.now) choice.now report.now None) }
+{
+    evidence(alloc, kind, net, choice, report, None)
 }

@@ -1,7 +1,7 @@
-//! Why a list of a report has no evidence.
+//! Why lists of a report have no evidence.
 use bs_log::Why;
 
-/// Why a list of a report has no evidence.
+/// Why a list of a report, or all of them, have no evidence.
 #[derive(Clone, Copy, Debug, PartialEq, Eq)]
 pub enum Flaw {
     /// The report keeps another number of signatures than the signature's register.
@@ -16,7 +16,7 @@ pub enum Flaw {
     NoStep,
     /// This line of the log, counted from 1, is the first that is refused.
     Log(u64, Why),
-    /// The log does not finish the step.
+    /// The log does not finish the step, or, where all are asked for, none.
     Unfinished,
     /// There are 2^32 clauses, assumptions or lines, or more.
     Long,

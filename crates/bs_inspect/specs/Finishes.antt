@@ -1,5 +1,5 @@
 -- The status and the text of work that is done.
-use Rattle.std.specs.Prelude.{◌≡◌, ℕ, List, length}
+use Rattle.std.specs.Prelude.{◌≡◌, ℕ, List, Option, length}
 use Rattle.bs_top_plan.specs.declared.status.Status.{Status}
 use Rattle.bs_top_plan.specs.declared.status.Status.TheVariants.{Done, Rejected}
 use Rattle.bs_inspect_values.specs.SimulatedRun.{runs_text}
@@ -39,8 +39,8 @@ abbrev pub evidence_text : Evidence → List ℕ
 evidence_text (Text text) = text.items
 evidence_text (Flawed flaw) = flaw_text flaw
 
--- the evidence for the list of a step, or why there is none
-pub record TellsEvidence (kind : Format) (step : ℕ) (report_files : ReportFiles) (status : Status) (text : List ℕ) : Type 0 where
+-- the evidence for the list of a step, or for all lists where no step is asked for, or why there is none
+pub record TellsEvidence (kind : Format) (step : Option ℕ) (report_files : ReportFiles) (status : Status) (text : List ℕ) : Type 0 where
   pub evidence : Evidence
   pub right : IsEvidence kind (circuit_of report_files.raw) report_files.choice report_files.report step evidence
   pub answered : status ≡ evidence_status evidence

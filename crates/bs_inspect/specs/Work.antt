@@ -1,5 +1,5 @@
 -- What a request is ready for, and the files through which it comes to that.
-use Rattle.std.specs.Prelude.{ℕ, Bool, List}
+use Rattle.std.specs.Prelude.{ℕ, Bool, List, Option}
 use Rattle.bs_net.specs.Parts.{Parts}
 use Rattle.bs_report.specs.declared.report.Report.{Report}
 use Rattle.bs_inspect_words.specs.Request.{Request, Help, Version, Flops, Inputs, Stats, Keys, Trace, TraceTable, Steps, StepsTable, Wave, Stimulus, Dump, Signature, Unscan, Cnf, Lrat, Page, Novel, ReachCnf, ReachLrat}
@@ -19,8 +19,8 @@ use Rattle.bs_inspect.specs.Asked.{clocked_of, dump_files, page_options}
 -- how words stand, the version, the flip-flops, data inputs or sizes of a netlist, the steps of a report, its trace with the
 -- names of a netlist, simulated runs (by a clock with this name), a dump, the waveform of a trace from a cycle on, or a signature of so
 -- many items is to be written; a trace or steps as a table, the keys of the flip-flops that names stand for, the state that a
--- pattern of a scan chain is, or the evidence for the list of a step; or a report as a page, or in so many lines the values that a run alone has; or the evidence
--- for a length of an answer
+-- pattern of a scan chain is, or the evidence for the list of a step or for all lists; or a report as a page, or in so many lines the values that a run alone has; or the
+-- evidence for a length of an answer
 pub data Work : Type 0 where
   to_help : Work
   to_version : Work
@@ -37,7 +37,7 @@ pub data Work : Type 0 where
   to_steps_table : Report → Work
   to_keys : List (List ℕ) → Parts → Work
   to_state : Scanned → Work
-  to_evidence : Format → ℕ → ReportFiles → Work
+  to_evidence : Format → Option ℕ → ReportFiles → Work
   to_page : PageOptions → TraceFiles → Work
   to_novel : (most : ℕ) → OneRun → Work
   to_length : Format → (step : ℕ) → Answered → Work

@@ -10,6 +10,8 @@ ghost use Rattle.bs_inspect_files.specs.FlopFiles.{scanned_in};
 ghost use Rattle.bs_inspect_netlist.specs.Dumped.{dump_lines};
 ghost use Rattle.bs_inspect_netlist.specs.Order.{state_line};
 ghost use Rattle.bs_inspect_view.specs.View.{IsDrawing};
+ghost use Rattle.bs_net.specs.Netlist.{circuit_of};
+ghost use Rattle.bs_evidence.specs.Evidence.{IsEvidence};
 ghost use Rattle.bs_evidence.specs.Words.{flaw_text};
 ghost use Rattle.bs_inspect.specs.Asked.{drawing_of, page_for};
 ghost use Rattle.bs_inspect.specs.Finishes.{evidence_status, evidence_text, finishes};
@@ -17,7 +19,7 @@ ghost use Rattle.bs_inspect_answers.specs.Taken.{answered_in};
 ghost use Rattle.bs_inspect.specs.Work.{to_dump, to_evidence, to_flops, to_help, to_inputs, to_keys, to_length, to_page, to_novel, to_runs, to_signature, to_state, to_stats, to_steps, to_steps_table, to_table, to_trace, to_version, to_wave};
 
 use crate::usage::{usage_text, version_text};
-use bs_evidence::{Evidence, Flaw, Format, evidence_of, flaw_text};
+use bs_evidence::{Evidence, Flaw, Format, evidence_for, evidence_of, flaw_text};
 use bs_inspect_answers::Answered;
 use bs_inspect_files::{OneRun, ReportFiles, RunFiles, Scanned, TraceFiles};
 use bs_inspect_lists::signature_text;
@@ -298,23 +300,34 @@ fn tell_found(alloc: Global, evidence: Evidence) -> Result<Reply, NoMemory>
     }
 }
 
-/// The evidence for the list of a step, or why there is none.
+/// The evidence for the list of a step, or for all lists.
+fn find_evidence(
+    alloc: Global,
+    kind: Format,
+    report_files: &ReportFiles,
+    step: Option<u64>,
+) -> Result<Evidence, NoMemory>
+    ensures { IfOk result (IsEvidence kind (circuit_of (report_files_in report_files.now).raw) (report_files_in report_files.now).choice (report_files_in report_files.now).report step) }
+{
+    let net = &report_files.net;
+    let choice = &report_files.choice;
+    let report = &report_files.report;
+    match step {
+        Some(step) => evidence_of(alloc, kind, net, choice, report, step),
+        None => evidence_for(alloc, kind, net, choice, report),
+    }
+}
+
+/// The evidence for the list of a step, or for all lists, or why there is none.
 pub(crate) fn tell_evidence(
     alloc: Global,
     kind: Format,
     report_files: &ReportFiles,
-    step: u64,
+    step: Option<u64>,
 ) -> Result<Reply, NoMemory>
     ensures { IfOk result (λ answer. finishes (to_evidence kind step (report_files_in report_files.now)) answer.status answer.text.items) }
 {
-    let found = evidence_of(
-        alloc,
-        kind,
-        &report_files.net,
-        &report_files.choice,
-        &report_files.report,
-        step,
-    )?;
+    let found = find_evidence(alloc, kind, report_files, step)?;
     let reply = tell_found(alloc, found)?;
     Ok(reply)
 }

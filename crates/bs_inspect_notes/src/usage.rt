@@ -50,11 +50,11 @@ const USAGES: [(&str, &str); 19] = [
     ),
     (
         "cnf",
-        "usage: backspace_inspect cnf NETLIST SIGNATURE REPORT --step K",
+        "usage: backspace_inspect cnf NETLIST SIGNATURE REPORT [--step K]",
     ),
     (
         "lrat",
-        "usage: backspace_inspect lrat NETLIST SIGNATURE REPORT --step K",
+        "usage: backspace_inspect lrat NETLIST SIGNATURE REPORT [--step K]",
     ),
     (
         "novel",

@@ -74,12 +74,12 @@ pub record UnscanRequest : Type 0 where
   pub order : List ℕ
   pub pattern : List ℕ
 
--- the files of `cnf` and `lrat`, and the number of a step
+-- the files of `cnf` and `lrat`, and the number of a step; where there is none, all lists are meant
 pub record EvidenceRequest : Type 0 where
   pub netlist : List ℕ
   pub signature : List ℕ
   pub report : List ℕ
-  pub step : ℕ
+  pub step : Option ℕ
 
 -- the files of `reach-cnf` and `reach-lrat`, the word of a state, and a length
 pub record LengthRequest : Type 0 where
@@ -350,17 +350,22 @@ signature_words positions settings =
 abbrev pub signature_request : Given → Option Request
 signature_request given = signature_words given.positions given.settings
 
--- ---- a list
+-- ---- lists
 
 abbrev pub evidence_flags : List Flag
 evidence_flags = F.Step ∷ []
 
 -- the number of a step that a word is
-abbrev pub step_in : Option (List ℕ) → Option ℕ
-step_in word = option_and_then (number_between 1 MAX_STEP) word
+abbrev pub step_of : List ℕ → Option (Option ℕ)
+step_of word = option_map (λ (n : ℕ). Some n) (number_between 1 MAX_STEP word)
 
--- `cnf` and `lrat` have three file names, and the number of a step
-abbrev pub evidence_of : List (List ℕ) → Option ℕ → Option EvidenceRequest
+-- the number of a step, if there is a word
+abbrev pub step_in : Option (List ℕ) → Option (Option ℕ)
+step_in None = Some None
+step_in (Some word) = step_of word
+
+-- `cnf` and `lrat` have three file names, and perhaps the number of a step
+abbrev pub evidence_of : List (List ℕ) → Option (Option ℕ) → Option EvidenceRequest
 evidence_of (netlist ∷ signature ∷ report ∷ []) (Some step) = Some record { netlist = netlist; signature = signature; report = report; step = step }
 evidence_of _ step = None
 

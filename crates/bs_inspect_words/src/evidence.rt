@@ -1,8 +1,8 @@
-//! The requests about a list of a report: `cnf` and `lrat`.
+//! The requests about a list of a report, or all of them: `cnf` and `lrat`.
 ghost use Rattle.std.specs.Prelude.{◌≡◌, map, option_map};
 ghost use Rattle.bs_top_words.specs.Asked.{given_in, setting_of};
 ghost use Rattle.bs_inspect_words.specs.Asked.{evidence_in, shown_request};
-ghost use Rattle.bs_inspect_words.specs.Request.{cnf_request, evidence_of, evidence_words, lrat_request, step_in};
+ghost use Rattle.bs_inspect_words.specs.Request.{cnf_request, evidence_of, evidence_words, lrat_request, step_in, step_of};
 
 use crate::request::{EvidenceRequest, Request};
 use crate::settings::{fit, value_of};
@@ -12,17 +12,30 @@ use bs_top_words::{Flag, Given, Setting, number_between};
 pub const MAX_STEP: u64 = 65_536;
 
 /// The number of a step that a word is.
-fn step_in(word: Option<&str>) -> Option<u64>
-    ensures { result ≡ step_in (option_map (λ s. s.now) word.entry) }
+fn step_of(word: &str) -> Option<Option<u64>>
+    ensures { result ≡ step_of word.now }
 {
-    match word {
-        Some(word) => number_between(1, MAX_STEP, word),
+    match number_between(1, MAX_STEP, word) {
+        Some(step) => Some(Some(step)),
         None => None,
     }
 }
 
-/// What is asked of a list by what the words say.
-fn evidence_at<'a>(positions: &[&'a str], step: Option<u64>) -> Option<EvidenceRequest<'a>>
+/// The number of a step, if there is a word.
+fn step_in(word: Option<&str>) -> Option<Option<u64>>
+    ensures { result ≡ step_in (option_map (λ s. s.now) word.entry) }
+{
+    match word {
+        Some(word) => step_of(word),
+        None => Some(None),
+    }
+}
+
+/// What is asked of lists by what the words say.
+fn evidence_at<'a>(
+    positions: &[&'a str],
+    step: Option<Option<u64>>,
+) -> Option<EvidenceRequest<'a>>
     ensures { option_map evidence_in result ≡ evidence_of (map (λ s. s.now) positions.now) step }
 {
     match (positions, step) {
@@ -36,7 +49,7 @@ fn evidence_at<'a>(positions: &[&'a str], step: Option<u64>) -> Option<EvidenceR
     }
 }
 
-/// What is asked of a list by the words by position and the options.
+/// What is asked of lists by the words by position and the options.
 fn evidence_words<'a>(
     positions: &[&'a str],
     settings: &[Setting<'a>],

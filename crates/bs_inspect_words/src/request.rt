@@ -64,13 +64,13 @@ pub struct UnscanRequest<'a> {
     pub pattern: &'a str,
 }
 
-/// `cnf` and `lrat`: the names of its files, and the number of a step.
+/// `cnf` and `lrat`: the names of its files, and the number of a step; where there is none, all lists are meant.
 #[derive(Clone, Copy)]
 pub struct EvidenceRequest<'a> {
     pub netlist: &'a str,
     pub signature: &'a str,
     pub report: &'a str,
-    pub step: u64,
+    pub step: Option<u64>,
 }
 
 /// What a command line asks to be told.
@@ -106,9 +106,9 @@ pub enum Request<'a> {
     Signature(SignatureRequest<'a>),
     /// The state that a pattern of a scan chain is.
     Unscan(UnscanRequest<'a>),
-    /// The clauses on which a step's list stands.
+    /// The clauses on which a step's list stands, or all lists.
     Cnf(EvidenceRequest<'a>),
-    /// The proof that a step's list is complete.
+    /// The proof that a step's list is complete, or all lists.
     Lrat(EvidenceRequest<'a>),
     /// A report as a page.
     Page(PageRequest<'a>),

@@ -11,7 +11,7 @@ use Rattle.bs_log.specs.Refutation.{blocks_of}
 use Rattle.bs_log_dimacs.specs.Cnf.{behind, clause_text, closed, others, units}
 use Rattle.bs_log_dimacs.specs.Walk.{closed_from, off}
 
-range_push : (a n : ℕ) → range_with_len a (suc n) ≡ range_with_len a n ++ (a + n) ∷ []
+pub range_push : (a n : ℕ) → range_with_len a (suc n) ≡ range_with_len a n ++ (a + n) ∷ []
 range_push a zero = let same : a ≡ a + 0 = omega arith in ap (λ (x : ℕ). x ∷ []) same
 range_push a (suc n) =
     ap (λ (xs : List ℕ). a ∷ xs)

@@ -29,7 +29,7 @@ use Rattle.bs_log_dimacs.proofs.Lemmas.{IsLemmaOf, lemma_found}
 
 -- ---- lists
 
-each_append : {X : Type 0} (P : X → Type 0) (xs ys : List X) → AllByRecursion P xs → AllByRecursion P ys → AllByRecursion P (xs ++ ys)
+pub each_append : {X : Type 0} (P : X → Type 0) (xs ys : List X) → AllByRecursion P xs → AllByRecursion P ys → AllByRecursion P (xs ++ ys)
 each_append P [] ys a b = b
 each_append P (x ∷ xs) ys a b = (a.0, each_append P xs ys a.1 b)
 
@@ -41,7 +41,7 @@ each_behind : {X : Type 0} (P : X → Type 0) (xs ys : List X) → AllByRecursio
 each_behind P [] ys a = a
 each_behind P (x ∷ xs) ys a = each_behind P xs ys a.1
 
-each_map : {X Y : Type 0} (Q : X → Type 0) (P : Y → Type 0) (g : X → Y) (xs : List X) → ((x : X) → Q x → P (g x)) → AllByRecursion Q xs →
+pub each_map : {X Y : Type 0} (Q : X → Type 0) (P : Y → Type 0) (g : X → Y) (xs : List X) → ((x : X) → Q x → P (g x)) → AllByRecursion Q xs →
     AllByRecursion P (map g xs)
 each_map Q P g [] to a = tt
 each_map Q P g (x ∷ xs) to a = (to x a.0, each_map Q P g xs to a.1)
@@ -51,16 +51,16 @@ each_back : {X Y : Type 0} (Q : X → Type 0) (P : Y → Type 0) (g : X → Y) (
 each_back Q P g [] to a = tt
 each_back Q P g (x ∷ xs) to a = (to x a.0, each_back Q P g xs to a.1)
 
-each_weaker : {X : Type 0} (Q P : X → Type 0) (xs : List X) → ((x : X) → Q x → P x) → AllByRecursion Q xs → AllByRecursion P xs
+pub each_weaker : {X : Type 0} (Q P : X → Type 0) (xs : List X) → ((x : X) → Q x → P x) → AllByRecursion Q xs → AllByRecursion P xs
 each_weaker Q P [] to a = tt
 each_weaker Q P (x ∷ xs) to a = (to x a.0, each_weaker Q P xs to a.1)
 
-each_reverse : {X : Type 0} (P : X → Type 0) (xs : List X) → AllByRecursion P xs → AllByRecursion P (reverse xs)
+pub each_reverse : {X : Type 0} (P : X → Type 0) (xs : List X) → AllByRecursion P xs → AllByRecursion P (reverse xs)
 each_reverse P [] a = tt
 each_reverse {X} P (x ∷ xs) a =
     subst (λ (ys : List X). AllByRecursion P ys) (sym (reverse-append (x ∷ []) xs)) (each_append P (reverse xs) (x ∷ []) (each_reverse P xs a.1) (a.0, tt))
 
-each_range : (P : ℕ → Type 0) (a n : ℕ) → ((j : ℕ) → a ≤ j → j < a + n → P j) → AllByRecursion P (range_with_len a n)
+pub each_range : (P : ℕ → Type 0) (a n : ℕ) → ((j : ℕ) → a ≤ j → j < a + n → P j) → AllByRecursion P (range_with_len a n)
 each_range P a zero at = tt
 each_range P a (suc n) at = (at a (omega arith) (omega arith), each_range P (a + 1) n (λ j low high. at j (omega (arith, low)) (omega (arith, high))))
 
@@ -78,7 +78,7 @@ split_at {X} (y ∷ xs) (suc k) x e = ap (λ (l : List X). y ∷ l) (split_at xs
 
 -- ---- values
 
-off_is_true : (v : ℕ → Bool) (p : Problem) (step : ℕ) → v (p.vars + step) ≡ false → Satisfies v (closed p step)
+pub off_is_true : (v : ℕ → Bool) (p : Problem) (step : ℕ) → v (p.vars + step) ≡ false → Satisfies v (closed p step)
 off_is_true v p step e = ap (λ b. beq b false || false) e
 
 off_is_off : (v : ℕ → Bool) (p : Problem) (step : ℕ) → Satisfies v (closed p step) → v (p.vars + step) ≡ false

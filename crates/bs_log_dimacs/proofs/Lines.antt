@@ -34,7 +34,7 @@ pub record Stands (entries : List Entry) (id : ℕ) (c : Clause) : Type 0 where
   pub found : entry_of entries id ≡ Some entry
   pub is : entry.literals ≡ c
 
-one_stands : (entries : List Entry) (id : ℕ) (c : Clause) → Stands entries id c → list_all (λ i. is_some (entry_of entries i)) (id ∷ []) ≡ true
+pub one_stands : (entries : List Entry) (id : ℕ) (c : Clause) → Stands entries id c → list_all (λ i. is_some (entry_of entries i)) (id ∷ []) ≡ true
 one_stands entries id c s = ap (λ (o : Option Entry). is_some o && true) s.found
 
 pub one_clause : (entries : List Entry) (id : ℕ) (c : Clause) (ids : List ℕ) → Stands entries id c → clauses_of entries (id ∷ ids) ≡ c ∷ clauses_of entries ids
@@ -42,7 +42,7 @@ one_clause entries id c ids s =
     ap (λ (o : Option Entry). cons_option (option_map (λ (e : Entry). e.literals) o) (clauses_of entries ids)) s.found
     ∙ ap (λ (d : Clause). d ∷ clauses_of entries ids) s.is
 
-copy_is_right : (q : Problem) (h : History) (id hint : ℕ) (lits c : Clause) → id ≡ last_id q h + 1 → Stands (live q h) hint c →
+pub copy_is_right : (q : Problem) (h : History) (id hint : ℕ) (lits c : Clause) → id ≡ last_id q h + 1 → Stands (live q h) hint c →
     last_is_false lits (c ∷ []) ≡ true → IsProofLine q h (Lemma id lits (hint ∷ []))
 copy_is_right q h id hint lits c next s false_last = (
   next,
@@ -59,7 +59,7 @@ get_range a (suc n) zero less = let same : a ≡ a + 0 = omega arith in ap (λ (
 get_range a (suc n) (suc k) less =
     get_range (a + 1) n k (omega (arith, less)) ∙ (let same : a + 1 + k ≡ a + suc k = omega arith in ap (λ (x : ℕ). Some x) same)
 
-get_map : {X Y : Type 0} (g : X → Y) (xs : List X) (k : ℕ) (x : X) → slice_get xs k ≡ Some x → slice_get (map g xs) k ≡ Some (g x)
+pub get_map : {X Y : Type 0} (g : X → Y) (xs : List X) (k : ℕ) (x : X) → slice_get xs k ≡ Some x → slice_get (map g xs) k ≡ Some (g x)
 get_map g [] k x e = cc
 get_map g (y ∷ xs) zero x e = let same : y ≡ x = cc in ap (λ z. Some (g z)) same
 get_map g (y ∷ xs) (suc k) x e = get_map g xs k x e

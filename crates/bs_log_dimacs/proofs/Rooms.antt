@@ -39,7 +39,7 @@ blocks_few (Finish id ∷ h) step = let few = blocks_few h step in omega (arith,
 blocks_few (Retire id ∷ h) step = let few = blocks_few h step in omega (arith, few)
 blocks_few (Delete ids ∷ h) step = let few = blocks_few h step in omega (arith, few)
 
-last_few : (p : Problem) (h : History) → NoneRefused p h → last_id p h ≤ length p.clauses + length h
+pub last_few : (p : Problem) (h : History) → NoneRefused p h → last_id p h ≤ length p.clauses + length h
 last_few p [] right = omega arith
 last_few p (Solve ∷ h) right = let few = last_few p h right.1 in omega (arith, few)
 last_few p (Finish id ∷ h) right = let few = last_few p h right.1 in omega (arith, few)

@@ -54,7 +54,7 @@ follows_from_first first rest =
 abbrev pub Fresh : List Literal → Literal → Type 0
 Fresh trues l = list_any (λ m. eqb l.variable m.variable) trues ≡ false
 
-none_same : (trues : List Literal) (l x : Literal) → x.variable ≡ l.variable → Fresh trues l → has_literal trues x ≡ false
+pub none_same : (trues : List Literal) (l x : Literal) → x.variable ≡ l.variable → Fresh trues l → has_literal trues x ≡ false
 none_same [] l x same fresh = refl
 none_same (m ∷ ms) l x same fresh = by (eqb l.variable m.variable) refl fresh (none_same ms l x same)
   where
@@ -68,7 +68,7 @@ abbrev pub grown : List Literal → Clause → List Literal
 grown trues [] = trues
 grown trues (l ∷ ls) = grown (negation l ∷ trues) ls
 
-fresher : (trues : List Literal) (l : Literal) (ls : Clause) → list_any (λ m. eqb m.variable l.variable) ls ≡ false → AllByRecursion (Fresh trues) ls →
+pub fresher : (trues : List Literal) (l : Literal) (ls : Clause) → list_any (λ m. eqb m.variable l.variable) ls ≡ false → AllByRecursion (Fresh trues) ls →
     AllByRecursion (Fresh (negation l ∷ trues)) ls
 fresher trues l [] apart all = tt
 fresher trues l (m ∷ ms) apart all = by (eqb m.variable l.variable) refl apart (λ none. fresher trues l ms none all.1)
@@ -79,7 +79,7 @@ fresher trues l (m ∷ ms) apart all = by (eqb m.variable l.variable) refl apart
     by true is none later = absurd (true≢false none)
     by false is none later = (ap (λ t. t || list_any (λ n. eqb m.variable n.variable) trues) is ∙ all.0, later none)
 
-unit_opens : (trues : List Literal) (l : Literal) → Fresh trues l → unit_literal trues (negation l ∷ []) ≡ Some (negation l)
+pub unit_opens : (trues : List Literal) (l : Literal) → Fresh trues l → unit_literal trues (negation l ∷ []) ≡ Some (negation l)
 unit_opens trues l fresh =
     ap (λ t. sole_unassigned trues (cond (not t) (negation l ∷ []) [])) (none_same trues l (negation (negation l)) refl fresh)
     ∙ ap (λ t. cond {A = Option Literal} t None (Some (negation l))) (none_same trues l (negation l) refl fresh)
@@ -95,7 +95,7 @@ after_units trues (l ∷ m ∷ ms) c distinct fresh =
     ∙ after_units (negation l ∷ trues) (m ∷ ms) c parts.1
     (fresher trues l (m ∷ ms) (not-true (list_any (λ x. eqb x.variable l.variable) (m ∷ ms)) parts.0) fresh.1)
 
-still_there : (trues : List Literal) (ls : Clause) (x : Literal) → has_literal trues x ≡ true → has_literal (grown trues ls) x ≡ true
+pub still_there : (trues : List Literal) (ls : Clause) (x : Literal) → has_literal trues x ≡ true → has_literal (grown trues ls) x ≡ true
 still_there trues [] x e = e
 still_there trues (l ∷ ls) x e = still_there (negation l ∷ trues) ls x (or_right (same_literal x (negation l)) (has_literal trues x) e)
 
@@ -106,7 +106,7 @@ all_false trues (l ∷ ls) =
     (still_there (negation l ∷ trues) ls (negation l) (or_left (same_literal (negation l) (negation l)) (has_literal trues (negation l)) (same_self (negation l))))
     (all_false (negation l ∷ trues) ls)
 
-last_ends : (xs : List Clause) (c : Clause) (trues : List Literal) → ends_false (xs ++ c ∷ []) trues ≡ is_false trues c
+pub last_ends : (xs : List Clause) (c : Clause) (trues : List Literal) → ends_false (xs ++ c ∷ []) trues ≡ is_false trues c
 last_ends [] c trues = refl
 last_ends (x ∷ []) c trues = refl
 last_ends (x ∷ y ∷ xs) c trues = last_ends (y ∷ xs) c trues

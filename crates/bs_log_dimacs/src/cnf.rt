@@ -106,7 +106,7 @@ pub fn count_behind(asked: &Refuted<'_>) -> u64
 }
 
 /// Appends the header.
-fn push_header(text: &mut Vec<u8>, vars: u64, count: u64) -> Result<(), NoMemory>
+pub fn push_header(text: &mut Vec<u8>, vars: u64, count: u64) -> Result<(), NoMemory>
     ensures { OnOk result (text.new.items ≡ text.old.items ++ header_text vars count) }
 {
     push_piece(text, b"p cnf ")?;

@@ -30,7 +30,7 @@ fn failed_assumption_place(assumptions: &[Lit], l: Lit) -> Option<usize>
 }
 
 /// The id of the clause of an assumption that denies a literal.
-fn unit_id(front: u64, assumptions: &[Lit], l: Lit) -> u64
+pub fn unit_id(front: u64, assumptions: &[Lit], l: Lit) -> u64
     requires { front + length assumptions.now + 1 < 2 ^ 64 }
     ensures { result ≡ unit_id front assumptions.now l }
 {

@@ -37,7 +37,7 @@ pub fn push_raised(text: &mut Vec<u8>, f: &Frame, ids: &[u64]) -> Result<(), NoM
 }
 
 /// Appends a lemma of the log.
-fn push_lemma(
+pub fn push_lemma(
     text: &mut Vec<u8>,
     f: &Frame,
     id: u64,
@@ -56,7 +56,7 @@ fn push_lemma(
 }
 
 /// Appends a lemma that one clause gives.
-fn push_copy(text: &mut Vec<u8>, id: u64, lits: &[Lit], hint: u64) -> Result<(), NoMemory>
+pub fn push_copy(text: &mut Vec<u8>, id: u64, lits: &[Lit], hint: u64) -> Result<(), NoMemory>
     ensures { OnOk result (text.new.items ≡ text.old.items ++ proof_line 0 (Lemma id lits.now (hint ∷ []))) }
 {
     push_id(text, id)?;
@@ -67,7 +67,7 @@ fn push_copy(text: &mut Vec<u8>, id: u64, lits: &[Lit], hint: u64) -> Result<(),
 }
 
 /// Appends the deletion of lemmas behind an id.
-fn push_deletion(text: &mut Vec<u8>, f: &Frame, last: u64, ids: &[u64]) -> Result<(), NoMemory>
+pub fn push_deletion(text: &mut Vec<u8>, f: &Frame, last: u64, ids: &[u64]) -> Result<(), NoMemory>
     requires { All (IdFits f.now) ids.now }
     ensures { OnOk result (text.new.items ≡ text.old.items ++ proof_line last (Delete (map (raised f.now) ids.now))) }
 {
@@ -90,7 +90,7 @@ fn block_hint(f: &Frame, at: &At) -> u64
 }
 
 /// The literal that turns a step off.
-fn off(vars: u32, step: u64) -> Lit
+pub fn off(vars: u32, step: u64) -> Lit
     requires { IsVariable (vars + step) }
     ensures { result ≡ record { variable = vars + step; positive = false } }
 {
@@ -130,7 +130,7 @@ pub fn push_shown(
 }
 
 /// The last id of the proof behind a line.
-fn last_behind(f: &Frame, last: u64, line: &Line) -> u64
+pub fn last_behind(f: &Frame, last: u64, line: &Line) -> u64
     requires { LineFits f.now line.now }
     ensures { result ≡ last_behind f.now last line.now }
 {

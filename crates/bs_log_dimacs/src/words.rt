@@ -8,7 +8,7 @@ use bs_bits::{NoMemory, push_line, push_number, push_piece};
 use bs_clause::{Lit, Lits};
 
 /// Appends a literal and a space.
-fn push_literal(text: &mut Vec<u8>, literal: Lit) -> Result<(), NoMemory>
+pub fn push_literal(text: &mut Vec<u8>, literal: Lit) -> Result<(), NoMemory>
     ensures { OnOk result (text.new.items ≡ text.old.items ++ literal_text literal) }
 {
     if !literal.positive() {

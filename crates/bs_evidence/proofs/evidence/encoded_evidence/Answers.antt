@@ -1,5 +1,7 @@
-use Rattle.std.proofs.Common.{◌∙◌, sym, map, length, arith, ap}
+use Rattle.std.proofs.Common.{◌∙◌, sym, map, length, arith, ap, subst}
+use Rattle.std.specs.Prelude.{IfSome}
 use Rattle.std.proofs.lemmas.List.{length-map}
+use Rattle.bs_log_dimacs.specs.Walk.{IsOneOf}
 use Rattle.bs_net.specs.Netlist.{circuit}
 use Rattle.bs_encode.specs.Depth.{basis_of}
 use Rattle.bs_encode.proofs.AssumingLemmas.{length_steps_from}
@@ -16,8 +18,8 @@ assumptions-requires c =
       fit =
           rw c.slice.ensures (fits_suit
           (circuit c.args.net.now) c.args.choice.now c.args.encoding.now c.args.report.now.steps c.depth-depth.ensures.sound.kept
-          c.requires.tidy c.requires.there.fit);
-      room = omega (arith, c.requires.tidy.room, c.requires.few, c.requires.there.few, ap length c.slice.ensures);
+          c.requires.tidy c.requires.fits.fit);
+      room = omega (arith, c.requires.tidy.room, c.requires.few, c.requires.fits.few, ap length c.slice.ensures);
     }
 
 pub log_evidence-evidence-requires : goal.log_evidence-evidence-requires
@@ -25,17 +27,15 @@ log_evidence-evidence-requires c =
     let many =
     ap length (rw c.slice.ensures at c.in-Ok.ensures)
     ∙ (length_steps_from c.args.encoding.now 1 (map present_of c.args.report.now.steps) ∙ length-map c.args.report.now.steps present_of) in
-    let first = c.requires.there.first in
-    let last = c.requires.there.last in
     record {
-      step = (first, omega (arith, many, last));
-      room = omega (arith, many, c.requires.tidy.room, c.requires.few, c.requires.there.few);
+      there = subst (λ n. IfSome c.args.asked (IsOneOf n)) (sym many) c.requires.there;
+      room = omega (arith, many, c.requires.tidy.room, c.requires.few, c.requires.fits.few);
     }
 
 pub returns-in-Ok : goal.returns-in-Ok
 returns-in-Ok c =
     evidence_of c.args.kind (problem_with c.args.encoding.now c.in-Ok.assumptions)
-    (problem_for (circuit c.args.net.now) c.args.choice.now c.args.report.now) c.args.report.now.log c.args.step c.log_evidence-evidence.result
+    (problem_for (circuit c.args.net.now) c.args.choice.now c.args.report.now) c.args.report.now.log c.args.asked c.log_evidence-evidence.result
     (same_problem (circuit c.args.net.now) c.args.choice.now
     (map present_of c.args.report.now.steps) c.args.encoding.now c.in-Ok.assumptions c.requires.value
     (rw c.slice.ensures at c.in-Ok.ensures)) c.log_evidence-evidence.ensures

@@ -1,0 +1,11 @@
+pub mod Giving
+pub mod Finishes
+pub mod Propagating
+pub mod Sound
+pub mod Same
+pub mod Ended
+pub mod Right
+pub mod Unlisted
+pub mod Bounds
+pub mod Texts
+pub mod Examples
