@@ -46,8 +46,8 @@ pub record TellsEvidence (kind : Format) (step : Option ℕ) (report_files : Rep
   pub answered : status ≡ evidence_status evidence
   pub written : text ≡ evidence_text evidence
 
--- the evidence for a length, or why there is none
-pub record TellsLength (kind : Format) (step : ℕ) (answered : Answered) (status : Status) (text : List ℕ) : Type 0 where
+-- the evidence for a length, or for all where none is asked for, or why there is none
+pub record TellsLength (kind : Format) (step : Option ℕ) (answered : Answered) (status : Status) (text : List ℕ) : Type 0 where
   pub evidence : Evidence
   pub right : IsLengthEvidence kind (circuit_of answered.target.raw) answered.target.state answered.answer step evidence
   pub told : status ≡ evidence_status evidence

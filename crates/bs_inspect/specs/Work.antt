@@ -20,7 +20,7 @@ use Rattle.bs_inspect.specs.Asked.{clocked_of, dump_files, page_options}
 -- names of a netlist, simulated runs (by a clock with this name), a dump, the waveform of a trace from a cycle on, or a signature of so
 -- many items is to be written; a trace or steps as a table, the keys of the flip-flops that names stand for, the state that a
 -- pattern of a scan chain is, or the evidence for the list of a step or for all lists; or a report as a page, or in so many lines the values that a run alone has; or the
--- evidence for a length of an answer
+-- evidence for a length of an answer or for all
 pub data Work : Type 0 where
   to_help : Work
   to_version : Work
@@ -40,7 +40,7 @@ pub data Work : Type 0 where
   to_evidence : Format → Option ℕ → ReportFiles → Work
   to_page : PageOptions → TraceFiles → Work
   to_novel : (most : ℕ) → OneRun → Work
-  to_length : Format → (step : ℕ) → Answered → Work
+  to_length : Format → Option ℕ → Answered → Work
 
 -- the plan of a request
 abbrev pub plan_of : Request → Plan Case Work

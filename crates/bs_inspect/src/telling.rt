@@ -332,12 +332,12 @@ pub(crate) fn tell_evidence(
     Ok(reply)
 }
 
-/// The evidence for a length of an answer, or why there is none.
+/// The evidence for a length of an answer, or for all, or why there is none.
 pub(crate) fn tell_length(
     alloc: Global,
     kind: Format,
     answered: &Answered,
-    step: u64,
+    step: Option<u64>,
 ) -> Result<Reply, NoMemory>
     ensures { IfOk result (λ answer. finishes (to_length kind step (answered_in answered.now)) answer.status answer.text.items) }
 {

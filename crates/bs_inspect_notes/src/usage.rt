@@ -62,11 +62,11 @@ const USAGES: [(&str, &str); 19] = [
     ),
     (
         "reach-cnf",
-        "usage: backspace_inspect reach-cnf NETLIST STATE ANSWER --step J",
+        "usage: backspace_inspect reach-cnf NETLIST STATE ANSWER [--step J]",
     ),
     (
         "reach-lrat",
-        "usage: backspace_inspect reach-lrat NETLIST STATE ANSWER --step J",
+        "usage: backspace_inspect reach-lrat NETLIST STATE ANSWER [--step J]",
     ),
     ("help", "usage: backspace_inspect help"),
     ("version", "usage: backspace_inspect version"),

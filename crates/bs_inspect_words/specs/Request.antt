@@ -81,12 +81,12 @@ pub record EvidenceRequest : Type 0 where
   pub report : List ℕ
   pub step : Option ℕ
 
--- the files of `reach-cnf` and `reach-lrat`, the word of a state, and a length
+-- the files of `reach-cnf` and `reach-lrat`, the word of a state, and a length; where there is none, all that are refuted are meant
 pub record LengthRequest : Type 0 where
   pub netlist : List ℕ
   pub state : List ℕ
   pub answer : List ℕ
-  pub step : ℕ
+  pub step : Option ℕ
 
 -- the files of `novel`, the number of a run, and how many lines it tells at most
 pub record NovelRequest : Type 0 where
@@ -410,11 +410,16 @@ abbrev pub length_flags : List Flag
 length_flags = F.Step ∷ []
 
 -- the length that a word is: in the log each one is a step
-abbrev pub length_in : Option (List ℕ) → Option ℕ
-length_in word = option_and_then (number_between 1 MAX_BOUND) word
+abbrev pub length_at : List ℕ → Option (Option ℕ)
+length_at word = option_map (λ (n : ℕ). Some n) (number_between 1 MAX_BOUND word)
 
--- `reach-cnf` and `reach-lrat` have a file name, the word of a state, the name of an answer, and a length
-abbrev pub length_of : List (List ℕ) → Option ℕ → Option LengthRequest
+-- a length, if there is a word
+abbrev pub length_in : Option (List ℕ) → Option (Option ℕ)
+length_in None = Some None
+length_in (Some word) = length_at word
+
+-- `reach-cnf` and `reach-lrat` have a file name, the word of a state, the name of an answer, and perhaps a length
+abbrev pub length_of : List (List ℕ) → Option (Option ℕ) → Option LengthRequest
 length_of (netlist ∷ state ∷ answer ∷ []) (Some step) = Some record { netlist = netlist; state = state; answer = answer; step = step }
 length_of _ step = None
 

@@ -1,8 +1,8 @@
-//! The requests about a length of an answer of `reach`: `reach-cnf` and `reach-lrat`.
+//! The requests about a length of an answer of `reach`, or all of them: `reach-cnf` and `reach-lrat`.
 ghost use Rattle.std.specs.Prelude.{◌≡◌, map, option_map};
 ghost use Rattle.bs_top_words.specs.Asked.{given_in, setting_of};
 ghost use Rattle.bs_inspect_words.specs.Asked.{length_in as lengths_in, shown_request};
-ghost use Rattle.bs_inspect_words.specs.Request.{length_in, length_of, length_words, reach_cnf_request, reach_lrat_request};
+ghost use Rattle.bs_inspect_words.specs.Request.{length_at, length_in, length_of, length_words, reach_cnf_request, reach_lrat_request};
 
 use crate::answered::LengthRequest;
 use crate::request::Request;
@@ -10,17 +10,30 @@ use crate::settings::{fit, value_of};
 use bs_top_words::{Flag, Given, MAX_BOUND, Setting, number_between};
 
 /// The length that a word is.
-fn length_in(word: Option<&str>) -> Option<u64>
-    ensures { result ≡ length_in (option_map (λ s. s.now) word.entry) }
+fn length_at(word: &str) -> Option<Option<u64>>
+    ensures { result ≡ length_at word.now }
 {
-    match word {
-        Some(word) => number_between(1, MAX_BOUND, word),
+    match number_between(1, MAX_BOUND, word) {
+        Some(length) => Some(Some(length)),
         None => None,
     }
 }
 
-/// What is asked of a length by what the words say.
-fn length_at<'a>(positions: &[&'a str], step: Option<u64>) -> Option<LengthRequest<'a>>
+/// A length, if there is a word.
+fn length_in(word: Option<&str>) -> Option<Option<u64>>
+    ensures { result ≡ length_in (option_map (λ s. s.now) word.entry) }
+{
+    match word {
+        Some(word) => length_at(word),
+        None => Some(None),
+    }
+}
+
+/// What is asked of lengths by what the words say.
+fn length_of<'a>(
+    positions: &[&'a str],
+    step: Option<Option<u64>>,
+) -> Option<LengthRequest<'a>>
     ensures { option_map lengths_in result ≡ length_of (map (λ s. s.now) positions.now) step }
 {
     match (positions, step) {
@@ -34,7 +47,7 @@ fn length_at<'a>(positions: &[&'a str], step: Option<u64>) -> Option<LengthReque
     }
 }
 
-/// What is asked of a length by the words by position and the options.
+/// What is asked of lengths by the words by position and the options.
 fn length_words<'a>(positions: &[&'a str], settings: &[Setting<'a>]) -> Option<LengthRequest<'a>>
     ensures { option_map lengths_in result ≡ length_words (map (λ s. s.now) positions.now) (map setting_of settings.now) }
 {
@@ -42,7 +55,7 @@ fn length_words<'a>(positions: &[&'a str], settings: &[Setting<'a>]) -> Option<L
         return None;
     }
     let step = length_in(value_of(Flag::Step, settings));
-    length_at(positions, step)
+    length_of(positions, step)
 }
 
 /// `reach-cnf`.

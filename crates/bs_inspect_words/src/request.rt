@@ -114,7 +114,7 @@ pub enum Request<'a> {
     Page(PageRequest<'a>),
     /// The values that one recorded run alone has.
     Novel(NovelRequest<'a>),
-    /// The clauses that say that a state is reached in a length.
+    /// The clauses that say that a state is reached in a length, or in one of all that are refuted.
     ReachCnf(LengthRequest<'a>),
     /// The proof that it is not.
     ReachLrat(LengthRequest<'a>),

@@ -6,11 +6,12 @@ use Rattle.std.proofs.lemmas.List.{map-append}
 use Rattle.std.proofs.lemmas.List.FromFn.{length-map-range_with_len, get_or-map-range_with_len}
 use Rattle.bs_bits.proofs.RangeLemmas.{range_more}
 use Rattle.bs_clause.specs.Literal.{Literal, Clause}
+use Rattle.bs_log.specs.History.{Problem}
 use Rattle.bs_log.specs.Refusal.{assumptions_of}
 use Rattle.bs_encode.specs.Tables.{lit}
 use Rattle.bs_encode.specs.Encoded.{Encoded}
 use Rattle.bs_encode.specs.Assuming.{signed}
-use Rattle.bs_reach_unrolled.specs.Unrolled.{next_at, length_assumes, reach_problem}
+use Rattle.bs_reach_unrolled.specs.Unrolled.{next_at, unrolled, length_assumes, reach_problem}
 
 -- the activation literal of the length c + 1, and that time frame c leads to the state
 pub is_assumed : (e : Encoded) (k : ℕ) (p : List Bool) (c : ℕ) (activation : Literal) (all : Clause) → activation ≡ lit (k * e.variables + (c + 1)) true →
@@ -46,3 +47,11 @@ assumed_at e reset k p count j one few =
 
 pub steps_count : (e : Encoded) (reset : List Bool) (k : ℕ) (p : List Bool) (count : ℕ) → length (reach_problem e reset k p count).steps ≡ count
 steps_count e reset k p count = length-map-range_with_len (length_assumes e k p) 1 count
+
+abbrev pub problem_with : ℕ → List Clause → List Clause → Problem
+problem_with vars clauses steps = record { vars = vars; clauses = clauses; steps = steps }
+
+pub same_problem : (e : Encoded) (reset : List Bool) (k : ℕ) (p : List Bool) (count : ℕ) (clauses steps : List Clause) → clauses ≡ unrolled e reset k →
+    steps ≡ map (length_assumes e k p) (range_with_len 1 count) →
+    problem_with (k * e.variables) clauses steps ≡ reach_problem e reset k p count
+same_problem e reset k p count clauses steps a b = λ i. problem_with (k * e.variables) (a i) (b i)

@@ -1,5 +1,5 @@
--- The evidence that a state is not reached in a length, and why there is none (docs/FORMATS.md, "Clauses for other checkers").
-use Rattle.std.specs.Prelude.{◌≡◌, ◌⊎◌, ℕ, ◌<◌, Bool, List}
+-- The evidence that a state is not reached in a length, or in none that an answer refutes, and why there is none (docs/FORMATS.md, "Clauses for other checkers").
+use Rattle.std.specs.Prelude.{ℕ, Bool, List, Option, IfSome}
 use Rattle.bs_net.specs.Circuit.{Circuit}
 use Rattle.bs_log.specs.History.{Problem}
 use Rattle.bs_log_dimacs.specs.Walk.{IsOneOf}
@@ -8,7 +8,7 @@ use Rattle.bs_evidence.specs.declared.flaw.Evidence.{Evidence}
 use Rattle.bs_evidence.specs.declared.flaw.Evidence.TheVariants.{Text, Flawed}
 use Rattle.bs_evidence.specs.declared.flaw.Flaw.{Flaw}
 use Rattle.bs_evidence.specs.declared.flaw.Flaw.TheVariants as flaws
-use Rattle.bs_evidence.specs.Evidence.{ShowsLog, IsLogFlaw}
+use Rattle.bs_evidence.specs.Evidence.{ShowsLog, IsLogFlaw, IsNoStep}
 use Rattle.bs_reach.specs.declared.reach.Reach.{Reach}
 use Rattle.bs_reach.specs.Reach.{tried_of, problem_in}
 
@@ -20,17 +20,21 @@ problem_for c p r = problem_in c p r.asked r.outcome
 abbrev pub HasTried : Reach → ℕ → Type 0
 HasTried r j = IsOneOf (tried_of r.asked r.outcome) j
 
--- The length was tried, the log is accepted and finishes its step, and this is the text.
-pub record Shows (kind : Format) (c : Circuit) (p : List Bool) (r : Reach) (j : ℕ) (text : List ℕ) : Type 0 where
-  pub tried : HasTried r j
-  pub log : ShowsLog kind (problem_for c p r) r.log j text
+-- what is asked for is one of these lengths, or nothing: all that the log refutes
+abbrev pub HasAsked : Reach → Option ℕ → Type 0
+HasAsked r asked = IfSome asked (HasTried r)
+
+-- What is asked for is there, the log is accepted and finishes it, and this is the text.
+pub record Shows (kind : Format) (c : Circuit) (p : List Bool) (r : Reach) (asked : Option ℕ) (text : List ℕ) : Type 0 where
+  pub there : HasAsked r asked
+  pub log : ShowsLog kind (problem_for c p r) r.log asked text
 
 -- why there is no text: the length was not tried, or what its log lacks
-abbrev pub IsFlawed : Circuit → List Bool → Reach → (j : ℕ) → Flaw → Type 0
-IsFlawed c p r j flaws.NoStep = (j ≡ 0) ⊎ (tried_of r.asked r.outcome < j)
-IsFlawed c p r j flaw = HasTried r j × IsLogFlaw (problem_for c p r) r.log j flaw
+abbrev pub IsFlawed : Circuit → List Bool → Reach → Option ℕ → Flaw → Type 0
+IsFlawed c p r asked flaws.NoStep = IsNoStep (tried_of r.asked r.outcome) asked
+IsFlawed c p r asked flaw = HasAsked r asked × IsLogFlaw (problem_for c p r) r.log asked flaw
 
 -- the text, or why there is none
-abbrev pub IsEvidence : Format → Circuit → List Bool → Reach → (j : ℕ) → Evidence → Type 0
-IsEvidence kind c p r j (Text text) = Shows kind c p r j text.items
-IsEvidence kind c p r j (Flawed flaw) = IsFlawed c p r j flaw
+abbrev pub IsEvidence : Format → Circuit → List Bool → Reach → Option ℕ → Evidence → Type 0
+IsEvidence kind c p r asked (Text text) = Shows kind c p r asked text.items
+IsEvidence kind c p r asked (Flawed flaw) = IsFlawed c p r asked flaw

@@ -1,16 +1,17 @@
-//! The evidence that a state is not reached in a length.
-ghost use Rattle.std.specs.Prelude.{◌≡◌, ◌≤◌, ◌+◌, ◌*◌, [], length, IfOk};
+//! The evidence that a state is not reached in a length, or in none of those that an answer refutes.
+ghost use Rattle.std.specs.Prelude.{◌≡◌, ◌≤◌, ◌*◌, [], length, IfOk, IfSome};
 ghost use Rattle.bs_net.specs.Circuit.{reset_state};
 ghost use Rattle.bs_net.specs.Netlist.{circuit};
 ghost use Rattle.bs_encode.specs.Encoded.{encoding_of};
 ghost use Rattle.bs_encode.specs.Transition.{variables};
-ghost use Rattle.bs_evidence.specs.Evidence.{IsLogEvidence};
+ghost use Rattle.bs_log_dimacs.specs.Walk.{IsOneOf};
+ghost use Rattle.bs_evidence.specs.Evidence.{is_there, IsLogEvidence};
 ghost use Rattle.bs_reach_unrolled.specs.Room.{IsUnrollable};
 ghost use Rattle.bs_reach_unrolled.specs.Unrolled.{unrolled, reach_problem};
 ghost use Rattle.bs_reach_unrolled.specs.declared.limits.TheConstants.{MAX_FRAMES, MAX_FRAME_VARIABLES};
 ghost use Rattle.bs_reach.specs.Reach.{tried_of};
 ghost use Rattle.bs_reach_text.specs.ReadingLaw.{HasAnswerText};
-ghost use Rattle.bs_reach_evidence.specs.Evidence.{problem_for, HasTried, IsEvidence};
+ghost use Rattle.bs_reach_evidence.specs.Evidence.{problem_for, HasAsked, IsEvidence};
 
 use crate::lengths::assumptions;
 use crate::logged::{Logged, log_evidence};
@@ -38,7 +39,7 @@ fn tried_of(asked: u64, outcome: Outcome) -> u64
 /// Lets the assumptions of steps go.
 fn drop_steps(_steps: List<Lits>) {}
 
-/// The evidence for a length, over the clauses of all time frames.
+/// The evidence for what is asked for, over the clauses of all time frames.
 fn clauses_evidence(
     alloc: Global,
     kind: Format,
@@ -49,15 +50,14 @@ fn clauses_evidence(
     _reset: &Bits,
     k: u32,
     count: u32,
-    cycles: u64,
+    asked: Option<u64>,
 ) -> Result<Evidence, NoMemory>
     requires unrollable { IsUnrollable encoding.now k }
     requires clauses { clauses.now ≡ unrolled encoding.now _reset.now k }
     requires width { length encoding.now.next ≡ length state.now }
-    requires first { 1 ≤ cycles }
-    requires last { cycles ≤ count }
+    requires there { IfSome asked (IsOneOf count) }
     requires within { count ≤ k }
-    ensures { IfOk result (IsLogEvidence kind (reach_problem encoding.now _reset.now k state.now count) log.now cycles) }
+    ensures { IfOk result (IsLogEvidence kind (reach_problem encoding.now _reset.now k state.now count) log.now asked) }
 {
     match assumptions(alloc, encoding, state, k, count) {
         Ok(steps) => {
@@ -67,7 +67,7 @@ fn clauses_evidence(
                 steps: &steps,
                 log,
             };
-            let evidence = log_evidence(alloc, kind, &logged, cycles);
+            let evidence = log_evidence(alloc, kind, &logged, asked);
             drop_steps(steps);
             evidence
         }
@@ -75,10 +75,27 @@ fn clauses_evidence(
     }
 }
 
+/// The clauses of so many time frames, where there may be none.
+fn all_clauses(
+    alloc: Global,
+    encoding: &Encoding,
+    reset: &Bits,
+    k: u32,
+) -> Result<Clauses, NoMemory>
+    requires unrollable { IsUnrollable encoding.now k }
+    requires starts { length encoding.now.states ≡ length reset.now }
+    ensures { IfOk result (λ all. all ≡ unrolled encoding.now reset.now k) }
+{
+    if k == 0 {
+        return Ok(Clauses::new(alloc));
+    }
+    unroll(alloc, encoding, reset, k)
+}
+
 /// Lets clauses go.
 fn drop_clauses(_clauses: Clauses) {}
 
-/// The evidence for a length, over the clauses of one cycle.
+/// The same over the clauses of one cycle.
 fn unrolled_evidence(
     alloc: Global,
     kind: Format,
@@ -88,17 +105,16 @@ fn unrolled_evidence(
     reset: &Bits,
     k: u32,
     count: u32,
-    cycles: u64,
+    asked: Option<u64>,
 ) -> Result<Evidence, NoMemory>
     requires unrollable { IsUnrollable encoding.now k }
     requires starts { length encoding.now.states ≡ length reset.now }
     requires width { length encoding.now.next ≡ length state.now }
-    requires first { 1 ≤ cycles }
-    requires last { cycles ≤ count }
+    requires there { IfSome asked (IsOneOf count) }
     requires within { count ≤ k }
-    ensures { IfOk result (IsLogEvidence kind (reach_problem encoding.now reset.now k state.now count) log.now cycles) }
+    ensures { IfOk result (IsLogEvidence kind (reach_problem encoding.now reset.now k state.now count) log.now asked) }
 {
-    match unroll(alloc, encoding, reset, k) {
+    match all_clauses(alloc, encoding, reset, k) {
         Ok(clauses) => {
             let evidence = clauses_evidence(
                 alloc,
@@ -110,7 +126,7 @@ fn unrolled_evidence(
                 reset,
                 k,
                 count,
-                cycles,
+                asked,
             );
             drop_clauses(clauses);
             evidence
@@ -119,7 +135,7 @@ fn unrolled_evidence(
     }
 }
 
-/// The evidence for a length, by the encoding of the netlist.
+/// The same by the encoding of the netlist.
 fn encoded_evidence(
     alloc: Global,
     kind: Format,
@@ -129,16 +145,15 @@ fn encoded_evidence(
     log: &Log,
     k: u32,
     count: u32,
-    cycles: u64,
+    asked: Option<u64>,
 ) -> Result<Evidence, NoMemory>
     requires encoded { encoding.now ≡ encoding_of (circuit net.now) [] }
     requires width { length state.now ≡ length (circuit net.now).flops }
-    requires asked { k ≤ MAX_FRAMES }
+    requires most { k ≤ MAX_FRAMES }
     requires room { k * variables (circuit net.now) [] ≤ MAX_FRAME_VARIABLES }
-    requires first { 1 ≤ cycles }
-    requires last { cycles ≤ count }
+    requires there { IfSome asked (IsOneOf count) }
     requires within { count ≤ k }
-    ensures { IfOk result (IsLogEvidence kind (reach_problem (encoding_of (circuit net.now) []) (reset_state (circuit net.now)) k state.now count) log.now cycles) }
+    ensures { IfOk result (IsLogEvidence kind (reach_problem (encoding_of (circuit net.now) []) (reset_state (circuit net.now)) k state.now count) log.now asked) }
 {
     netlists_unroll(net, k);
     let evidence = unrolled_evidence(
@@ -150,7 +165,7 @@ fn encoded_evidence(
         net.reset(),
         k,
         count,
-        cycles,
+        asked,
     )?;
     Ok(evidence)
 }
@@ -158,7 +173,7 @@ fn encoded_evidence(
 /// Lets an encoding go.
 fn drop_encoding(_encoding: Encoding) {}
 
-/// The evidence for a length that was tried.
+/// The same of a netlist.
 fn tried_evidence(
     alloc: Global,
     kind: Format,
@@ -167,15 +182,14 @@ fn tried_evidence(
     log: &Log,
     k: u32,
     count: u32,
-    cycles: u64,
+    asked: Option<u64>,
 ) -> Result<Evidence, NoMemory>
     requires width { length state.now ≡ length (circuit net.now).flops }
-    requires asked { k ≤ MAX_FRAMES }
+    requires most { k ≤ MAX_FRAMES }
     requires room { k * variables (circuit net.now) [] ≤ MAX_FRAME_VARIABLES }
-    requires first { 1 ≤ cycles }
-    requires last { cycles ≤ count }
+    requires there { IfSome asked (IsOneOf count) }
     requires within { count ≤ k }
-    ensures { IfOk result (IsLogEvidence kind (reach_problem (encoding_of (circuit net.now) []) (reset_state (circuit net.now)) k state.now count) log.now cycles) }
+    ensures { IfOk result (IsLogEvidence kind (reach_problem (encoding_of (circuit net.now) []) (reset_state (circuit net.now)) k state.now count) log.now asked) }
 {
     match Encoding::plain(alloc, net) {
         Ok(encoding) => {
@@ -188,7 +202,7 @@ fn tried_evidence(
                 log,
                 k,
                 count,
-                cycles,
+                asked,
             );
             drop_encoding(encoding);
             evidence
@@ -197,21 +211,21 @@ fn tried_evidence(
     }
 }
 
-/// The evidence for a length that the answer tried.
+/// The evidence for what is asked for of an answer that has it.
 fn answer_evidence(
     alloc: Global,
     kind: Format,
     net: &Netlist,
     state: &Bits,
     answer: &Reach,
-    cycles: u64,
+    asked: Option<u64>,
 ) -> Result<Evidence, NoMemory>
     requires width { length state.now ≡ length (circuit net.now).flops }
-    requires asked { answer.now.asked ≤ MAX_FRAMES }
+    requires most { answer.now.asked ≤ MAX_FRAMES }
     requires room { answer.now.asked * variables (circuit net.now) [] ≤ MAX_FRAME_VARIABLES }
-    requires tried { HasTried answer.now cycles }
+    requires there { HasAsked answer.now asked }
     requires within { tried_of answer.now.asked answer.now.outcome ≤ answer.now.asked }
-    ensures { IfOk result (IsLogEvidence kind (problem_for (circuit net.now) state.now answer.now) answer.now.log cycles) }
+    ensures { IfOk result (IsLogEvidence kind (problem_for (circuit net.now) state.now answer.now) answer.now.log asked) }
 {
     let k = answer.asked;
     let count = tried_of(k, answer.outcome);
@@ -223,27 +237,39 @@ fn answer_evidence(
         &answer.log,
         k as u32,
         count as u32,
-        cycles,
+        asked,
     )
 }
 
-/// The evidence that a state is not reached in so many cycles, out of an answer of a search for it: the text that is asked for, or
-/// why there is none. The state has a bit for each flip-flop, and the answer has few enough time frames for the netlist.
+/// Whether what is asked for is all lengths, or one of so many.
+fn is_there(count: u64, asked: Option<u64>) -> bool
+    ensures { result ≡ is_there count asked }
+{
+    match asked {
+        Some(step) => 1 <= step && step <= count,
+        None => true,
+    }
+}
+
+/// The evidence that a state is not reached in so many cycles, or in none of the lengths that are refuted, out of an answer of a
+/// search for it: the text that is asked for, or why there is none. The state has a bit for each flip-flop, and the answer has few
+/// enough time frames for the netlist.
+#[tactic(auto, using(crate::proofs::FlawLemmas::asked_shown, crate::proofs::FlawLemmas::none_there, crate::proofs::FlawLemmas::there_of, crate::proofs::FlawLemmas::tried_fit))]
 pub fn evidence_of(
     alloc: Global,
     kind: Format,
     net: &Netlist,
     state: &Bits,
     answer: &Reach,
-    cycles: u64,
+    asked: Option<u64>,
 ) -> Result<Evidence, NoMemory>
     requires width { length state.now ≡ length (circuit net.now).flops }
     requires text { HasAnswerText answer.now }
     requires room { answer.now.asked * variables (circuit net.now) [] ≤ MAX_FRAME_VARIABLES }
-    ensures { IfOk result (IsEvidence kind (circuit net.now) state.now answer.now cycles) }
+    ensures { IfOk result (IsEvidence kind (circuit net.now) state.now answer.now asked) }
 {
-    if 1 <= cycles && cycles <= tried_of(answer.asked, answer.outcome) {
-        answer_evidence(alloc, kind, net, state, answer, cycles)
+    if is_there(tried_of(answer.asked, answer.outcome), asked) {
+        answer_evidence(alloc, kind, net, state, answer, asked)
     } else {
         Ok(Evidence::Flawed(Flaw::NoStep))
     }
