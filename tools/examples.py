@@ -1,7 +1,8 @@
 #!/usr/bin/env python3
 """Runs the commands of examples/README.md with the built programs and compares what they write with the stored texts.
 
-The texts that `cnf` and `lrat` write for the lists of reports are checked by tools/lrat_check.py.
+The texts that `cnf` and `lrat` write for the lists of reports, and `reach-cnf` and `reach-lrat` for the lengths of answers, are checked
+by tools/lrat_check.py.
 
 At the top of the repository: python3 tools/examples.py [BACKSPACE INSPECT]. The programs are those that `rt run` built, unless
 others are given. Prints a line for each command and ends with 1 where a text or a status is another one.
@@ -57,11 +58,19 @@ LISTS = [
     ("hierarchy/netlist.v", "hierarchy/signature.txt", "hierarchy/report.txt", 1),
 ]
 
+# netlist, state, answer, length: each length is refuted
+LENGTHS = [
+    ("shift/netlist.v", "11", "shift/reach.txt", 1),
+    ("counter/netlist.v", "0101", "counter/reached.txt", 9),
+    ("counter/netlist.v", "0101", "counter/unreached.txt", 4),
+    ("counter/netlist.v", "0101", "counter/unknown.txt", 4),
+]
 
-def checked(inspect, words):
-    """What the strict checker says of the texts of a list, or of all lists."""
+
+def checked(inspect, commands, words):
+    """What the strict checker says of the two texts of a list, of a length, or of all."""
     texts = []
-    for command in ("cnf", "lrat"):
+    for command in commands:
         done = subprocess.run([inspect, command, *words.split()], cwd="examples", stdout=subprocess.PIPE, stderr=subprocess.PIPE)
         if done.returncode:
             return f"status {done.returncode} of {command}, not 0"
@@ -85,12 +94,17 @@ def main():
             said = f"not {stored}"
         wrong += said not in ("as stored", "not stored")
         print(f"{os.path.basename(of[program])} {words}: {said}")
-    lists = [f"{' '.join(files)}{asked}" for *files, step in LISTS for asked in (f" --step {step}", "")]
-    for words in lists:
-        said = checked(of["i"], words)
+    refuted = [
+        (commands, f"{' '.join(files)}{asked}")
+        for commands, rows in ((("cnf", "lrat"), LISTS), (("reach-cnf", "reach-lrat"), LENGTHS))
+        for *files, step in rows
+        for asked in (f" --step {step}", "")
+    ]
+    for commands, words in refuted:
+        said = checked(of["i"], commands, words)
         wrong += not said.startswith("refuted")
-        print(f"{os.path.basename(of['i'])} cnf, lrat {words}: {said}")
-    print(f"{len(ROWS) + len(lists) - wrong} of {len(ROWS) + len(lists)} as they should be")
+        print(f"{os.path.basename(of['i'])} {', '.join(commands)} {words}: {said}")
+    print(f"{len(ROWS) + len(refuted) - wrong} of {len(ROWS) + len(refuted)} as they should be")
     sys.exit(1 if wrong else 0)
 
 

@@ -3,8 +3,8 @@ ghost use Rattle.std.specs.Prelude.{◌≡◌, Some, IfOk};
 ghost use Rattle.bs_top_answer.specs.Note.{Due, DueText};
 ghost use Rattle.bs_top_answer.specs.Prepared.{PreparedNoted};
 ghost use Rattle.bs_top_files.specs.Refusals.{CheckSays};
-ghost use Rattle.bs_inspect_words.specs.Request.{Cnf as CnfOf, Dump as DumpOf, Lrat as LratOf, Flops as FlopsOf, Inputs as InputsOf, Keys as KeysOf, Page as PageOf, Novel as NovelOf, Signature as SignatureOf, Stats as StatsOf, Steps as StepsOf, StepsTable as StepsTableOf, Stimulus as StimulusOf, Trace as TraceOf, TraceTable as TraceTableOf, Unscan as UnscanOf, Wave as WaveOf};
-ghost use Rattle.bs_inspect_words.specs.Asked.{dump_in, evidence_in, keys_in, page_in, novel_in, request_in, signature_in, stimulus_in, trace_in, unscan_in, wave_in};
+ghost use Rattle.bs_inspect_words.specs.Request.{ReachCnf as ReachCnfOf, ReachLrat as ReachLratOf, Cnf as CnfOf, Dump as DumpOf, Lrat as LratOf, Flops as FlopsOf, Inputs as InputsOf, Keys as KeysOf, Page as PageOf, Novel as NovelOf, Signature as SignatureOf, Stats as StatsOf, Steps as StepsOf, StepsTable as StepsTableOf, Stimulus as StimulusOf, Trace as TraceOf, TraceTable as TraceTableOf, Unscan as UnscanOf, Wave as WaveOf};
+ghost use Rattle.bs_inspect_words.specs.Asked.{dump_in, evidence_in, keys_in, length_in, page_in, novel_in, request_in, signature_in, stimulus_in, trace_in, unscan_in, wave_in};
 ghost use Rattle.bs_inspect.specs.Finishes.{finishes};
 ghost use Rattle.bs_inspect.specs.Said.{clock_doubt, RequestSaid, silent};
 ghost use Rattle.bs_inspect.specs.Work.{plan_of, to_runs};
@@ -12,15 +12,16 @@ ghost use Rattle.bs_inspect_notes.specs.Simulations.{data_clock_text};
 ghost use Rattle.bs_inspect_values.specs.Simulated.{simulated_in};
 
 use crate::sources::{
-    chain_sources, dump_sources, evidence_sources, netlist_source, novel_sources, report_source,
-    runs_sources, stop_at, stop_values, trace_sources,
+    chain_sources, dump_sources, evidence_sources, length_sources, netlist_source, novel_sources,
+    report_source, runs_sources, stop_at, stop_values, trace_sources,
 };
 use crate::telling::{
-    tell_dump, tell_evidence, tell_flops, tell_inputs, tell_keys, tell_novel, tell_page, tell_runs,
-    tell_signature, tell_state, tell_stats, tell_steps, tell_steps_table, tell_table, tell_trace,
+    tell_dump, tell_evidence, tell_flops, tell_inputs, tell_keys, tell_length, tell_novel,
+    tell_page, tell_runs, tell_signature, tell_state, tell_stats, tell_steps, tell_steps_table, tell_table, tell_trace,
     tell_usage, tell_version, tell_wave,
 };
 use bs_evidence::Format;
+use bs_inspect_answers::load_answered;
 use bs_inspect_files::{
     load_charted, load_named, load_one_run, load_picked, load_report_files, load_run_files,
     load_scanned,
@@ -28,7 +29,7 @@ use bs_inspect_files::{
 use bs_inspect_notes::data_clock_note;
 use bs_inspect_values::{Clocked, DumpFiles, Simulated, clock_key, load_dumped, load_simulated};
 use bs_inspect_words::{
-    DumpRequest, EvidenceRequest, KeysRequest, NovelRequest, PageRequest, Request,
+    DumpRequest, EvidenceRequest, KeysRequest, LengthRequest, NovelRequest, PageRequest, Request,
     SignatureRequest, StimulusRequest, TraceRequest, UnscanRequest, WaveRequest,
 };
 use bs_outside::{NoMemory, Shelf};
@@ -366,6 +367,34 @@ fn novel<S: Shelf>(
     }
 }
 
+/// The answer to `reach-cnf`.
+fn reach_cnf<S: Shelf>(
+    alloc: Global,
+    shelf: &mut S,
+    asked: &LengthRequest<'_>,
+) -> Result<Response, NoMemory>
+    ensures { PreparedNoted CheckSays finishes (RequestSaid (ReachCnfOf (length_in asked.now))) S.held S.faults S.leads shelf.old shelf.new (Some (plan_of (ReachCnfOf (length_in asked.now)))) result }
+{
+    match load_answered(alloc, shelf, asked.netlist, asked.state, asked.answer) {
+        Ok(answered) => silent(tell_length(alloc, Format::Clauses, &answered, asked.step)),
+        Err(stop) => stop_at(alloc, length_sources(asked), shelf.reason(), stop),
+    }
+}
+
+/// The answer to `reach-lrat`.
+fn reach_lrat<S: Shelf>(
+    alloc: Global,
+    shelf: &mut S,
+    asked: &LengthRequest<'_>,
+) -> Result<Response, NoMemory>
+    ensures { PreparedNoted CheckSays finishes (RequestSaid (ReachLratOf (length_in asked.now))) S.held S.faults S.leads shelf.old shelf.new (Some (plan_of (ReachLratOf (length_in asked.now)))) result }
+{
+    match load_answered(alloc, shelf, asked.netlist, asked.state, asked.answer) {
+        Ok(answered) => silent(tell_length(alloc, Format::Proof, &answered, asked.step)),
+        Err(stop) => stop_at(alloc, length_sources(asked), shelf.reason(), stop),
+    }
+}
+
 /// What is to be answered and written for a request, and what is to be said.
 pub(crate) fn request_answer<S: Shelf>(
     alloc: Global,
@@ -395,5 +424,7 @@ pub(crate) fn request_answer<S: Shelf>(
         Request::Lrat(asked) => lrat(alloc, shelf, asked),
         Request::Page(asked) => page(alloc, shelf, asked),
         Request::Novel(asked) => novel(alloc, shelf, asked),
+        Request::ReachCnf(asked) => reach_cnf(alloc, shelf, asked),
+        Request::ReachLrat(asked) => reach_lrat(alloc, shelf, asked),
     }
 }

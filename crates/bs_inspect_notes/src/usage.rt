@@ -14,7 +14,7 @@ use bs_note_files::pair_note;
 use std::alloc::Global;
 
 /// The commands, and how the words of each stand.
-const USAGES: [(&str, &str); 17] = [
+const USAGES: [(&str, &str); 19] = [
     ("flops", "usage: backspace_inspect flops NETLIST"),
     ("keys", "usage: backspace_inspect keys NETLIST NAME .."),
     ("inputs", "usage: backspace_inspect inputs NETLIST"),
@@ -60,6 +60,14 @@ const USAGES: [(&str, &str); 17] = [
         "novel",
         "usage: backspace_inspect novel NETLIST STIMULUS RUN [--most N]",
     ),
+    (
+        "reach-cnf",
+        "usage: backspace_inspect reach-cnf NETLIST STATE ANSWER [--step J]",
+    ),
+    (
+        "reach-lrat",
+        "usage: backspace_inspect reach-lrat NETLIST STATE ANSWER [--step J]",
+    ),
     ("help", "usage: backspace_inspect help"),
     ("version", "usage: backspace_inspect version"),
 ];
@@ -82,7 +90,7 @@ const OPTIONS: [&[u8]; 13] = [
 ];
 
 /// The commands.
-const COMMANDS: [&[u8]; 17] = [
+const COMMANDS: [&[u8]; 19] = [
     b"flops",
     b"keys",
     b"inputs",
@@ -98,6 +106,8 @@ const COMMANDS: [&[u8]; 17] = [
     b"cnf",
     b"lrat",
     b"novel",
+    b"reach-cnf",
+    b"reach-lrat",
     b"help",
     b"version",
 ];

@@ -1,14 +1,16 @@
 //! The words of a command line of the companion: which are a request, and which one they are.
 //!
 //! Modules: `settings` (options and their values), `request` and `proposed` (`Request`), `named`, `report`, `simulation`,
-//! `signature`, `novel`, `evidence`, `page` (the commands; what `page` asks: `paged`), `reading` (`read_request`). Words by position and
+//! `signature`, `novel`, `evidence`, `lengths`, `page` (the commands; what the last two ask: `answered`, `paged`), `reading` (`read_request`). Words by position and
 //! options are parted by bs_top_words. Used above:
 //! `read_request` answers `request_of` (`specs/Request`). A command: a record and a variant of `Request` in code and
 //! specs, its words in a module, and a line in `command_request` or its kin; an option: a variant of `Flag` (bs_top_words), and a
 //! place in `all_flags`.
 #![tactic(auto)]
 
+mod answered;
 mod evidence;
+mod lengths;
 mod named;
 mod novel;
 mod page;
@@ -21,6 +23,7 @@ mod settings;
 mod signature;
 mod simulation;
 
+pub use answered::LengthRequest;
 pub use novel::MAX_LINES;
 pub use paged::{DEFAULT_DRAWN, MAX_DRAWN, PageRequest};
 pub use proposed::{NovelRequest, SignatureRequest};

@@ -1,4 +1,5 @@
 //! The requests: a command, its files and its options.
+use crate::answered::LengthRequest;
 use crate::paged::PageRequest;
 use crate::proposed::{NovelRequest, SignatureRequest};
 use bs_vcd::When;
@@ -113,4 +114,8 @@ pub enum Request<'a> {
     Page(PageRequest<'a>),
     /// The values that one recorded run alone has.
     Novel(NovelRequest<'a>),
+    /// The clauses that say that a state is reached in a length, or in one of all that are refuted.
+    ReachCnf(LengthRequest<'a>),
+    /// The proof that it is not.
+    ReachLrat(LengthRequest<'a>),
 }

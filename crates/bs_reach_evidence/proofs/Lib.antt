@@ -1,0 +1,4 @@
+pub mod LengthLemmas
+pub mod ShownLemmas
+pub mod FlawLemmas
+pub mod Examples
