@@ -14,3 +14,4 @@ mod sampling;
 
 pub use cycles::{When, states};
 pub use edges::stimulus;
+pub use sampling::SampledLines;
