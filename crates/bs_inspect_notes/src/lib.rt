@@ -20,7 +20,7 @@ pub use name::{
     state_note, trace_note, twice_saying,
 };
 pub use simulation::{
-    clock_note, cycles_note, data_clock_note, ended_note, foreign, input_note, short_note,
-    unknown_note,
+    clock_note, cycles_note, data_clock_note, early_note, ended_note, foreign, input_note,
+    late_note, short_note, time_note, unknown_note,
 };
 pub use usage::{push_usages, unread_note, words_note};

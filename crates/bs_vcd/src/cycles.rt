@@ -124,7 +124,7 @@ fn between(
 }
 
 /// The time of the first change, or 0 where there is none.
-fn begin_in(sampled: &SampledLines) -> u64
+pub fn begin_in(sampled: &SampledLines) -> u64
     ensures { result ≡ begin_in sampled.now }
 {
     match sampled.first {
