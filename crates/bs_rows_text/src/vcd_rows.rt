@@ -99,7 +99,7 @@ const CUT: &str = "$var wire 1 ! ck $end\n$en";
 const OFF: &str =
     "$var wire 1 ! ck $end\n$enddefinitions $end\n#0\n0!\n#5\n1!\n#8\n$dumpoff\nx!\n$end\n#20\n$dumpon\n0!\n$end\n#25\n1!\n";
 
-/// A clock that goes from x to 1, to x, and to 1 again, each time as at `posedge` but for the first, and is 1 at first in another.
+/// A clock that goes from x to 1, and from 0 by x to 1.
 const UNKNOWN: &str =
     "$var wire 1 ! ck $end\n$var wire 1 \" d $end\n$enddefinitions $end\n#0\nx!\n0\"\n#5\n1!\n#8\n1\"\n#10\n0!\n#15\nx!\n0\"\n#20\n1!\n";
 
