@@ -982,7 +982,7 @@ def value_changes(it):
         return
     with open(f"{it.room}/busy.vcd", "ab") as file:
         file.write(b"#700000\n1!\n")
-    note = said("busy.vcd: the clock rises more than 65536 times, the most cycles of a run", "is this the netlist's clock? dump a shorter time")
+    note = said("busy.vcd: the clock rises more than 65536 times, the most cycles of a run", "is this the netlist's clock? a run begins at reset: shorten the way to the failure, or end the run earlier")
     it.tried("backspace_inspect", ["stimulus", "busy.v", "busy.vcd", "--clock", "ck", "--scope", "tb.dut"], 16, "refused vcd TooManyCycles\n", note)
     os.remove(f"{it.room}/busy.vcd")
 
@@ -1166,8 +1166,22 @@ def companion_refusals(it):
     ended = said("other.vcd: the text ends in its declarations, in a comment or behind a value", "was it cut short? `$enddefinitions $end` stands before the first time")
     tell(["stimulus", net, "other.vcd", *SIMULATED], 16, "refused vcd Ended\n", ended)
     it.write("other.vcd", text[vcd].replace("#15\n0$", "#15\nx$"))
-    unknown = said("other.vcd: the data input `line` is neither 0 nor 1 before the rising edge at time 25", "drive each data input before the clock rises first, or begin to dump behind that")
+    unknown = said("other.vcd: the data input `line` is neither 0 nor 1 before the rising edge at time 25", "drive each data input before the clock rises first: a run begins at reset, and its front cannot be left out")
     tell(["stimulus", net, "other.vcd", *SIMULATED], 16, "refused vcd Unknown line 25\n", unknown)
+    at = text[vcd].index("#25\n") + 4
+    off = text[vcd][:at] + "$dumpoff\n$end\n" + text[vcd][at:]
+    it.write("other.vcd", off)
+    switched = at_place("other.vcd", off, at, "the dump is switched off here: cycles behind this line are not in the text", "take `$dumpoff` out of the bench")
+    number = off[:at].count("\n") + 1
+    tell(["stimulus", net, "other.vcd", *SIMULATED], 16, f"refused vcd DumpOff {number}\n", switched)
+    it.write("other.vcd", text[vcd].replace("#0\n", "#2\n", 1))
+    begun = said("the values of the run `other` begin at time 2", "edges before that are not in them, and a run begins at reset: begin to dump at time 0, or be sure that the clock did not rise before")
+    tell(["stimulus", net, "other.vcd", *SIMULATED], 0, text["ex/yosys/stimulus.txt"].replace("run sim", "run other"), begun)
+    early = said("other.vcd: the values begin at time 2, and the states before that are not in the text", "a dump with a signature wants them: take a later cycle, or begin to dump at time 0")
+    tell(["dump", net, "other.vcd", "--cycle", "0", "--scope", "tb.dut", "--signature", "ex/yosys/signature.txt"], 16, "refused vcd Late 2\n", early)
+    last = [line[1:] for line in text[vcd].splitlines() if line.startswith("#")][-1]
+    behind = said(f"{vcd}: the last time of the text is {last}; there is no such time", "times count in the unit that `$timescale` names, as behind `#` in the text")
+    tell(["dump", net, vcd, "--time", str(int(last) + 1), "--scope", "tb.dut"], 16, f"refused vcd NoTime {last}\n", behind)
     for lines, why, at, sentence, label in (
         ("line rxd\r\n", "Line 1", 0, "a carriage return: lines end with a line feed alone", "take the carriage returns out, as by `tr -d '\\r'`"),
         ("take take\nlnie rxd\n", "Unknown 2", 10, "no data input has the key `lnie`; the nearest: `line`", "`inputs` tells the keys"),
