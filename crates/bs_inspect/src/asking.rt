@@ -28,8 +28,7 @@ use bs_inspect_files::{
 };
 use bs_inspect_notes::{data_clock_note, late_note};
 use bs_inspect_values::{
-    Clocked, DumpFiles, Simulated, SimulatedRun, clock_key, first_late, load_dumped,
-    load_simulated,
+    Clocked, DumpFiles, Simulated, SimulatedRun, clock_key, first_late, load_dumped, load_simulated,
 };
 use bs_inspect_words::{
     DumpRequest, EvidenceRequest, KeysRequest, NovelRequest, PageRequest, Request,

@@ -352,7 +352,10 @@ pub fn early_note(alloc: Global, file: &str, begin: u64) -> Result<Vec<u8>, NoMe
 {
     let mut said = b"the values begin at time ".to_vec(alloc)?;
     push_number(&mut said, begin)?;
-    push_piece(&mut said, b", and the states before that are not in the text")?;
+    push_piece(
+        &mut said,
+        b", and the states before that are not in the text",
+    )?;
     let mut note = file_note(alloc, file, &said)?;
     push_piece(
         &mut note,

@@ -39,12 +39,12 @@ word_faulty all a mode w words ts t fault e f (inr g) =
 abbrev at_end : SamplingState → Lines → Timed
 at_end w r = r >>= λ lines. Ok (with_times w lines)
 
-pub end_taken : (all : Timed) (a : SamplingRequest) (mode : WordPlace) (w after : SamplingState) (words : List VcdToken) →
-    all ≡ watched_from a mode w words → words ≡ [] → finished a mode w ≡ Ok after.lines → after.time ≡ w.time → after.first ≡ w.first →
-    all ≡ Ok (with_times after after.lines)
-end_taken all a mode w after words e f g time first =
+pub end_taken : (all : Timed) (a : SamplingRequest) (mode : WordPlace) (w : SamplingState) (words : List VcdToken) (first : Option ℕ) (last : ℕ)
+    (lines : List (List Bool)) → all ≡ watched_from a mode w words → words ≡ [] → finished a mode w ≡ Ok lines → last ≡ w.time → first ≡ w.first →
+    all ≡ Ok (record { first = first; last = last; lines = lines })
+end_taken all a mode w words first last lines e f g time begun =
     e ∙ (ap (watched_from a mode w) f
-    ∙ (ap (at_end w) g ∙ λ i. Ok record { first = sym first i; last = sym time i; lines = after.lines }))
+    ∙ (ap (at_end w) g ∙ λ i. Ok record { first = sym begun i; last = sym time i; lines = lines }))
 
 pub end_faulty : (all : Timed) (a : SamplingRequest) (mode : WordPlace) (w : SamplingState) (words : List VcdToken) (fault : VcdFault) →
     all ≡ watched_from a mode w words → words ≡ [] → (fault ≡ NoMemory) ⊎ (finished a mode w ≡ Err fault) → (fault ≡ NoMemory) ⊎ (all ≡ Err fault)
