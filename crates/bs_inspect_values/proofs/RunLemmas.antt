@@ -14,8 +14,10 @@ use Rattle.bs_stim.specs.Runs.{Recorded, Stimulus, IsRecorded}
 use Rattle.bs_stim.specs.StimulusText.{run_text}
 use Rattle.bs_stim.proofs.ReadBackLemmas.{stimuli_read_back}
 use Rattle.bs_inspect_values.specs.declared.run.SimulatedRun.{SimulatedRun as CodeSimulatedRun}
+use Rattle.bs_vcd.specs.declared.sampling.SampledLines.{SampledLines}
+use Rattle.bs_vcd.specs.Cycles.{begin_in}
 use Rattle.bs_inspect_values.specs.Law.{Files, IsFile, RunsReadBack, runs_of}
-use Rattle.bs_inspect_values.specs.SimulatedRun.{is_late, leaf_of, name_byte, or_vcd, recorded, recorded_in, run_in, runs_text, simulated_text, stem_of}
+use Rattle.bs_inspect_values.specs.SimulatedRun.{SimulatedRun, is_late, leaf_of, name_byte, or_vcd, recorded, recorded_in, run_in, run_name, runs_text, simulated, simulated_text, stem_of}
 
 -- ---- the name
 
@@ -59,6 +61,15 @@ short_vcd (b ∷ bs) le = subst (λ (name : List ℕ). length name ≤ MAX_NAME)
 name_short : (s : List ℕ) → length (or_vcd (map name_byte (take MAX_NAME s))) ≤ MAX_NAME
 name_short s =
     short_vcd (map name_byte (take MAX_NAME s)) (omega (arith, length-map (take MAX_NAME s) name_byte, length-take MAX_NAME s))
+
+-- ---- a run
+
+abbrev begun : List ℕ → List (List Bool) → ℕ → SimulatedRun
+begun name lines begin = record { run = record { name = name; inputs = lines }; begin = begin }
+
+pub simulated_by : (path name : List ℕ) (sampled : SampledLines) (begin : ℕ) → name ≡ run_name path → begin ≡ begin_in sampled →
+    begun name sampled.lines begin ≡ simulated path sampled
+simulated_by path name sampled begin e f = λ i. begun (e i) sampled.lines (f i)
 
 -- ---- the text
 

@@ -95,6 +95,7 @@ fn run_name(alloc: Global, path: &[u8]) -> Result<Vec<u8>, NoMemory>
 }
 
 /// The run of a file with these inputs.
+#[tactic(auto, using(crate::proofs::RunLemmas::simulated_by))]
 pub(crate) fn simulated(
     alloc: Global,
     path: &str,

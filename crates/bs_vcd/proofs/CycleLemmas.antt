@@ -194,9 +194,9 @@ window_wide width cycle back s all = by (nat_lt cycle (length s.lines)) refl
     by : (b : Bool) → nat_lt cycle (length s.lines) ≡ b → Gives (AreStates width) (windows cycle back s b)
     by true e =
         let lt : cycle < length s.lines = ltb-true cycle (length s.lines) e in
-        there_wide width cycle back s
-        (omega (arith, length-drop (cycle - back) (take (cycle + 1) s.lines), length-take-le (cycle + 1) s.lines (omega (arith, lt))), all)
-        (is_late cycle back s)
+        let some : 0 < length (drop (cycle - back) (take (cycle + 1) s.lines)) =
+        omega (arith, length-drop (cycle - back) (take (cycle + 1) s.lines), length-take-le (cycle + 1) s.lines (omega (arith, lt))) in
+        there_wide width cycle back s (some, all) (is_late cycle back s)
     by false e = gives_err (AreStates width) (NoCycle (length s.lines - 1))
 
 when_wide : (s : ClockAndInputs) (h : History) (at : When) (back : ℕ) → Gives (AreStates (length s.inputs)) (states_when s h at back)

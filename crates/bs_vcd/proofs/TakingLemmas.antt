@@ -1,5 +1,8 @@
 -- The words of a text, taken one by one.
-use Rattle.std.proofs.Common.{◌≡◌, ℕ, List, [], ◌∷◌, map, ap, sym, ◌∙◌, ◌⊎◌, inl, inr, Option, Result, Ok, Err}
+use Rattle.std.proofs.Common.{◌≡◌, ℕ, List, [], ◌∷◌, map, ap, sym, ◌∙◌, ◌⊎◌, inl, inr, Option, Some, Result, Ok, Err}
+use Rattle.std.specs.Prelude.{◌++◌}
+use Rattle.std.specs.Option.{option_or}
+use Rattle.std.proofs.lemmas.List.{map-append}
 use Rattle.bs_bits.specs.Reading.{◌>>=◌}
 use Rattle.bs_vcd_header.specs.declared.fault.VcdFault.{VcdFault}
 use Rattle.bs_vcd_header.specs.declared.fault.VcdFault.TheVariants.{NoMemory}
@@ -7,9 +10,9 @@ use Rattle.bs_vcd.specs.Sampled.{SamplingRequest}
 use Rattle.bs_vcd_header.specs.Tokens.{VcdToken}
 use Rattle.bs_vcd.specs.declared.changes.ValueChange.{ValueChange as CodeValueChange}
 use Rattle.bs_vcd.specs.declared.sampling.SampledLines.{SampledLines}
-use Rattle.bs_vcd.specs.History.{WordPlace, step, change_in}
+use Rattle.bs_vcd.specs.History.{ValueChange, WordPlace, step, change_in}
 use Rattle.bs_vcd.specs.Levels.{Known}
-use Rattle.bs_vcd.specs.Watching.{SamplingState, known_after, closed, moved, took, finished, watched_from, with_times}
+use Rattle.bs_vcd.specs.Watching.{SamplingState, known_after, closed, moved, took, finished, watched_from, with_change, with_times}
 use Rattle.std.specs.Prelude.{Bool}
 
 abbrev Lines : Type 0
@@ -50,6 +53,16 @@ pub end_faulty : (all : Timed) (a : SamplingRequest) (mode : WordPlace) (w : Sam
     all ≡ watched_from a mode w words → words ≡ [] → (fault ≡ NoMemory) ⊎ (finished a mode w ≡ Err fault) → (fault ≡ NoMemory) ⊎ (all ≡ Err fault)
 end_faulty all a mode w words fault e f (inl want) = inl want
 end_faulty all a mode w words fault e f (inr g) = inr (e ∙ (ap (watched_from a mode w) f ∙ ap (at_end w) g))
+
+abbrev watching : ℕ → Option ℕ → Known → List ValueChange → List (List Bool) → SamplingState
+watching time first known changes lines = record { time = time; first = first; known = known; changes = changes; lines = lines }
+
+-- a change more
+pub change_taken : (time : ℕ) (first next : Option ℕ) (known : Known) (old new : List CodeValueChange) (c : CodeValueChange) (lines : List (List Bool)) →
+    next ≡ option_or first (Some time) → new ≡ old ++ c ∷ [] →
+    watching time next known (map change_in new) lines ≡ with_change (watching time first known (map change_in old) lines) (change_in c)
+change_taken time first next known old new c lines e f =
+    λ i. watching time (e i) known ((ap (map change_in) f ∙ map-append change_in old (c ∷ [])) i) lines
 
 -- the moment behind these lines
 abbrev next_of : ℕ → Option ℕ → Known → Lines → Result SamplingState VcdFault

@@ -221,6 +221,7 @@ fn first_or(first: Option<u64>, time: u64) -> Option<u64>
 }
 
 /// Takes a change.
+#[tactic(auto, using(crate::proofs::TakingLemmas::change_taken))]
 fn take_change<'a>(change: ValueChange<'a>, watch: &mut SamplingState<'a>) -> Result<(), NoMemory>
     ensures { OnOk result (watch_in watch.new ≡ with_change (watch_in watch.old) (change_in change.entry)) }
 {
