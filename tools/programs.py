@@ -1132,8 +1132,18 @@ def companion_refusals(it):
     tell([], 2, "refused words\n", said("there are no words", HELP))
     tell(["flop", net], 2, "refused words\n", said("word 1, `flop`, is no command; the nearest: `flops`", HELP))
     tell(["trace", net, report, "--onyl", "q"], 2, "refused words\n", said("word 4, `--onyl`, is no option; the nearest: `--only`", f"usage: backspace_inspect {COMPANION['trace']}"))
-    for given in (["trace", net], ["flops", *[net] * 12], ["signature", net, "ex/yosys/stimulus.txt"], ["signature", net, "t", "--bits", "257"], ["stimulus", net, *[vcd] * 257, "--clock", "ck"]):
-        tell(given, 2, "refused words\n", said(STAND, f"usage: backspace_inspect {COMPANION[given[0]]}"))
+    for given, why in (
+        (["trace", net], STAND),
+        (["flops", *[net] * 12], STAND),
+        (["stimulus", net, *[vcd] * 257, "--clock", "ck"], STAND),
+        (["signature", net, "ex/yosys/stimulus.txt"], "`--bits N` is missing: how many bits the signature has"),
+        (["stimulus", net, vcd], "`--clock NAME` is missing: the name that the clock has in the simulation"),
+        (["dump", net, vcd], "`--cycle N` or `--time T` is missing: the moment of the dump"),
+        (["signature", net, "t", "--bits", "257"], "word 4, `--bits`, wants a number in digits from 1 to 256"),
+        (["dump", net, vcd, "--time", "880ns"], "word 4, `--time`, wants a number in digits from 0 to 18446744073709551615"),
+        (["dump", net, vcd, "--cycle=70000"], "word 4, `--cycle=70000`, wants a number in digits from 0 to 65536"),
+    ):
+        tell(given, 2, "refused words\n", said(why, f"usage: backspace_inspect {COMPANION[given[0]]}"))
     near = "the nearest: `count[0]` `count[1]`"
     tell(["trace", net, report, "--only", "head", "cuont"], 18, "refused name Unknown cuont\n", said(
         f"no flip-flop, data input or vector of these has the name `cuont`; {near}",
