@@ -2,14 +2,20 @@
 """Runs the commands of examples/README.md with the built programs and compares what they write with the stored texts.
 
 The texts that `cnf` and `lrat` write for the lists of reports, and `reach-cnf` and `reach-lrat` for the lengths of answers, are checked
-by tools/lrat_check.py.
+by tools/lrat_check.py. Then each command of the documents is run whose files are shipped, on a copy of the examples: it ends with a
+result, and not with a refusal. So does the last command of a section with the options that stand behind it in the text, as
+`--only count`.
 
 At the top of the repository: python3 tools/examples.py [BACKSPACE INSPECT]. The programs are those that `rt run` built, unless
 others are given. Prints a line for each command and ends with 1 where a text or a status is another one.
 """
 import os
+import re
+import shlex
+import shutil
 import subprocess
 import sys
+import tempfile
 
 sys.dont_write_bytecode = True
 import lrat_check
@@ -81,6 +87,75 @@ def checked(inspect, commands, words):
         return f"refused: {fault}"
 
 
+# a document, and the folder of the examples in which its commands stand
+DOCUMENTS = {"README.md": "", "examples/README.md": "", "docs/HOW_TO_READ.md": "", "docs/ONE_CRASH.md": "shift", "docs/OWN_CHIP.md": "yosys", "docs/MISTAKES.md": "shift"}
+PROGRAMS = {"backspace": "b", "$backspace": "b", "backspace_inspect": "i", "$inspect": "i"}
+RESULTS = {0, 3, 4, 5, 15}
+FLAGS = {"--all", "--csv"}
+
+
+def pieces(text):
+    """The lines of code and the pieces in backticks, in order, each with whether it is a line; None begins a section."""
+    code = False
+    for line in text.splitlines():
+        if line.startswith("```"):
+            code = not code
+        elif code:
+            yield line.removeprefix("$ "), True
+        elif line.startswith("#"):
+            yield None, False
+        else:
+            for piece in re.findall(r"`([^`]+)`", line):
+                yield piece, False
+
+
+def called(piece):
+    """The words of a command of the programs, and the file that its output goes to, or None."""
+    command, _, target = piece.split("|")[0].partition(">")
+    try:
+        words = shlex.split(command)
+    except ValueError:
+        return None
+    if len(words) < 3 or words[0] not in PROGRAMS or any(re.fullmatch(r"[A-Z_.\[\]]+|.*[{}].*", word) for word in words[1:]):
+        return None
+    return words, target.strip()
+
+
+def commands(text):
+    """The commands of a document, and the last one of a section with further options."""
+    last = None
+    for piece, is_line in pieces(text):
+        if piece is None:
+            last = None
+        elif call := called(piece):
+            yield call
+            last = call[0] if is_line else last
+        elif last and piece.startswith("--") and (piece in FLAGS or " " in piece) and piece.split()[0] not in last:
+            yield last + shlex.split(piece), ""
+
+
+def run_documents(of):
+    """Runs the commands of the documents whose files are there, and answers how many there were and how many are wrong."""
+    count = wrong = 0
+    with tempfile.TemporaryDirectory() as folder:
+        shutil.copytree("examples", folder, dirs_exist_ok=True)
+        for document, place in DOCUMENTS.items():
+            for words, target in commands(open(document, encoding="utf-8").read()):
+                place_of = os.path.join(folder, place)
+                files = [word for word in words[1:] if re.search(r"\.(v|vcd|txt)$", word)]
+                if not all(os.path.exists(os.path.join(place_of, file)) for file in files):
+                    continue
+                done = subprocess.run([of[PROGRAMS[words[0]]], *words[1:]], cwd=place_of, stdout=subprocess.PIPE, stderr=subprocess.PIPE)
+                if target:
+                    open(os.path.join(place_of, target), "wb").write(done.stdout)
+                right = done.returncode in RESULTS and not done.stdout.startswith((b"refused", b"rejected"))
+                count += 1
+                wrong += not right
+                said = "a result" if right else f"status {done.returncode}: {done.stdout[:60].decode('ascii', 'replace').splitlines()}"
+                print(f"{document}: {' '.join(words[1:])}: {said}")
+    return count, wrong
+
+
 def main():
     programs = sys.argv[1:] or ["crates/backspace/out/backspace", "crates/backspace_inspect/out/backspace_inspect"]
     of = {"b": os.path.abspath(programs[0]), "i": os.path.abspath(programs[1])}
@@ -104,7 +179,10 @@ def main():
         said = checked(of["i"], commands, words)
         wrong += not said.startswith("refuted")
         print(f"{os.path.basename(of['i'])} {', '.join(commands)} {words}: {said}")
-    print(f"{len(ROWS) + len(refuted) - wrong} of {len(ROWS) + len(refuted)} as they should be")
+    count, more = run_documents(of)
+    wrong += more
+    total = len(ROWS) + len(refuted) + count
+    print(f"{total - wrong} of {total} as they should be")
     sys.exit(1 if wrong else 0)
 
 

@@ -982,7 +982,7 @@ def value_changes(it):
         return
     with open(f"{it.room}/busy.vcd", "ab") as file:
         file.write(b"#700000\n1!\n")
-    note = said("busy.vcd: the clock rises more than 65536 times, the most cycles of a run", "is this the netlist's clock? dump a shorter time")
+    note = said("busy.vcd: the clock rises more than 65536 times, the most cycles of a run", "is this the netlist's clock? a run begins at reset: shorten the way to the failure, or end the run earlier")
     it.tried("backspace_inspect", ["stimulus", "busy.v", "busy.vcd", "--clock", "ck", "--scope", "tb.dut"], 16, "refused vcd TooManyCycles\n", note)
     os.remove(f"{it.room}/busy.vcd")
 
@@ -1132,8 +1132,18 @@ def companion_refusals(it):
     tell([], 2, "refused words\n", said("there are no words", HELP))
     tell(["flop", net], 2, "refused words\n", said("word 1, `flop`, is no command; the nearest: `flops`", HELP))
     tell(["trace", net, report, "--onyl", "q"], 2, "refused words\n", said("word 4, `--onyl`, is no option; the nearest: `--only`", f"usage: backspace_inspect {COMPANION['trace']}"))
-    for given in (["trace", net], ["flops", *[net] * 12], ["signature", net, "ex/yosys/stimulus.txt"], ["signature", net, "t", "--bits", "257"], ["stimulus", net, *[vcd] * 257, "--clock", "ck"]):
-        tell(given, 2, "refused words\n", said(STAND, f"usage: backspace_inspect {COMPANION[given[0]]}"))
+    for given, why in (
+        (["trace", net], STAND),
+        (["flops", *[net] * 12], STAND),
+        (["stimulus", net, *[vcd] * 257, "--clock", "ck"], STAND),
+        (["signature", net, "ex/yosys/stimulus.txt"], "`--bits N` is missing: how many bits the signature has"),
+        (["stimulus", net, vcd], "`--clock NAME` is missing: the name that the clock has in the simulation"),
+        (["dump", net, vcd], "`--cycle N` or `--time T` is missing: the moment of the dump"),
+        (["signature", net, "t", "--bits", "257"], "word 4, `--bits`, wants a number in digits from 1 to 256"),
+        (["dump", net, vcd, "--time", "880ns"], "word 4, `--time`, wants a number in digits from 0 to 18446744073709551615"),
+        (["dump", net, vcd, "--cycle=70000"], "word 4, `--cycle=70000`, wants a number in digits from 0 to 65536"),
+    ):
+        tell(given, 2, "refused words\n", said(why, f"usage: backspace_inspect {COMPANION[given[0]]}"))
     near = "the nearest: `count[0]` `count[1]`"
     tell(["trace", net, report, "--only", "head", "cuont"], 18, "refused name Unknown cuont\n", said(
         f"no flip-flop, data input or vector of these has the name `cuont`; {near}",
@@ -1166,8 +1176,22 @@ def companion_refusals(it):
     ended = said("other.vcd: the text ends in its declarations, in a comment or behind a value", "was it cut short? `$enddefinitions $end` stands before the first time")
     tell(["stimulus", net, "other.vcd", *SIMULATED], 16, "refused vcd Ended\n", ended)
     it.write("other.vcd", text[vcd].replace("#15\n0$", "#15\nx$"))
-    unknown = said("other.vcd: the data input `line` is neither 0 nor 1 before the rising edge at time 25", "drive each data input before the clock rises first, or begin to dump behind that")
+    unknown = said("other.vcd: the data input `line` is neither 0 nor 1 before the rising edge at time 25", "drive each data input before the clock rises first: a run begins at reset, and its front cannot be left out")
     tell(["stimulus", net, "other.vcd", *SIMULATED], 16, "refused vcd Unknown line 25\n", unknown)
+    at = text[vcd].index("#25\n") + 4
+    off = text[vcd][:at] + "$dumpoff\n$end\n" + text[vcd][at:]
+    it.write("other.vcd", off)
+    switched = at_place("other.vcd", off, at, "the dump is switched off here: cycles behind this line are not in the text", "take `$dumpoff` out of the bench")
+    number = off[:at].count("\n") + 1
+    tell(["stimulus", net, "other.vcd", *SIMULATED], 16, f"refused vcd DumpOff {number}\n", switched)
+    it.write("other.vcd", text[vcd].replace("#0\n", "#2\n", 1))
+    begun = said("the values of the run `other` begin at time 2", "edges before that are not in them, and a run begins at reset: begin to dump at time 0, or be sure that the clock did not rise before")
+    tell(["stimulus", net, "other.vcd", *SIMULATED], 0, text["ex/yosys/stimulus.txt"].replace("run sim", "run other"), begun)
+    early = said("other.vcd: the values begin at time 2, and the states before that are not in the text", "a dump with a signature wants them: take a later cycle, or begin to dump at time 0")
+    tell(["dump", net, "other.vcd", "--cycle", "0", "--scope", "tb.dut", "--signature", "ex/yosys/signature.txt"], 16, "refused vcd Late 2\n", early)
+    last = [line[1:] for line in text[vcd].splitlines() if line.startswith("#")][-1]
+    behind = said(f"{vcd}: the last time of the text is {last}; there is no such time", "times count in the unit that `$timescale` names, as behind `#` in the text")
+    tell(["dump", net, vcd, "--time", str(int(last) + 1), "--scope", "tb.dut"], 16, f"refused vcd NoTime {last}\n", behind)
     for lines, why, at, sentence, label in (
         ("line rxd\r\n", "Line 1", 0, "a carriage return: lines end with a line feed alone", "take the carriage returns out, as by `tr -d '\\r'`"),
         ("take take\nlnie rxd\n", "Unknown 2", 10, "no data input has the key `lnie`; the nearest: `line`", "`inputs` tells the keys"),

@@ -1,12 +1,14 @@
 -- Work that is done has a status of its own kind; and the answers to requests, with what is said of them.
-use Rattle.std.proofs.Common.{◌≡◌, ℕ, ◌<◌, ◌≤◌, ◌+◌, arith, true, false, Bor, List, [], ◌∷◌, ◌++◌, length, map, take, get_or, Option, Some, None, Result, Ok, Err, append-nil, refl, ap, sym, subst, ◌∙◌}
+use Rattle.std.proofs.Common.{◌≡◌, ℕ, ◌<◌, ◌≤◌, ◌+◌, arith, true, false, Bor, List, [], ◌∷◌, ◌++◌, length, map, take, find, get_or, Option, Some, None, Result, Ok, Err, append-nil, refl, ap, sym, subst, ◌∙◌}
 use Rattle.std.specs.List.{flat_map}
 use Rattle.std.proofs.lemmas.Grind.{flat_map-append}
 use Rattle.std.proofs.lemmas.List.{append_assoc, length-map, map_more}
 use Rattle.std.specs.Prelude.{Bool, IfOk, option_map}
 use Rattle.bs_bits.specs.declared.memory.NoMemory.{NoMemory}
-use Rattle.bs_inspect_notes.specs.Simulations.{data_clock_text}
+use Rattle.bs_inspect_notes.specs.Simulations.{data_clock_text, late_text}
 use Rattle.bs_inspect_values.specs.Simulated.{Simulated, clock_key}
+use Rattle.bs_inspect_values.specs.SimulatedRun.{SimulatedRun, is_late, run_in}
+use Rattle.bs_inspect_values.specs.declared.run.SimulatedRun.{SimulatedRun as CodeSimulatedRun}
 use Rattle.bs_inspect_view.specs.Drawn.{ViewRequest}
 use Rattle.bs_inspect_view.specs.View.{IsDrawing}
 use Rattle.bs_net.specs.Parts.{Parts}
@@ -34,7 +36,7 @@ use Rattle.bs_top_answer.proofs.AnswerLemmas.{diagnosed_stopped, diagnosed_work}
 use Rattle.bs_top_files.specs.NoteCases.{NoteCase, NoteSays}
 use Rattle.bs_top_files.specs.Refusals.{Case, CheckSays}
 use Rattle.bs_inspect_words.specs.Request.{Request}
-use Rattle.bs_inspect.specs.Said.{clock_doubt, RequestSaid, silent, WordsSaid, WorkSaid, work_note}
+use Rattle.bs_inspect.specs.Said.{late_doubt, RequestSaid, runs_doubt, silent, WordsSaid, WorkSaid, work_note}
 use Rattle.bs_inspect.specs.Sources.{Sources, behind_piece, joined, named_values, source_of}
 use Rattle.bs_evidence.specs.declared.flaw.Evidence.{Evidence}
 use Rattle.bs_evidence.specs.declared.flaw.Evidence.TheVariants.{Text, Flawed}
@@ -98,11 +100,21 @@ silent_said work (Err want) quiet = tt
 
 -- what is said of a clock that is a data input, and of another
 pub clock_due : (clock key : List ℕ) (s : Simulated) (note : Note) → s.sampled.data_clock ≡ true → key ≡ clock_key s.raw →
-    Due (λ said. said ≡ data_clock_text clock key) note → DueText (clock_doubt clock s) note
+    Due (λ said. said ≡ data_clock_text clock key) note → DueText (runs_doubt clock s) note
 clock_due clock key s note is e h = rw is (subst (λ (k : List ℕ). Due (λ said. said ≡ data_clock_text clock k) note) e h)
 
-pub clock_quiet : (clock : List ℕ) (s : Simulated) → s.sampled.data_clock ≡ false → DueText (clock_doubt clock s) Silent
-clock_quiet clock s not = rw not refl
+-- what is said of the first run whose values begin late
+pub late_due : (clock : List ℕ) (s : Simulated) (slice runs : List CodeSimulatedRun) (note : Note) → s.sampled.data_clock ≡ false →
+    s.sampled.runs ≡ map run_in runs → slice ≡ runs → DueText (late_doubt (find is_late (map run_in slice))) note → DueText (runs_doubt clock s) note
+late_due clock s slice runs note not same is h =
+    rw not (subst (λ (rs : List SimulatedRun). DueText (late_doubt (find is_late rs)) note) (ap (map run_in) is ∙ sym same) h)
+
+pub run_due : (found : Option SimulatedRun) (run : SimulatedRun) (note : Note) → Some run ≡ found →
+    Due (λ said. said ≡ late_text run.run.name run.begin) note → DueText (late_doubt found) note
+run_due found run note e h = subst (λ (o : Option SimulatedRun). DueText (late_doubt o) note) e h
+
+pub run_quiet : (found : Option SimulatedRun) → None ≡ found → DueText (late_doubt found) Silent
+run_quiet found e = subst (λ (o : Option SimulatedRun). DueText (late_doubt o) Silent) e refl
 
 -- work that a walk made ready for, on which there is no note
 pub diagnosed_done : {S T : Type 0} {held : S → Tells} {faults : S → Counts} {leads : S → FetchCall → S → Type 0} {before now : S} {plan : Plan Case Work}

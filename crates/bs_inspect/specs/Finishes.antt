@@ -2,7 +2,7 @@
 use Rattle.std.specs.Prelude.{◌≡◌, ℕ, List, Option, length}
 use Rattle.bs_top_plan.specs.declared.status.Status.{Status}
 use Rattle.bs_top_plan.specs.declared.status.Status.TheVariants.{Done, Rejected}
-use Rattle.bs_inspect_values.specs.SimulatedRun.{runs_text}
+use Rattle.bs_inspect_values.specs.SimulatedRun.{simulated_text}
 use Rattle.bs_inspect_netlist.specs.Dumped.{dump_lines}
 use Rattle.bs_inspect.specs.Asked.{drawing_of}
 use Rattle.bs_inspect_view.specs.View.{IsDrawing}
@@ -61,7 +61,7 @@ finishes (to_inputs raw) status text = (status ≡ Done) × TellsInputs raw text
 finishes (to_stats raw) status text = (status ≡ Done) × TellsSizes raw text
 finishes (to_steps report) status text = (status ≡ Done) × (text ≡ steps_text report)
 finishes (to_trace all only trace_files) status text = (status ≡ Done) × TellsTrace trace_files.raw trace_files.report all only text
-finishes (to_runs clock simulated) status text = (status ≡ Done) × (text ≡ runs_text simulated.sampled.runs)
+finishes (to_runs clock simulated) status text = (status ≡ Done) × (text ≡ simulated_text simulated.sampled.runs)
 finishes (to_dump dumped) status text = (status ≡ Done) × (text ≡ dump_lines dumped.choice dumped.states)
 finishes (to_wave from all only trace_files) status text =
     (status ≡ Done)

@@ -1,5 +1,5 @@
 -- What is said of an answer, besides.
-use Rattle.std.specs.Prelude.{◌≡◌, ℕ, List, Option, Some, None, Result, Ok, Err, if◌then◌else◌}
+use Rattle.std.specs.Prelude.{◌≡◌, ℕ, List, find, Option, Some, None, Result, Ok, Err, if◌then◌else◌}
 use Rattle.bs_bits.specs.declared.memory.NoMemory.{NoMemory}
 use Rattle.bs_outside.specs.Calls.{FetchCall}
 use Rattle.bs_top_plan.specs.declared.reply.Reply.{Reply}
@@ -15,12 +15,13 @@ use Rattle.bs_top_files.specs.NoteCases.{NoteCase, NoteSays}
 use Rattle.bs_inspect_words.specs.Request.{Request, Help, Version, Flops, Inputs, Stats, Keys, Trace, TraceTable, Steps, StepsTable, Wave, Stimulus, Dump, Signature, Unscan, Cnf, Lrat, Page, Novel, ReachCnf, ReachLrat}
 use Rattle.bs_inspect_values.specs.Dumped.{dumped_looked}
 use Rattle.bs_inspect_values.specs.Simulated.{Simulated, clock_key, simulated_looked}
+use Rattle.bs_inspect_values.specs.SimulatedRun.{SimulatedRun, is_late}
 use Rattle.bs_evidence.specs.declared.evidence.Format.TheVariants.{Clauses, Proof}
 use Rattle.bs_inspect_files.specs.Taken.{charted_looked, one_run_looked, run_files_looked, report_files_looked, picked_looked}
 use Rattle.bs_inspect_files.specs.FlopFiles.{named_looked, scanned_looked}
 use Rattle.bs_inspect_answers.specs.Taken.{answered_looked}
 use Rattle.bs_inspect_notes.specs.Usages.{words_text}
-use Rattle.bs_inspect_notes.specs.Simulations.{data_clock_text}
+use Rattle.bs_inspect_notes.specs.Simulations.{data_clock_text, late_text}
 use Rattle.bs_inspect.specs.Asked.{clocked_of, dump_files, page_options}
 use Rattle.bs_inspect.specs.Sources.{source_of, sources_of}
 use Rattle.bs_inspect.specs.Work.{Work, to_help, to_version, to_flops, to_inputs, to_stats, to_steps, to_trace, to_runs, to_dump, to_wave, to_signature, to_table, to_steps_table, to_keys, to_state, to_evidence, to_page, to_novel, to_length}
@@ -87,13 +88,18 @@ looked_of (ReachLrat t) = do
   answered ← answered_looked t.netlist t.state t.answer
   end (to_length Proof t.step answered)
 
--- a clock that is a data input
-abbrev pub clock_doubt : List ℕ → Simulated → Option (List ℕ)
-clock_doubt clock s = if s.sampled.data_clock then Some (data_clock_text clock (clock_key s.raw)) else None
+-- a run whose values begin late
+abbrev pub late_doubt : Option SimulatedRun → Option (List ℕ)
+late_doubt None = None
+late_doubt (Some r) = Some (late_text r.run.name r.begin)
 
--- what is said of work that is done: of runs that their clock is a data input, where it is one; and nothing of other work
+-- a clock that is a data input, or else the first run whose values begin late
+abbrev pub runs_doubt : List ℕ → Simulated → Option (List ℕ)
+runs_doubt clock s = if s.sampled.data_clock then Some (data_clock_text clock (clock_key s.raw)) else late_doubt (find is_late s.sampled.runs)
+
+-- what is said of work that is done: what is doubtful about runs; and nothing of other work
 abbrev pub work_note : Work → Option (List ℕ)
-work_note (to_runs clock simulated) = clock_doubt clock simulated
+work_note (to_runs clock simulated) = runs_doubt clock simulated
 work_note _ = None
 
 abbrev pub WorkSaid : Work → List ℕ → Note → Type 0

@@ -1,15 +1,16 @@
 //! The answer to each request: its files are taken, and what they tell is told.
-ghost use Rattle.std.specs.Prelude.{◌≡◌, Some, IfOk};
+ghost use Rattle.std.specs.Prelude.{◌≡◌, find, map, Some, IfOk};
 ghost use Rattle.bs_top_answer.specs.Note.{Due, DueText};
 ghost use Rattle.bs_top_answer.specs.Prepared.{PreparedNoted};
 ghost use Rattle.bs_top_files.specs.Refusals.{CheckSays};
 ghost use Rattle.bs_inspect_words.specs.Request.{ReachCnf as ReachCnfOf, ReachLrat as ReachLratOf, Cnf as CnfOf, Dump as DumpOf, Lrat as LratOf, Flops as FlopsOf, Inputs as InputsOf, Keys as KeysOf, Page as PageOf, Novel as NovelOf, Signature as SignatureOf, Stats as StatsOf, Steps as StepsOf, StepsTable as StepsTableOf, Stimulus as StimulusOf, Trace as TraceOf, TraceTable as TraceTableOf, Unscan as UnscanOf, Wave as WaveOf};
 ghost use Rattle.bs_inspect_words.specs.Asked.{dump_in, evidence_in, keys_in, length_in, page_in, novel_in, request_in, signature_in, stimulus_in, trace_in, unscan_in, wave_in};
 ghost use Rattle.bs_inspect.specs.Finishes.{finishes};
-ghost use Rattle.bs_inspect.specs.Said.{clock_doubt, RequestSaid, silent};
+ghost use Rattle.bs_inspect.specs.Said.{late_doubt, RequestSaid, runs_doubt, silent};
 ghost use Rattle.bs_inspect.specs.Work.{plan_of, to_runs};
-ghost use Rattle.bs_inspect_notes.specs.Simulations.{data_clock_text};
+ghost use Rattle.bs_inspect_notes.specs.Simulations.{data_clock_text, late_text};
 ghost use Rattle.bs_inspect_values.specs.Simulated.{simulated_in};
+ghost use Rattle.bs_inspect_values.specs.SimulatedRun.{is_late, run_in};
 
 use crate::sources::{
     chain_sources, dump_sources, evidence_sources, length_sources, netlist_source, novel_sources,
@@ -26,8 +27,10 @@ use bs_inspect_files::{
     load_charted, load_named, load_one_run, load_picked, load_report_files, load_run_files,
     load_scanned,
 };
-use bs_inspect_notes::data_clock_note;
-use bs_inspect_values::{Clocked, DumpFiles, Simulated, clock_key, load_dumped, load_simulated};
+use bs_inspect_notes::{data_clock_note, late_note};
+use bs_inspect_values::{
+    Clocked, DumpFiles, Simulated, SimulatedRun, clock_key, first_late, load_dumped, load_simulated,
+};
 use bs_inspect_words::{
     DumpRequest, EvidenceRequest, KeysRequest, LengthRequest, NovelRequest, PageRequest, Request,
     SignatureRequest, StimulusRequest, TraceRequest, UnscanRequest, WaveRequest,
@@ -118,25 +121,43 @@ fn clock_said(alloc: Global, clock: &str, key: &str) -> Note
     note_made(data_clock_note(alloc, clock, key))
 }
 
-/// The note on runs whose clock is a data input.
-#[tactic(auto, using(crate::proofs::WorkLemmas::clock_due, crate::proofs::WorkLemmas::clock_quiet))]
-fn clock_note(alloc: Global, clock: &str, simulated: &Simulated) -> Note
-    ensures { DueText (clock_doubt clock.now (simulated_in simulated.now)) result }
+/// The note on a run whose values begin late.
+fn run_said(alloc: Global, run: &SimulatedRun) -> Note
+    ensures { Due (λ said. said ≡ late_text (run_in run.now).run.name (run_in run.now).begin) result }
+{
+    note_made(late_note(alloc, run.name.as_slice(), run.begin))
+}
+
+/// The note on the first run whose values begin late.
+#[tactic(auto, using(crate::proofs::WorkLemmas::run_due, crate::proofs::WorkLemmas::run_quiet))]
+fn late_said(alloc: Global, runs: &[SimulatedRun]) -> Note
+    ensures { DueText (late_doubt (find is_late (map run_in runs.now))) result }
+{
+    match first_late(runs) {
+        Some(run) => run_said(alloc, run),
+        None => Note::Silent,
+    }
+}
+
+/// The note on runs whose clock is a data input, or whose values begin late.
+#[tactic(auto, using(crate::proofs::WorkLemmas::clock_due, crate::proofs::WorkLemmas::late_due))]
+fn runs_note(alloc: Global, clock: &str, simulated: &Simulated) -> Note
+    ensures { DueText (runs_doubt clock.now (simulated_in simulated.now)) result }
 {
     if simulated.sampled.data_clock {
         clock_said(alloc, clock, clock_key(&simulated.net))
     } else {
-        Note::Silent
+        late_said(alloc, simulated.sampled.runs.as_slice())
     }
 }
 
-/// Runs, and what is said of their clock.
+/// Runs, and what is doubtful about them.
 fn runs_answer(alloc: Global, clock: &str, simulated: &Simulated) -> Result<Response, NoMemory>
     ensures reply { IfOk result (λ answer. finishes (to_runs clock.now (simulated_in simulated.now)) answer.reply.status answer.reply.text.items) }
-    ensures note { IfOk result (λ answer. DueText (clock_doubt clock.now (simulated_in simulated.now)) answer.note) }
+    ensures note { IfOk result (λ answer. DueText (runs_doubt clock.now (simulated_in simulated.now)) answer.note) }
 {
     let reply = tell_runs(alloc, clock, simulated)?;
-    let note = clock_note(alloc, clock, simulated);
+    let note = runs_note(alloc, clock, simulated);
     Ok(Response { reply, note })
 }
 

@@ -1,3 +1,4 @@
 pub mod NearLemmas
 pub mod LineLemmas
 pub mod WordLemmas
+pub mod ReasonLemmas

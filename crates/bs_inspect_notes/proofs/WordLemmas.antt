@@ -8,7 +8,7 @@ use Rattle.std.specs.declared.alloc.Global.{Global}
 use Rattle.std.proofs.lemmas.List.{drop_more, drop_all}
 use Rattle.bs_bits.specs.declared.memory.NoMemory.{NoMemory}
 use Rattle.bs_note_files.specs.Notes.{plain_text, pair_text}
-use Rattle.bs_inspect_notes.specs.Usages.{behind_text, command_text, commands, first_wrong, hint, is_wrong, line_among, option_name, options, stand_text, usages, word_text, words_text}
+use Rattle.bs_inspect_notes.specs.Usages.{behind_text, command_text, commands, first_wrong, hint, is_wrong, line_among, option_name, options, reason_of, usages, word_text, words_text}
 
 index_is : (ws : List (List ℕ)) (i : ℕ) → slice_index_or ws i [] ≡ get_or ws i []
 index_is [] i = refl
@@ -91,7 +91,7 @@ behind_found words line word number found r e is says =
     (subst (λ (w : List ℕ). IfOk r (λ n. n.items ≡ plain_text (word_text number w (option_name w) (codes "option") options) ++ plain_text line)) is says)
 
 pub behind_none : (words : List (List ℕ)) (line : List ℕ) (found : Option ℕ) (r : Result (Vec ℕ Global) NoMemory) → None ≡ found →
-    IfOk r (λ n. n.items ≡ stand_text line) → IfOk r (λ n. n.items ≡ behind_text words line found)
+    IfOk r (λ n. n.items ≡ plain_text (reason_of words) ++ plain_text line) → IfOk r (λ n. n.items ≡ behind_text words line found)
 behind_none words line found r e says = subst (λ (o : Option ℕ). IfOk r (λ n. n.items ≡ behind_text words line o)) e says
 
 -- two sentences of which the first is this

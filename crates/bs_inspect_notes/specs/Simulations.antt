@@ -41,6 +41,11 @@ word_saying =
     saying (codes "a word of this line cannot stand there, or the command that ends here")
     (codes "a value is `0ID`, `1ID`, `xID`, `zID` or `bBITS ID`, a time `#N`, and times rise")
 
+-- the dump is switched off
+abbrev pub off_saying : Saying
+off_saying =
+    saying (codes "the dump is switched off here: cycles behind this line are not in the text") (codes "take `$dumpoff` out of the bench")
+
 abbrev pub ended_text : List ℕ → List ℕ
 ended_text path =
     file_text path (codes "the text ends in its declarations, in a comment or behind a value") ++
@@ -108,8 +113,9 @@ unknown_sentence subject key time =
     codes "the " ++ (subject_piece subject key ++ (codes " is neither 0 nor 1 before the rising edge at time " ++ decimal time))
 
 abbrev pub unknown_hint : Subject → List ℕ
-unknown_hint Inputs = plain_text (codes "drive each data input before the clock rises first, or begin to dump behind that")
-unknown_hint Flops = plain_text (codes "take a later cycle, or begin with an initial value; of the last cycle the time is that of the last change")
+unknown_hint Inputs = plain_text (codes "drive each data input before the clock rises first: a run begins at reset, and its front cannot be left out")
+unknown_hint Flops =
+    plain_text (codes "take a later cycle, or begin with an initial value; of the last cycle the time is that of the last change; `backspace dump` has the state of a recorded run")
 
 abbrev pub unknown_text : Subject → List ℕ → List ℕ → ℕ → List ℕ
 unknown_text subject file key time = file_text file (unknown_sentence subject key time) ++ unknown_hint subject
@@ -122,11 +128,36 @@ short_text file count =
     file_text file (codes "so often does the clock rise: " ++ (decimal count ++ codes "; there is no such cycle")) ++
     plain_text (codes "cycles count from 0, and each edge ends one; is this the netlist's clock?")
 
+-- a time behind the last one
+abbrev pub time_text : List ℕ → ℕ → List ℕ
+time_text file last =
+    file_text file (codes "the last time of the text is " ++ (decimal last ++ codes "; there is no such time")) ++
+    plain_text (codes "times count in the unit that `$timescale` names, as behind `#` in the text")
+
+-- states that stand before the values
+abbrev pub early_text : List ℕ → ℕ → List ℕ
+early_text file begin =
+    file_text file (codes "the values begin at time " ++ (decimal begin ++ codes ", and the states before that are not in the text")) ++
+    plain_text (codes "a dump with a signature wants them: take a later cycle, or begin to dump at time 0")
+
 -- more edges than a run may have cycles
 abbrev pub cycles_text : List ℕ → List ℕ
 cycles_text file =
     file_text file (codes "the clock rises more than 65536 times, the most cycles of a run") ++
-    plain_text (codes "is this the netlist's clock? dump a shorter time")
+    plain_text (codes "is this the netlist's clock? a run begins at reset: shorten the way to the failure, or end the run earlier")
+
+-- ---- values that begin late
+
+unfoldable pub late_sentence : List ℕ → ℕ → List ℕ
+late_sentence name time = codes "the values of the run " ++ (quoted name ++ (codes " begin at time " ++ decimal time))
+
+abbrev pub late_hint : List ℕ
+late_hint =
+    codes "edges before that are not in them, and a run begins at reset: begin to dump at time 0, or be sure that the clock did not rise before"
+
+-- a run whose values begin at a time behind 0
+abbrev pub late_text : List ℕ → ℕ → List ℕ
+late_text name time = pair_text (late_sentence name time) late_hint
 
 -- ---- a clock that is data
 

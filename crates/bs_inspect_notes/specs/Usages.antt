@@ -1,11 +1,14 @@
 -- How the words of each command stand, and the note on words that are none of them (docs/FORMATS.md, "Words of `backspace_inspect`").
-use Rattle.std.specs.Prelude.{ℕ, ◌+◌, ◌-◌, ◌==◌, ◌&&◌, drop, nat_lt, nat_eq, Bool, false, not, List, [], ◌∷◌, ◌++◌, codes, decimal, length, map, slice_index_or}
+use Rattle.std.specs.Prelude.{ℕ, ◌+◌, ◌-◌, ◌==◌, ◌&&◌, ◌||◌, drop, nat_le, nat_lt, nat_eq, Bool, false, not, List, [], ◌∷◌, ◌++◌, codes, decimal, length, map, slice_index_or}
 use Rattle.std.specs.Prelude.{Option, Some, None, if◌then◌else◌}
 use Rattle.std.specs.List.{list_any, starts_with}
 use Rattle.std.specs.Str.{bytes_eq}
 use Rattle.std.specs.Borrow.{Bor}
+use Rattle.std.specs.Option.{unwrap_or}
+use Rattle.bs_bits.specs.Lines.{number_in}
 use Rattle.bs_net_names.specs.Splits.{Halves, first_split}
 use Rattle.bs_note_files.specs.Notes.{pair_text, plain_text}
+use Rattle.bs_inspect_notes.specs.declared.reason.Bounds.{Bounds}
 use Rattle.bs_inspect_notes.specs.Listings.{quoted, some_near}
 
 -- a command, and how its words stand
@@ -87,13 +90,98 @@ unfoldable pub word_text : ℕ → List ℕ → List ℕ → List ℕ → List (
 word_text number word name what known =
     codes "word " ++ (decimal number ++ (codes ", " ++ (quoted word ++ (codes ", is no " ++ (what ++ some_near name known)))))
 
-abbrev pub stand_text : List ℕ → List ℕ
-stand_text line =
-    pair_text (codes "the words do not stand as this command takes them: its files in this order, and each option that it takes as often as it may stand; --only takes every word up to the next option")
-    line
+-- ---- numbers out of their bounds
+
+abbrev pub bounds : ℕ → ℕ → Bounds
+bounds least most = record { least = least; most = most }
+
+-- the bounds of the number behind an option, where it takes one
+abbrev pub bounds_of : List ℕ → Option Bounds
+bounds_of name =
+    if bytes_eq name (codes "--bits") then Some (bounds 1 256)
+    else (if bytes_eq name (codes "--cycle") || bytes_eq name (codes "--from") then Some (bounds 0 65536)
+    else (if bytes_eq name (codes "--step") || bytes_eq name (codes "--most") then Some (bounds 1 65536)
+    else (if bytes_eq name (codes "--time") then Some (bounds 0 18446744073709551615) else None)))
+
+abbrev pub bounds_or : List ℕ → Bounds
+bounds_or name = unwrap_or (bounds_of name) (bounds 0 0)
+
+abbrev pub behind_sign : List ℕ → Option Halves → List ℕ
+behind_sign next None = next
+behind_sign next (Some h) = h.behind
+
+-- the value that a word gives its option: what stands behind its first `=`, or else the next word
+abbrev pub value_of : (word next : List ℕ) → List ℕ
+value_of word next = behind_sign next (first_split 61 word)
+
+abbrev pub is_between : Bounds → Option ℕ → Bool
+is_between b None = false
+is_between b (Some n) = nat_le b.least n && nat_le n b.most
+
+abbrev pub is_outside : Option Bounds → List ℕ → Bool
+is_outside None value = false
+is_outside (Some b) value = not (is_between b (number_in value))
+
+-- a word that gives an option another value than a number in its bounds
+abbrev pub is_bad : (word next : List ℕ) → Bool
+is_bad word next = is_outside (bounds_of (option_name word)) (value_of word next)
+
+-- the number of the first such word of these, the first of which has this number; behind `--` there is none
+abbrev pub first_bad : ℕ → List (List ℕ) → Option ℕ
+first_bad number [] = None
+first_bad number (w ∷ ws) =
+    if bytes_eq w (codes "--") then None else (if is_bad w (slice_index_or ws 0 []) then Some number else first_bad (number + 1) ws)
+
+-- a word with its number from 1, and the bounds of its option's value
+unfoldable pub bound_text : ℕ → List ℕ → Bounds → List ℕ
+bound_text number word b =
+    codes "word " ++ (decimal number ++ (codes ", " ++ (quoted word ++ (codes ", wants a number in digits from " ++ (decimal b.least ++ (codes " to " ++ decimal b.most))))))
+
+abbrev pub bad_text : List (List ℕ) → ℕ → List ℕ
+bad_text words number = bound_text number (slice_index_or words (number - 1) []) (bounds_or (option_name (slice_index_or words (number - 1) [])))
+
+-- ---- options that are missing
+
+-- some word gives an option with this name
+abbrev pub gives : List ℕ → List (List ℕ) → Bool
+gives option words = list_any (λ w. bytes_eq (option_name w) option) words
+
+abbrev pub lack_if : Bool → List ℕ → Option (List ℕ)
+lack_if given sentence = if given then None else Some sentence
+
+-- what is said of an option without which a command does not go, where the words lack it
+abbrev pub lack_of : List ℕ → List (List ℕ) → Option (List ℕ)
+lack_of command words =
+    if bytes_eq command (codes "stimulus")
+    then lack_if (gives (codes "--clock") words) (codes "`--clock NAME` is missing: the name that the clock has in the simulation")
+    else (if bytes_eq command (codes "signature")
+    then lack_if (gives (codes "--bits") words) (codes "`--bits N` is missing: how many bits the signature has")
+    else (if bytes_eq command (codes "dump")
+    then lack_if (gives (codes "--cycle") words || gives (codes "--time") words) (codes "`--cycle N` or `--time T` is missing: the moment of the dump")
+    else None))
+
+-- ---- the reason
+
+abbrev pub stand_sentence : List ℕ
+stand_sentence =
+    codes "the words do not stand as this command takes them: its files in this order, and each option that it takes as often as it may stand; --only takes every word up to the next option"
+
+abbrev pub number_text : List (List ℕ) → Option ℕ → List ℕ
+number_text words None = stand_sentence
+number_text words (Some number) = bad_text words number
+
+abbrev pub reason_text : List (List ℕ) → Option (List ℕ) → List ℕ
+reason_text words None = number_text words (first_bad 2 (drop 1 words))
+reason_text words (Some sentence) = sentence
+
+-- why the words of a command, which is the first, do not stand as it takes them
+abbrev pub reason_of : List (List ℕ) → List ℕ
+reason_of words = reason_text words (lack_of (slice_index_or words 0 []) words)
+
+-- ---- the note on words
 
 abbrev pub behind_text : List (List ℕ) → List ℕ → Option ℕ → List ℕ
-behind_text words line None = stand_text line
+behind_text words line None = plain_text (reason_of words) ++ plain_text line
 behind_text words line (Some number) =
     plain_text (word_text number (slice_index_or words (number - 1) []) (option_name (slice_index_or words (number - 1) [])) (codes "option") options)
     ++ plain_text line

@@ -3,7 +3,7 @@ ghost use Rattle.std.specs.Prelude.{◌≡◌, ◌<◌, ◌++◌, length, map, n
 ghost use Rattle.std.specs.List.{list_any, position};
 ghost use Rattle.std.specs.Str.{bytes_eq};
 ghost use Rattle.bs_vcd_header.specs.Tokens.{is_white};
-ghost use Rattle.bs_inspect_notes.specs.Simulations.{any_sentence, begins, clock_piece, clock_sentence, clock_text, cycles_text, data_clock_text, data_sentence, ended_text, foreign, has_scope, input_hint, input_sentence, input_text, own_sentence, path_sentence, scope_sentence, scoped_sentence, short_text, subject_piece, unknown_hint, unknown_sentence, unknown_text};
+ghost use Rattle.bs_inspect_notes.specs.Simulations.{any_sentence, begins, clock_piece, clock_sentence, clock_text, cycles_text, data_clock_text, data_sentence, early_text, ended_text, foreign, has_scope, input_hint, input_sentence, input_text, late_hint, late_sentence, late_text, own_sentence, path_sentence, scope_sentence, scoped_sentence, short_text, subject_piece, time_text, unknown_hint, unknown_sentence, unknown_text};
 
 use crate::listing::{push_name, push_some_listing, push_some_near};
 use crate::name::{Subject, subject_word};
@@ -290,10 +290,10 @@ fn unknown_hint(subject: Subject) -> &'static [u8]
 {
     match subject {
         Subject::Inputs => {
-            b"note: drive each data input before the clock rises first, or begin to dump behind that\n"
+            b"note: drive each data input before the clock rises first: a run begins at reset, and its front cannot be left out\n"
         }
         Subject::Flops => {
-            b"note: take a later cycle, or begin with an initial value; of the last cycle the time is that of the last change\n"
+            b"note: take a later cycle, or begin with an initial value; of the last cycle the time is that of the last change; `backspace dump` has the state of a recorded run\n"
         }
     }
 }
@@ -331,6 +331,39 @@ pub fn short_note(alloc: Global, file: &str, count: u64) -> Result<Vec<u8>, NoMe
     Ok(note)
 }
 
+/// A note on a time behind the last one of values.
+pub fn time_note(alloc: Global, file: &str, last: u64) -> Result<Vec<u8>, NoMemory>
+    ensures { IfOk result (λ note. note.items ≡ time_text file.now last) }
+{
+    let mut said = b"the last time of the text is ".to_vec(alloc)?;
+    push_number(&mut said, last)?;
+    push_piece(&mut said, b"; there is no such time")?;
+    let mut note = file_note(alloc, file, &said)?;
+    push_piece(
+        &mut note,
+        b"note: times count in the unit that `$timescale` names, as behind `#` in the text\n",
+    )?;
+    Ok(note)
+}
+
+/// A note on states that stand before values, which begin at a time.
+pub fn early_note(alloc: Global, file: &str, begin: u64) -> Result<Vec<u8>, NoMemory>
+    ensures { IfOk result (λ note. note.items ≡ early_text file.now begin) }
+{
+    let mut said = b"the values begin at time ".to_vec(alloc)?;
+    push_number(&mut said, begin)?;
+    push_piece(
+        &mut said,
+        b", and the states before that are not in the text",
+    )?;
+    let mut note = file_note(alloc, file, &said)?;
+    push_piece(
+        &mut note,
+        b"note: a dump with a signature wants them: take a later cycle, or begin to dump at time 0\n",
+    )?;
+    Ok(note)
+}
+
 /// A note on values that have too many edges.
 pub fn cycles_note(alloc: Global, file: &str) -> Result<Vec<u8>, NoMemory>
     ensures { IfOk result (λ note. note.items ≡ cycles_text file.now) }
@@ -342,8 +375,46 @@ pub fn cycles_note(alloc: Global, file: &str) -> Result<Vec<u8>, NoMemory>
     )?;
     push_piece(
         &mut note,
-        b"note: is this the netlist's clock? dump a shorter time\n",
+        b"note: is this the netlist's clock? a run begins at reset: shorten the way to the failure, or end the run earlier\n",
     )?;
+    Ok(note)
+}
+
+// ---- values that begin late
+
+/// Appends that values begin at a time.
+fn push_begin(said: &mut Vec<u8>, time: u64) -> Result<(), NoMemory>
+    ensures { OnOk result (said.new.items ≡ said.old.items ++ (codes " begin at time " ++ decimal time)) }
+{
+    push_piece(said, b" begin at time ")?;
+    push_number(said, time)?;
+    Ok(())
+}
+
+/// What is said of a run whose values begin late.
+#[tactic(auto, unfolding(crate::specs::Simulations::late_sentence))]
+fn late_sentence(alloc: Global, name: &[u8], time: u64) -> Result<Vec<u8>, NoMemory>
+    ensures { IfOk result (λ said. said.items ≡ late_sentence name.now time) }
+{
+    let mut said = b"the values of the run ".to_vec(alloc)?;
+    push_name(&mut said, name)?;
+    push_begin(&mut said, time)?;
+    Ok(said)
+}
+
+/// What to do about values that begin late.
+fn late_hint() -> &'static [u8]
+    ensures { result.now ≡ late_hint }
+{
+    b"edges before that are not in them, and a run begins at reset: begin to dump at time 0, or be sure that the clock did not rise before"
+}
+
+/// A note on a run with this name whose values begin at a time behind 0.
+pub fn late_note(alloc: Global, name: &[u8], time: u64) -> Result<Vec<u8>, NoMemory>
+    ensures { IfOk result (λ note. note.items ≡ late_text name.now time) }
+{
+    let said = late_sentence(alloc, name, time)?;
+    let note = pair_note(alloc, &said, late_hint())?;
     Ok(note)
 }
 

@@ -4,10 +4,11 @@ ghost use Rattle.std.specs.List.{flat_map, list_any};
 ghost use Rattle.std.specs.Str.{bytes_eq};
 ghost use Rattle.bs_bits.specs.Lines.{line};
 ghost use Rattle.bs_note_files.specs.Notes.{plain_text};
-ghost use Rattle.bs_inspect_notes.specs.Usages.{behind_text, command_text, commands, first_wrong, hint, is_wrong, line_among, line_in, option_name, options};
+ghost use Rattle.bs_inspect_notes.specs.Usages.{behind_text, command_text, commands, first_wrong, hint, is_wrong, line_among, line_in, option_name, options, reason_of};
 ghost use Rattle.bs_inspect_notes.specs.Usages.{unread_text, usages, word_text, words_text};
 
 use crate::listing::{push_name, push_some_near};
+use crate::reason::reason_sentence;
 use bs_bits::{NoMemory, push_line, push_number, push_piece};
 use bs_net_names::first_split;
 use bs_note_files::pair_note;
@@ -167,7 +168,7 @@ fn usage_of(name: &[u8]) -> Option<&'static str>
 // ---- wrong words
 
 /// The name of the option that a word gives.
-fn option_name(word: &[u8]) -> &[u8]
+pub fn option_name(word: &[u8]) -> &[u8]
     ensures { result.now ≡ option_name word.now }
 {
     match first_split(b'=', word) {
@@ -263,6 +264,14 @@ fn option_note(alloc: Global, number: usize, word: &[u8], line: &str) -> Result<
     pair_note(alloc, &said, line.as_bytes())
 }
 
+/// A note on the words of a command that stand so, by the reason why these do not.
+fn reason_note(alloc: Global, words: &[String], line: &str) -> Result<Vec<u8>, NoMemory>
+    ensures { IfOk result (λ note. note.items ≡ plain_text (reason_of (map string_bytes words.now)) ++ plain_text line.now) }
+{
+    let said = reason_sentence(alloc, words)?;
+    pair_note(alloc, &said, line.as_bytes())
+}
+
 /// A note on the words behind a command that stand so.
 #[tactic(auto, using(crate::proofs::WordLemmas::behind_found, crate::proofs::WordLemmas::behind_none))]
 fn behind_note(alloc: Global, words: &[String], line: &str) -> Result<Vec<u8>, NoMemory>
@@ -270,11 +279,7 @@ fn behind_note(alloc: Global, words: &[String], line: &str) -> Result<Vec<u8>, N
 {
     match first_wrong(words) {
         Some(number) => option_note(alloc, number, word_at(words, number - 1), line),
-        None => pair_note(
-            alloc,
-            b"the words do not stand as this command takes them: its files in this order, and each option that it takes as often as it may stand; --only takes every word up to the next option",
-            line.as_bytes(),
-        ),
+        None => reason_note(alloc, words, line),
     }
 }
 

@@ -2,6 +2,7 @@
 use Rattle.std.specs.Prelude.{◌≡◌, ℕ, ◌+◌, ◌-◌, ◌==◌, ◌||◌, Bool, List, [], ◌∷◌, ◌++◌, length, codes, decimal, slice_get, slice_index_or, Option, Some, None}
 use Rattle.std.specs.Prelude.{if◌then◌else◌}
 use Rattle.std.specs.List.{flat_map, list_any, range_with_len}
+use Rattle.std.specs.Str.{bytes_eq}
 use Rattle.bs_bits.specs.Lines.{line}
 use Rattle.bs_net_names.specs.Rtl.{rtl_text}
 use Rattle.bs_net_names.specs.Signals.{Signal}
@@ -31,9 +32,18 @@ field text = if list_any is_special text then 34 ∷ (flat_map doubled text ++ 3
 
 -- ---- the trace
 
+-- the names of the first columns
+abbrev pub is_column : List ℕ → Bool
+is_column name =
+    bytes_eq name (codes "state") || (bytes_eq name (codes "from") || (bytes_eq name (codes "run") || bytes_eq name (codes "cycle")))
+
+-- what stands before a name: `\` where it is that of one of the first columns
+abbrev pub mark : List ℕ → List ℕ
+mark name = if is_column name then codes "\\" else []
+
 -- the name of a signal, as RTL writes it
 abbrev pub name_cell : Signal → List ℕ
-name_cell s = codes "," ++ field (rtl_text s)
+name_cell s = codes "," ++ (mark (rtl_text s) ++ field (rtl_text s))
 
 abbrev pub name_cells : List Signal → List ℕ
 name_cells signals = flat_map name_cell signals

@@ -1,9 +1,10 @@
 //! The trace of a report as a table for scripts.
 ghost use Rattle.std.specs.Prelude.{◌≡◌, ◌<◌, ◌+◌, ◌^◌, ◌++◌, codes, decimal, length, map, slice_get, All, IfOk, OnOk, option_map};
 ghost use Rattle.std.specs.List.{flat_map, range_with_len};
+ghost use Rattle.std.specs.Str.{bytes_eq};
 ghost use Rattle.bs_net_names.specs.Rtl.{rtl_text};
 ghost use Rattle.bs_net_names.specs.Signals.{signal_in};
-ghost use Rattle.bs_inspect_report.specs.Table.{TellsTable, head_row, hit_cells, name_cell, name_cells, origin_cells, state_row, step_cells, trace_rows, value_cell, value_cells};
+ghost use Rattle.bs_inspect_report.specs.Table.{TellsTable, head_row, hit_cells, is_column, mark, name_cell, name_cells, origin_cells, state_row, step_cells, trace_rows, value_cell, value_cells};
 ghost use Rattle.bs_inspect_report.specs.Lines.{signals_in};
 
 use crate::field::push_field;
@@ -26,12 +27,41 @@ fn name_of(alloc: Global, signal: &Signal<'_>) -> Result<Vec<u8>, NoMemory>
     Ok(name)
 }
 
+/// Whether two texts are the same.
+fn is_text(text: &[u8], word: &[u8]) -> bool
+    ensures { result ≡ bytes_eq text.now word.now }
+{
+    text == word
+}
+
+/// Whether a name is that of one of the first columns.
+fn is_column(name: &[u8]) -> bool
+    ensures { result ≡ is_column name.now }
+{
+    is_text(name, b"state")
+        || is_text(name, b"from")
+        || is_text(name, b"run")
+        || is_text(name, b"cycle")
+}
+
+/// Appends a `\`, where a name is that of one of the first columns.
+fn push_mark(text: &mut Vec<u8>, name: &[u8]) -> Result<(), NoMemory>
+    ensures { OnOk result (text.new.items ≡ text.old.items ++ mark name.now) }
+{
+    if is_column(name) {
+        push_piece(text, b"\\")
+    } else {
+        Ok(())
+    }
+}
+
 /// Appends the name of a signal behind a comma.
 fn push_name_cell(text: &mut Vec<u8>, signal: &Signal<'_>) -> Result<(), NoMemory>
     ensures { OnOk result (text.new.items ≡ text.old.items ++ name_cell (signal_in signal.now)) }
 {
     let name = name_of(*text.allocator(), signal)?;
     push_piece(text, b",")?;
+    push_mark(text, name.as_slice())?;
     push_field(text, name.as_slice())
 }
 

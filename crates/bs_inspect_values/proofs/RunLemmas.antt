@@ -1,7 +1,8 @@
 -- The runs that were simulated, and their text.
-use Rattle.std.proofs.Common.{◌≡◌, ℕ, ◌<◌, ◌≤◌, ◌+◌, Bool, true, false, cond, nat_le, nat_lt, List, [], ◌∷◌, ◌++◌, length, map, take, get_or, codes, ap, sym, subst, ◌∙◌, refl, arith}
+use Rattle.std.proofs.Common.{◌≡◌, ℕ, ◌<◌, ◌≤◌, ◌+◌, Bool, true, false, cond, nat_le, nat_lt, List, [], ◌∷◌, ◌++◌, length, map, take, get_or, codes, ap, sym, subst, ◌∙◌, refl, arith, find, Option, Some, None, Bor}
 use Rattle.std.specs.Prelude.{All, ◌==◌, ◌&&◌}
 use Rattle.std.specs.List.{AllByRecursion, flat_map}
+use Rattle.std.specs.Option.{option_map}
 use Rattle.std.proofs.Math.Dec.{eqb-suc-zero}
 use Rattle.std.proofs.lemmas.Bool.{and_from, lt-ltb}
 use Rattle.std.proofs.lemmas.Grind.{flat_map-append}
@@ -9,12 +10,14 @@ use Rattle.std.proofs.lemmas.List.{append-nil, length-map, length-take, map_more
 use Rattle.std.proofs.lemmas.List.Elements.{All-cons, All-nil, recursion_from_All}
 use Rattle.bs_bits.specs.Lines.{is_name, is_visible}
 use Rattle.bs_stim.specs.declared.limits.TheConstants.{MAX_NAME}
-use Rattle.bs_stim.specs.Runs.{Stimulus, IsRecorded}
+use Rattle.bs_stim.specs.Runs.{Recorded, Stimulus, IsRecorded}
 use Rattle.bs_stim.specs.StimulusText.{run_text}
 use Rattle.bs_stim.proofs.ReadBackLemmas.{stimuli_read_back}
 use Rattle.bs_inspect_values.specs.declared.run.SimulatedRun.{SimulatedRun as CodeSimulatedRun}
+use Rattle.bs_vcd.specs.declared.sampling.SampledLines.{SampledLines}
+use Rattle.bs_vcd.specs.Cycles.{begin_in}
 use Rattle.bs_inspect_values.specs.Law.{Files, IsFile, RunsReadBack, runs_of}
-use Rattle.bs_inspect_values.specs.SimulatedRun.{leaf_of, name_byte, or_vcd, run_in, runs_text, simulated, stem_of}
+use Rattle.bs_inspect_values.specs.SimulatedRun.{SimulatedRun, is_late, leaf_of, name_byte, or_vcd, recorded, recorded_in, run_in, run_name, runs_text, simulated, simulated_text, stem_of}
 
 -- ---- the name
 
@@ -59,20 +62,55 @@ name_short : (s : List ℕ) → length (or_vcd (map name_byte (take MAX_NAME s))
 name_short s =
     short_vcd (map name_byte (take MAX_NAME s)) (omega (arith, length-map (take MAX_NAME s) name_byte, length-take MAX_NAME s))
 
+-- ---- a run
+
+abbrev begun : List ℕ → List (List Bool) → ℕ → SimulatedRun
+begun name lines begin = record { run = record { name = name; inputs = lines }; begin = begin }
+
+pub simulated_by : (path name : List ℕ) (sampled : SampledLines) (begin : ℕ) → name ≡ run_name path → begin ≡ begin_in sampled →
+    begun name sampled.lines begin ≡ simulated path sampled
+simulated_by path name sampled begin e f = λ i. begun (e i) sampled.lines (f i)
+
 -- ---- the text
 
-pub runs_more : (text : List ℕ) (runs : List CodeSimulatedRun) (i : ℕ) (d : CodeSimulatedRun) → i < length runs → text ≡ runs_text (map run_in (take i runs)) →
-    text ++ run_text (run_in (get_or runs i d)) ≡ runs_text (map run_in (take (i + 1) runs))
+pub runs_more : (text : List ℕ) (runs : List CodeSimulatedRun) (i : ℕ) (d : CodeSimulatedRun) → i < length runs → text ≡ runs_text (map recorded_in (take i runs)) →
+    text ++ run_text (recorded_in (get_or runs i d)) ≡ runs_text (map recorded_in (take (i + 1) runs))
 runs_more text runs i d lt e =
-    ap (λ (t : List ℕ). t ++ run_text (run_in (get_or runs i d))) e
-    ∙ (ap (λ (t : List ℕ). runs_text (map run_in (take i runs)) ++ t) (sym (append-nil (run_text (run_in (get_or runs i d)))))
-    ∙ (sym (flat_map-append run_text (map run_in (take i runs)) (run_in (get_or runs i d) ∷ []))
-    ∙ ap runs_text (sym (map_more run_in runs i d lt))))
+    ap (λ (t : List ℕ). t ++ run_text (recorded_in (get_or runs i d))) e
+    ∙ (ap (λ (t : List ℕ). runs_text (map recorded_in (take i runs)) ++ t) (sym (append-nil (run_text (recorded_in (get_or runs i d)))))
+    ∙ (sym (flat_map-append run_text (map recorded_in (take i runs)) (recorded_in (get_or runs i d) ∷ []))
+    ∙ ap runs_text (sym (map_more recorded_in runs i d lt))))
+
+-- the runs of what was simulated
+runs_by : (runs : List CodeSimulatedRun) → map recorded_in runs ≡ map (λ r. r.run) (map run_in runs)
+runs_by [] = refl
+runs_by (r ∷ rs) = ap (λ (xs : List Recorded). recorded_in r ∷ xs) (runs_by rs)
+
+pub text_by : (text : List ℕ) (runs : List CodeSimulatedRun) → text ≡ runs_text (map recorded_in runs) → text ≡ simulated_text (map run_in runs)
+text_by text runs e = e ∙ ap runs_text (runs_by runs)
+
+-- ---- values that begin late
+
+late_as : (runs : List CodeSimulatedRun) → option_map run_in (find (λ r. nat_lt 0 r.begin) runs) ≡ find is_late (map run_in runs)
+late_as [] = refl
+late_as (r ∷ rs) = by (nat_lt 0 r.begin)
+  where
+    by : (b : Bool) → option_map run_in (cond b (Some r) (find (λ x. nat_lt 0 x.begin) rs)) ≡ cond b (Some (run_in r)) (find is_late (map run_in rs))
+    by true = refl
+    by false = late_as rs
+
+seen : (found : Option (Bor CodeSimulatedRun)) → option_map (λ r. run_in r.now) found ≡ option_map run_in (option_map (λ r. r.now) found)
+seen None = refl
+seen (Some r) = refl
+
+pub late_by : (found : Option (Bor CodeSimulatedRun)) (runs : List CodeSimulatedRun) →
+    option_map (λ r. r.now) found ≡ find (λ r. nat_lt 0 r.begin) runs → option_map (λ r. run_in r.now) found ≡ find is_late (map run_in runs)
+late_by found runs e = seen found ∙ (ap (option_map run_in) e ∙ late_as runs)
 
 -- ---- read back
 
-recorded : (width : ℕ) (path : List ℕ) (lines : List (List Bool)) → IsFile width path lines → IsRecorded width (simulated path lines)
-recorded width path lines h = record {
+is_recorded : (width : ℕ) (path : List ℕ) (lines : List (List Bool)) → IsFile width path lines → IsRecorded width (recorded path lines)
+is_recorded width path lines h = record {
   named = name_is (map name_byte (take MAX_NAME (stem_of (leaf_of path)))) (bytes_seen (take MAX_NAME (stem_of (leaf_of path))));
   short_name = name_short (stem_of (leaf_of path));
   few_cycles = h.few;
@@ -82,12 +120,12 @@ recorded width path lines h = record {
 all_recorded : (width : ℕ) (files : Files) → AllByRecursion (λ f. IsFile width f.0 f.1) files → All (IsRecorded width) (runs_of files)
 all_recorded width [] h = All-nil (IsRecorded width)
 all_recorded width (f ∷ fs) h =
-    All-cons (IsRecorded width) (simulated f.0 f.1) (runs_of fs) (recorded width f.0 f.1 h.0) (all_recorded width fs h.1)
+    All-cons (IsRecorded width) (recorded f.0 f.1) (runs_of fs) (is_recorded width f.0 f.1 h.0) (all_recorded width fs h.1)
 
 pub runs_read_back : RunsReadBack
 runs_read_back width files some few all =
     let stimulus : Stimulus = record { width = width; runs = runs_of files } in
-    let each : length (runs_of files) ≡ length files = length-map files (λ (f : List ℕ × List (List Bool)). simulated f.0 f.1) in
+    let each : length (runs_of files) ≡ length files = length-map files (λ (f : List ℕ × List (List Bool)). recorded f.0 f.1) in
     stimuli_read_back stimulus
     (record {
       some_run = omega (arith, some, each);

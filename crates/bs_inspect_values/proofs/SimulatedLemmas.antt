@@ -2,7 +2,6 @@
 use Rattle.std.proofs.Common.{◌≡◌, ℕ, Bool, List, [], ◌∷◌, ◌||◌, length, map, Option, Bor, Result, Ok, Err, refl, ap, sym, subst, ◌∙◌, arith}
 use Rattle.std.specs.List.{list_any}
 use Rattle.bs_outside.specs.Calls.{FetchCall}
-use Rattle.bs_stim.specs.Runs.{Recorded}
 use Rattle.bs_net_names.specs.Keys.{KeyParts, key_parts}
 use Rattle.bs_net_names.specs.Rtl.{same_name}
 use Rattle.bs_top_plan.specs.declared.diagnostic.WalkStop.{WalkStop}
@@ -11,7 +10,7 @@ use Rattle.bs_top_plan.specs.Telling.{WalksDiagnosed}
 use Rattle.bs_top_plan.proofs.TellingLemmas.{diagnosed_stop, diagnosed_then}
 use Rattle.bs_top_files.specs.NoteCases.{NoteCase, NoteSays}
 use Rattle.bs_top_files.specs.Refusals.{Case, CheckSays}
-use Rattle.bs_inspect_values.specs.SimulatedRun.{is_data}
+use Rattle.bs_inspect_values.specs.SimulatedRun.{SimulatedRun, is_data}
 use Rattle.bs_inspect_values.specs.Simulated.{Clocked, run_behind, run_behind_looked, runs_behind, runs_behind_looked}
 use Rattle.bs_inspect_values.proofs.WalkLemmas.{diagnosed_ends}
 
@@ -23,14 +22,14 @@ shown texts = map (λ s. s.now) texts
 
 -- a walk over these files
 abbrev pub Follows : {S U : Type 0} (held : S → Tells) (faults : S → Counts) (leads : S → FetchCall → S → Type 0) (before now : S)
-    (keys names : List (List ℕ)) → Clocked → (old new : List Recorded) → List (List ℕ) → Result U WalkStop → Type 0
+    (keys names : List (List ℕ)) → Clocked → (old new : List SimulatedRun) → List (List ℕ) → Result U WalkStop → Type 0
 Follows held faults leads before now keys names at old new vcds result =
     WalksDiagnosed CheckSays NoteSays held faults leads before now (runs_behind keys names at old vcds) (runs_behind_looked keys names at old vcds)
     (λ _. new) (λ _. new) result
 
 -- no file is left
 pub none_left : {S U : Type 0} {held : S → Tells} {faults : S → Counts} {leads : S → FetchCall → S → Type 0} {before : S} (keys names : List (List ℕ))
-    (at : Clocked) (runs : List Recorded) (vcds : Texts) (u : U) → vcds ≡ [] → Follows held faults leads before before keys names at runs runs (map (λ s. s.now) vcds) (Ok u)
+    (at : Clocked) (runs : List SimulatedRun) (vcds : Texts) (u : U) → vcds ≡ [] → Follows held faults leads before before keys names at runs runs (map (λ s. s.now) vcds) (Ok u)
 unfolding runs_behind runs_behind_looked
 none_left {U = U} {held = held} {faults = faults} {leads = leads} {before = before} keys names at runs vcds u none =
     subst (λ (vs : Texts). Follows held faults leads before before keys names at runs runs (shown vs) (Ok u)) (sym none)
@@ -42,7 +41,7 @@ no_texts (v ∷ vs) e = absurd (omega (arith, e))
 
 -- a file, and then the others
 pub one_more : {S U T : Type 0} {held : S → Tells} {faults : S → Counts} {leads : S → FetchCall → S → Type 0} {before mid now : S}
-    (keys names : List (List ℕ)) (at : Clocked) (old some new : List Recorded) (vcds rest : Texts) (vcd : Bor (List ℕ)) (u : T) (result : Result U WalkStop) →
+    (keys names : List (List ℕ)) (at : Clocked) (old some new : List SimulatedRun) (vcds rest : Texts) (vcd : Bor (List ℕ)) (u : T) (result : Result U WalkStop) →
     vcds ≡ vcd ∷ rest →
     WalksDiagnosed CheckSays NoteSays held faults leads before mid (run_behind keys names at old vcd.now) (run_behind_looked keys names at old vcd.now)
     (λ _. some) (λ _. some) (Ok u) →
@@ -50,20 +49,20 @@ pub one_more : {S U T : Type 0} {held : S → Tells} {faults : S → Counts} {le
     Follows held faults leads before now keys names at old new (map (λ s. s.now) vcds) result
 unfolding runs_behind runs_behind_looked
 one_more {held = held} {faults = faults} {leads = leads} {before = before} {now = now} keys names at old some new vcds rest vcd u result e first later =
-    let f : List Recorded → Plan Case (List Recorded) = λ more. runs_behind keys names at more (shown rest) in
-    let h : List Recorded → Plan NoteCase (List Recorded) = λ more. runs_behind_looked keys names at more (shown rest) in
+    let f : List SimulatedRun → Plan Case (List SimulatedRun) = λ more. runs_behind keys names at more (shown rest) in
+    let h : List SimulatedRun → Plan NoteCase (List SimulatedRun) = λ more. runs_behind_looked keys names at more (shown rest) in
     subst (λ (vs : Texts). Follows held faults leads before now keys names at old new (shown vs) result) (sym e) (diagnosed_then f h first later)
 
 -- a file that stops the walk
 pub one_stops : {S U T : Type 0} {held : S → Tells} {faults : S → Counts} {leads : S → FetchCall → S → Type 0} {before now : S}
-    (keys names : List (List ℕ)) (at : Clocked) (old some new : List Recorded) (vcds rest : Texts) (vcd : Bor (List ℕ)) (stop : WalkStop) →
+    (keys names : List (List ℕ)) (at : Clocked) (old some new : List SimulatedRun) (vcds rest : Texts) (vcd : Bor (List ℕ)) (stop : WalkStop) →
     vcds ≡ vcd ∷ rest →
     WalksDiagnosed {T = T} CheckSays NoteSays held faults leads before now (run_behind keys names at old vcd.now) (run_behind_looked keys names at old vcd.now)
     (λ _. some) (λ _. some) (Err stop) → Follows {U = U} held faults leads before now keys names at old new (map (λ s. s.now) vcds) (Err stop)
 unfolding runs_behind runs_behind_looked
 one_stops {U = U} {held = held} {faults = faults} {leads = leads} {before = before} {now = now} keys names at old some new vcds rest vcd stop e first =
-    let f : List Recorded → Plan Case (List Recorded) = λ more. runs_behind keys names at more (shown rest) in
-    let h : List Recorded → Plan NoteCase (List Recorded) = λ more. runs_behind_looked keys names at more (shown rest) in
+    let f : List SimulatedRun → Plan Case (List SimulatedRun) = λ more. runs_behind keys names at more (shown rest) in
+    let h : List SimulatedRun → Plan NoteCase (List SimulatedRun) = λ more. runs_behind_looked keys names at more (shown rest) in
     subst (λ (vs : Texts). Follows {U = U} held faults leads before now keys names at old new (shown vs) (Err stop)) (sym e) (diagnosed_stop f h first)
 
 -- ---- the clock

@@ -20,6 +20,7 @@ use Rattle.bs_vcd_header.specs.declared.fault.VcdFault.{VcdFault}
 use Rattle.bs_vcd_header.specs.declared.fault.VcdFault.TheVariants.{NoMemory as Want}
 use Rattle.bs_vcd_header.specs.Sources.{scope_of}
 use Rattle.bs_vcd.specs.declared.cycles.When.{When}
+use Rattle.bs_vcd.specs.declared.sampling.SampledLines.{SampledLines}
 use Rattle.bs_vcd.specs.Cycles.{states_in}
 use Rattle.bs_vcd.specs.Stimulus.{stimulus_in}
 use Rattle.bs_top_plan.specs.declared.walk.Refusal.{Refusal}
@@ -33,73 +34,76 @@ use Rattle.bs_inspect_values.specs.Simulated.{few_lines, lines_read}
 abbrev Lines : Type 0
 Lines = Result (List (List Bool)) VcdFault
 
--- the lines of the values, where there are few enough
-pub lines_ok : {T : Type 0} (view : T → List (List Bool)) (keys names : List (List ℕ)) (scope : Option (List ℕ)) (clock bytes : List ℕ) (lines : List (List Bool))
-    (r : Result T Refusal) → stimulus_in bytes scope clock names ≡ Ok lines → Reads CheckSays view (few_lines (Ok lines)) r →
-    Reads CheckSays view (lines_read keys names scope clock bytes) r
-lines_ok view keys names scope clock bytes lines r e h =
-    subst (λ (x : Lines). Reads CheckSays view (few_lines (with_reason (vcd_reason keys) x)) r) (sym e) h
+abbrev Timed : Type 0
+Timed = Result SampledLines VcdFault
 
-refused : {T : Type 0} (view : T → List (List Bool)) (keys : List (List ℕ)) (fault : VcdFault) (q : Refusal) → HasWords (vcd_words keys fault) q →
+-- the lines of the values, where there are few enough
+pub lines_ok : {T : Type 0} (view : T → SampledLines) (keys names : List (List ℕ)) (scope : Option (List ℕ)) (clock bytes : List ℕ) (sampled : SampledLines)
+    (r : Result T Refusal) → stimulus_in bytes scope clock names ≡ Ok sampled → Reads CheckSays view (few_lines (Ok sampled)) r →
+    Reads CheckSays view (lines_read keys names scope clock bytes) r
+lines_ok view keys names scope clock bytes sampled r e h =
+    subst (λ (x : Timed). Reads CheckSays view (few_lines (with_reason (vcd_reason keys) x)) r) (sym e) h
+
+refused : {T : Type 0} (view : T → SampledLines) (keys : List (List ℕ)) (fault : VcdFault) (q : Refusal) → HasWords (vcd_words keys fault) q →
     Reads CheckSays view (few_lines (with_reason (vcd_reason keys) (Err fault))) (Err q)
 refused view keys fault Q.NoMemory h = tt
 refused view keys fault (Q.Why why) h = h
 
 -- the words of a fault of the values
-pub lines_err : {T : Type 0} (view : T → List (List Bool)) (keys names : List (List ℕ)) (scope : Option (List ℕ)) (clock bytes : List ℕ) (fault : VcdFault)
+pub lines_err : {T : Type 0} (view : T → SampledLines) (keys names : List (List ℕ)) (scope : Option (List ℕ)) (clock bytes : List ℕ) (fault : VcdFault)
     (q : Refusal) → (fault ≡ Want) ⊎ (stimulus_in bytes scope clock names ≡ Err fault) → HasWords (vcd_words keys fault) q →
     (fault ≡ Want → q ≡ Q.NoMemory) → Reads CheckSays view (lines_read keys names scope clock bytes) (Err q)
 lines_err {T = T} view keys names scope clock bytes fault q (inl want) words wants =
     subst (λ (x : Refusal). Reads {T = T} CheckSays view (lines_read keys names scope clock bytes) (Err x)) (sym (wants want)) tt
 lines_err {T = T} view keys names scope clock bytes fault q (inr e) words wants =
-    subst (λ (x : Lines). Reads {T = T} CheckSays view (few_lines (with_reason (vcd_reason keys) x)) (Err q)) (sym e) (refused view keys fault q words)
+    subst (λ (x : Timed). Reads {T = T} CheckSays view (few_lines (with_reason (vcd_reason keys) x)) (Err q)) (sym e) (refused view keys fault q words)
 
 -- ---- as the note sees it
 
 -- the lines of the values, where there are few enough
-pub lines_noted_ok : {T : Type 0} (view : T → List (List Bool)) (path : List ℕ) (keys names : List (List ℕ)) (scope : Option (List ℕ)) (clock text : List ℕ)
-    (lines : List (List Bool)) (r : Result T Refusal) → stimulus_in text scope clock names ≡ Ok lines → Reads NoteSays view (few_noted path (Ok lines)) r →
+pub lines_noted_ok : {T : Type 0} (view : T → SampledLines) (path : List ℕ) (keys names : List (List ℕ)) (scope : Option (List ℕ)) (clock text : List ℕ)
+    (sampled : SampledLines) (r : Result T Refusal) → stimulus_in text scope clock names ≡ Ok sampled → Reads NoteSays view (few_noted path (Ok sampled)) r →
     Reads NoteSays view (lines_noted path keys names scope clock text) r
-lines_noted_ok view path keys names scope clock text lines r e h =
-    subst (λ (x : Lines). Reads NoteSays view (few_noted path (noted_by (vcd_note_reason Inputs path text keys names scope clock) x)) r) (sym e) h
+lines_noted_ok view path keys names scope clock text sampled r e h =
+    subst (λ (x : Timed). Reads NoteSays view (few_noted path (noted_by (vcd_note_reason Inputs path text keys names scope clock) x)) r) (sym e) h
 
-noted_refused : {T : Type 0} (view : T → List (List Bool)) (path : List ℕ) (reason : Reason NoteCase) (q : Refusal) → HasNote reason q →
+noted_refused : {T : Type 0} (view : T → SampledLines) (path : List ℕ) (reason : Reason NoteCase) (q : Refusal) → HasNote reason q →
     Reads NoteSays view (few_noted path (Err reason)) (Err q)
 noted_refused view path reason Q.NoMemory h = tt
 noted_refused view path reason (Q.Why why) h = h
 
 -- the note on a fault of the values
-pub lines_noted_err : {T : Type 0} (view : T → List (List Bool)) (path : List ℕ) (keys names : List (List ℕ)) (scope : Option (List ℕ)) (clock text : List ℕ)
+pub lines_noted_err : {T : Type 0} (view : T → SampledLines) (path : List ℕ) (keys names : List (List ℕ)) (scope : Option (List ℕ)) (clock text : List ℕ)
     (fault : VcdFault) (q : Refusal) → (fault ≡ Want) ⊎ (stimulus_in text scope clock names ≡ Err fault) →
     HasNote (vcd_note_reason Inputs path text keys names scope clock fault) q → (fault ≡ Want → q ≡ Q.NoMemory) →
     Reads NoteSays view (lines_noted path keys names scope clock text) (Err q)
 lines_noted_err {T = T} view path keys names scope clock text fault q (inl want) note wants =
     subst (λ (x : Refusal). Reads {T = T} NoteSays view (lines_noted path keys names scope clock text) (Err x)) (sym (wants want)) tt
 lines_noted_err {T = T} view path keys names scope clock text fault q (inr e) note wants =
-    subst (λ (x : Lines). Reads {T = T} NoteSays view (few_noted path (noted_by (vcd_note_reason Inputs path text keys names scope clock) x)) (Err q)) (sym e)
+    subst (λ (x : Timed). Reads {T = T} NoteSays view (few_noted path (noted_by (vcd_note_reason Inputs path text keys names scope clock) x)) (Err q)) (sym e)
     (noted_refused view path (vcd_note_reason Inputs path text keys names scope clock fault) q note)
 
 -- ---- too many lines
 
-many_words : {T : Type 0} (view : T → List (List Bool)) (words : List ℕ) (q : Refusal) → HasWords words q →
+many_words : {T : Type 0} (view : T → SampledLines) (words : List ℕ) (q : Refusal) → HasWords words q →
     Reads {R = Case} {T = T} CheckSays view (Err (exactly words)) (Err q)
 many_words view words Q.NoMemory h = tt
 many_words view words (Q.Why why) h = h
 
-many_noted : {T : Type 0} (view : T → List (List Bool)) (text : List ℕ) (q : Refusal) → HasNote (exactly text) q →
+many_noted : {T : Type 0} (view : T → SampledLines) (text : List ℕ) (q : Refusal) → HasNote (exactly text) q →
     Reads {R = NoteCase} {T = T} NoteSays view (Err (exactly text)) (Err q)
 many_noted view text Q.NoMemory h = tt
 many_noted view text (Q.Why why) h = h
 
-pub few_worded : {T : Type 0} (view : T → List (List Bool)) (lines : List (List Bool)) (q : Refusal) → nat_lt MAX_CYCLES (length lines) ≡ true →
-    HasWords cycles_words q → Reads CheckSays view (few_lines (Ok lines)) (Err q)
-few_worded {T = T} view lines q many h =
-    subst (λ (b : Bool). Reads {T = T} CheckSays view (if b then Err cycles_reason else Ok lines) (Err q)) (sym many) (many_words view cycles_words q h)
+pub few_worded : {T : Type 0} (view : T → SampledLines) (sampled : SampledLines) (q : Refusal) → nat_lt MAX_CYCLES (length sampled.lines) ≡ true →
+    HasWords cycles_words q → Reads CheckSays view (few_lines (Ok sampled)) (Err q)
+few_worded {T = T} view sampled q many h =
+    subst (λ (b : Bool). Reads {T = T} CheckSays view (if b then Err cycles_reason else Ok sampled) (Err q)) (sym many) (many_words view cycles_words q h)
 
-pub few_said : {T : Type 0} (view : T → List (List Bool)) (path : List ℕ) (lines : List (List Bool)) (q : Refusal) → nat_lt MAX_CYCLES (length lines) ≡ true →
-    HasNote (exactly (cycles_text path)) q → Reads NoteSays view (few_noted path (Ok lines)) (Err q)
-few_said {T = T} view path lines q many h =
-    subst (λ (b : Bool). Reads {T = T} NoteSays view (if b then Err (exactly (cycles_text path)) else Ok lines) (Err q)) (sym many)
+pub few_said : {T : Type 0} (view : T → SampledLines) (path : List ℕ) (sampled : SampledLines) (q : Refusal) → nat_lt MAX_CYCLES (length sampled.lines) ≡ true →
+    HasNote (exactly (cycles_text path)) q → Reads NoteSays view (few_noted path (Ok sampled)) (Err q)
+few_said {T = T} view path sampled q many h =
+    subst (λ (b : Bool). Reads {T = T} NoteSays view (if b then Err (exactly (cycles_text path)) else Ok sampled) (Err q)) (sym many)
     (many_noted view (cycles_text path) q h)
 
 -- ---- states

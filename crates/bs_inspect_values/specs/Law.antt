@@ -4,7 +4,7 @@ use Rattle.bs_bits.specs.Lines.{lines_of}
 use Rattle.bs_stim.specs.declared.limits.TheConstants.{MAX_CYCLES, MAX_RUNS}
 use Rattle.bs_stim.specs.Runs.{Recorded}
 use Rattle.bs_stim.specs.StimulusText.{stimulus_of}
-use Rattle.bs_inspect_values.specs.SimulatedRun.{runs_text, simulated}
+use Rattle.bs_inspect_values.specs.SimulatedRun.{recorded, runs_text}
 
 -- the lines of a file: few enough, and each has the width
 pub record IsFile (width : ℕ) (path : List ℕ) (lines : List (List Bool)) : Type 0 where
@@ -16,7 +16,7 @@ abbrev pub Files : Type 0
 Files = List (List ℕ × List (List Bool))
 
 abbrev pub runs_of : Files → List Recorded
-runs_of files = map (λ f. simulated f.0 f.1) files
+runs_of files = map (λ f. recorded f.0 f.1) files
 
 -- where there are files and not too many
 abbrev pub RunsReadBack : Type 0

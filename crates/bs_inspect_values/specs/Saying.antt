@@ -10,6 +10,7 @@ use Rattle.bs_vcd_header.specs.Header.{HeaderDeclarations, nothing_declared}
 use Rattle.bs_vcd_header.specs.Scopes.{declared_of, names_of, scopes_of}
 use Rattle.bs_vcd_header.specs.Sources.{scope_of}
 use Rattle.bs_vcd.specs.declared.cycles.When.{When}
+use Rattle.bs_vcd.specs.declared.sampling.SampledLines.{SampledLines}
 use Rattle.bs_vcd.specs.Cycles.{states_in}
 use Rattle.bs_vcd.specs.Stimulus.{stimulus_in}
 use Rattle.bs_inspect_report.specs.Keys.{flop_keys, input_keys}
@@ -75,6 +76,9 @@ fault_reason subject path text keys names scope clock (vcd.NoInput i) =
     exactly (input_said subject path (key_at keys i) (key_at names i) scope clock (declarations text))
 fault_reason subject path text keys names scope clock (vcd.Unknown i time) = exactly (S.unknown_text subject path (key_at keys i) time)
 fault_reason subject path text keys names scope clock (vcd.NoCycle count) = exactly (S.short_text path count)
+fault_reason subject path text keys names scope clock (vcd.DumpOff number) = any_of (at_line path text number S.off_saying)
+fault_reason subject path text keys names scope clock (vcd.NoTime last) = exactly (S.time_text path last)
+fault_reason subject path text keys names scope clock (vcd.Late begin) = exactly (S.early_text path begin)
 fault_reason subject path text keys names scope clock vcd.NoMemory = exactly []
 
 -- a file that is no VCD at sight is told to be that
@@ -87,13 +91,13 @@ vcd_note_reason subject path text keys names scope clock fault =
     foreign_or path (S.foreign text) (fault_reason subject path text keys names scope clock fault)
 
 -- no more lines than a run may have cycles
-abbrev pub few_noted : List ℕ → Result (List (List Bool)) (Reason NoteCase) → Result (List (List Bool)) (Reason NoteCase)
+abbrev pub few_noted : List ℕ → Result SampledLines (Reason NoteCase) → Result SampledLines (Reason NoteCase)
 few_noted path (Err reason) = Err reason
-few_noted path (Ok lines) = if nat_lt MAX_CYCLES (length lines) then Err (exactly (S.cycles_text path)) else Ok lines
+few_noted path (Ok sampled) = if nat_lt MAX_CYCLES (length sampled.lines) then Err (exactly (S.cycles_text path)) else Ok sampled
 
 -- the inputs just before each rising edge of a clock
 abbrev pub lines_noted : (path : List ℕ) (keys names : List (List ℕ)) (scope : Option (List ℕ)) (clock text : List ℕ) →
-    Result (List (List Bool)) (Reason NoteCase)
+    Result SampledLines (Reason NoteCase)
 lines_noted path keys names scope clock text =
     few_noted path (noted_by (vcd_note_reason Inputs path text keys names scope clock) (stimulus_in text scope clock names))
 

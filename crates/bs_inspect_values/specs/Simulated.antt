@@ -3,10 +3,10 @@ use Rattle.std.specs.Prelude.{ℕ, nat_lt, Bool, List, [], ◌∷◌, ◌++◌, 
 use Rattle.std.specs.Option.{option_map}
 use Rattle.bs_net.specs.Netlist.{circuit_of}
 use Rattle.bs_net.specs.Parts.{Parts, key_at}
-use Rattle.bs_stim.specs.Runs.{Recorded}
 use Rattle.bs_stim.specs.declared.limits.TheConstants.{MAX_CYCLES}
 use Rattle.bs_inspect_notes.specs.declared.name.Subject.TheVariants.{Inputs}
 use Rattle.bs_inspect_report.specs.Keys.{input_keys}
+use Rattle.bs_vcd.specs.declared.sampling.SampledLines.{SampledLines}
 use Rattle.bs_vcd.specs.Stimulus.{stimulus_in}
 use Rattle.bs_top_plan.specs.declared.file.File.TheVariants as files
 use Rattle.bs_top_plan.specs.Plan.{Reason, Plan, ◌>>=◌, end, fetched, read_as}
@@ -18,7 +18,7 @@ use Rattle.bs_inspect_values.specs.declared.ready.Simulated.{Simulated as CodeSi
 use Rattle.bs_inspect_values.specs.declared.ready.Sampled.{Sampled as CodeSampled}
 use Rattle.bs_inspect_values.specs.declared.simulated.Clocked.{Clocked as CodeClocked}
 use Rattle.bs_inspect_values.specs.Names.{map_in}
-use Rattle.bs_inspect_values.specs.SimulatedRun.{is_data, run_in, simulated}
+use Rattle.bs_inspect_values.specs.SimulatedRun.{SimulatedRun, is_data, run_in, simulated}
 use Rattle.bs_inspect_values.specs.Saying.{lines_noted, names_noted}
 use Rattle.bs_inspect_values.specs.Words.{map_reason, vcd_reason, cycles_reason}
 
@@ -27,12 +27,12 @@ abbrev pub names_read : List (List ℕ) → List ℕ → Result (List (List ℕ)
 names_read keys bytes = with_reason map_reason (map_in keys bytes)
 
 -- no more lines than a run may have cycles
-abbrev pub few_lines : Result (List (List Bool)) (Reason Case) → Result (List (List Bool)) (Reason Case)
+abbrev pub few_lines : Result SampledLines (Reason Case) → Result SampledLines (Reason Case)
 few_lines (Err reason) = Err reason
-few_lines (Ok lines) = if nat_lt MAX_CYCLES (length lines) then Err cycles_reason else Ok lines
+few_lines (Ok sampled) = if nat_lt MAX_CYCLES (length sampled.lines) then Err cycles_reason else Ok sampled
 
 -- the inputs just before each rising edge of a clock, where the inputs with these keys have those names
-abbrev pub lines_read : (keys names : List (List ℕ)) (scope : Option (List ℕ)) (clock bytes : List ℕ) → Result (List (List Bool)) (Reason Case)
+abbrev pub lines_read : (keys names : List (List ℕ)) (scope : Option (List ℕ)) (clock bytes : List ℕ) → Result SampledLines (Reason Case)
 lines_read keys names scope clock bytes = few_lines (with_reason (vcd_reason keys) (stimulus_in bytes scope clock names))
 
 -- ---- runs
@@ -45,29 +45,29 @@ pub record Clocked : Type 0 where
 abbrev pub clocked_in : CodeClocked → Clocked
 clocked_in t = record { clock = t.clock.now; scope = option_map (λ s. s.now) t.scope }
 
-abbrev pub lines_of : (keys names : List (List ℕ)) → Clocked → List ℕ → Plan Case (List (List Bool))
+abbrev pub lines_of : (keys names : List (List ℕ)) → Clocked → List ℕ → Plan Case SampledLines
 lines_of keys names at vcd = do
   bytes ← fetched files.Vcd vcd
   read_as files.Vcd (lines_read keys names at.scope at.clock bytes)
 
-abbrev pub lines_looked : (keys names : List (List ℕ)) → Clocked → List ℕ → Plan NoteCase (List (List Bool))
+abbrev pub lines_looked : (keys names : List (List ℕ)) → Clocked → List ℕ → Plan NoteCase SampledLines
 lines_looked keys names at vcd = do
   text ← fetched files.Vcd vcd
   read_as files.Vcd (lines_noted vcd keys names at.scope at.clock text)
 
 -- the run of a file, behind others
-abbrev pub run_behind : (keys names : List (List ℕ)) → Clocked → List Recorded → List ℕ → Plan Case (List Recorded)
-run_behind keys names at runs vcd = lines_of keys names at vcd >>= λ lines. end (runs ++ simulated vcd lines ∷ [])
+abbrev pub run_behind : (keys names : List (List ℕ)) → Clocked → List SimulatedRun → List ℕ → Plan Case (List SimulatedRun)
+run_behind keys names at runs vcd = lines_of keys names at vcd >>= λ sampled. end (runs ++ simulated vcd sampled ∷ [])
 
-abbrev pub run_behind_looked : (keys names : List (List ℕ)) → Clocked → List Recorded → List ℕ → Plan NoteCase (List Recorded)
-run_behind_looked keys names at runs vcd = lines_looked keys names at vcd >>= λ lines. end (runs ++ simulated vcd lines ∷ [])
+abbrev pub run_behind_looked : (keys names : List (List ℕ)) → Clocked → List SimulatedRun → List ℕ → Plan NoteCase (List SimulatedRun)
+run_behind_looked keys names at runs vcd = lines_looked keys names at vcd >>= λ sampled. end (runs ++ simulated vcd sampled ∷ [])
 
 -- a run for each of these files, behind others
-unfoldable pub runs_behind : (keys names : List (List ℕ)) → Clocked → List Recorded → List (List ℕ) → Plan Case (List Recorded)
+unfoldable pub runs_behind : (keys names : List (List ℕ)) → Clocked → List SimulatedRun → List (List ℕ) → Plan Case (List SimulatedRun)
 runs_behind keys names at runs [] = end runs
 runs_behind keys names at runs (vcd ∷ vcds) = run_behind keys names at runs vcd >>= λ more. runs_behind keys names at more vcds
 
-unfoldable pub runs_behind_looked : (keys names : List (List ℕ)) → Clocked → List Recorded → List (List ℕ) → Plan NoteCase (List Recorded)
+unfoldable pub runs_behind_looked : (keys names : List (List ℕ)) → Clocked → List SimulatedRun → List (List ℕ) → Plan NoteCase (List SimulatedRun)
 runs_behind_looked keys names at runs [] = end runs
 runs_behind_looked keys names at runs (vcd ∷ vcds) =
     run_behind_looked keys names at runs vcd >>= λ more. runs_behind_looked keys names at more vcds
@@ -75,7 +75,7 @@ runs_behind_looked keys names at runs (vcd ∷ vcds) =
 -- whether the clock that is asked for is a data input as well, and the runs
 pub record Sampled : Type 0 where
   pub data_clock : Bool
-  pub runs : List Recorded
+  pub runs : List SimulatedRun
 
 abbrev pub sampled_in : CodeSampled → Sampled
 sampled_in t = record { data_clock = t.data_clock; runs = map run_in t.runs.items }

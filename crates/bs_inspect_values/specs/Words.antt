@@ -27,6 +27,9 @@ vcd_words keys vcd.NoClock = codes "NoClock"
 vcd_words keys (vcd.NoInput i) = codes "NoInput " ++ key_at keys i
 vcd_words keys (vcd.Unknown i time) = codes "Unknown " ++ (key_at keys i ++ (codes " " ++ decimal time))
 vcd_words keys (vcd.NoCycle count) = codes "NoCycle " ++ decimal count
+vcd_words keys (vcd.DumpOff line) = codes "DumpOff " ++ decimal line
+vcd_words keys (vcd.NoTime last) = codes "NoTime " ++ decimal last
+vcd_words keys (vcd.Late begin) = codes "Late " ++ decimal begin
 vcd_words keys vcd.NoMemory = []
 
 -- values with more edges than a run may have cycles

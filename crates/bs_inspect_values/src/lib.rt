@@ -29,5 +29,5 @@ pub use law::runs_read_back;
 pub use names::read_names;
 pub use ready::{Dumped, Sampled, Signed, Simulated, Unsigned};
 pub use refusals::{numbered, refusal};
-pub use run::{SimulatedRun, runs_text};
+pub use run::{SimulatedRun, first_late, runs_text};
 pub use simulated::{Clocked, load_simulated};

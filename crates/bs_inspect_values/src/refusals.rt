@@ -99,6 +99,9 @@ pub fn vcd_refusal(alloc: Global, fault: VcdFault, keys: &[&[u8]]) -> Refusal
         VcdFault::NoInput(i) => refusal(input_words(alloc, b"NoInput ", key_at(keys, i))),
         VcdFault::Unknown(i, time) => refusal(unknown_words(alloc, key_at(keys, i), time)),
         VcdFault::NoCycle(count) => numbered(alloc, b"NoCycle ", count),
+        VcdFault::DumpOff(line) => numbered(alloc, b"DumpOff ", line),
+        VcdFault::NoTime(last) => numbered(alloc, b"NoTime ", last),
+        VcdFault::Late(begin) => numbered(alloc, b"Late ", begin),
         VcdFault::NoMemory => Refusal::NoMemory,
     }
 }

@@ -1,21 +1,23 @@
 //! The runs that were simulated, their names and their text.
-ghost use Rattle.std.specs.Prelude.{◌≡◌, ◌++◌, length, map, option_map, take, IfOk, OnOk};
+ghost use Rattle.std.specs.Prelude.{◌≡◌, ◌++◌, find, length, map, nat_lt, option_map, take, IfOk, OnOk};
 ghost use Rattle.bs_bits.specs.Lines.{line};
 ghost use Rattle.bs_bits.specs.Text.{bits_text};
 ghost use Rattle.bs_stim.specs.StimulusText.{head_text, inputs_text, run_text};
 ghost use Rattle.bs_stim.specs.declared.limits.TheConstants.{MAX_NAME};
-ghost use Rattle.bs_inspect_values.specs.SimulatedRun.{leaf_of, name_byte, or_vcd, run_in, run_name, runs_text, simulated, stem_of};
+ghost use Rattle.bs_inspect_values.specs.SimulatedRun.{is_late, leaf_of, name_byte, or_vcd, recorded_in, run_in, run_name, runs_text, simulated, simulated_text, stem_of};
 
 use bs_bits::{Bits, List, NoMemory, end_line, push_line, push_number, push_piece};
 use bs_net_names::last_split;
 use bs_stim::MAX_NAME;
+use bs_vcd::{SampledLines, begin_in};
 use std::alloc::Global;
 
-/// A run: the bytes of its name, and the input of each cycle.
+/// A run: the bytes of its name, the input of each cycle, and the time at which the values begin that it is of.
 #[derive(Drop)]
 pub struct SimulatedRun {
     pub name: Vec<u8>,
     pub lines: List<Bits>,
+    pub begin: u64,
 }
 
 // ---- the name
@@ -93,22 +95,43 @@ fn run_name(alloc: Global, path: &[u8]) -> Result<Vec<u8>, NoMemory>
 }
 
 /// The run of a file with these inputs.
+#[tactic(auto, using(crate::proofs::RunLemmas::simulated_by))]
 pub(crate) fn simulated(
     alloc: Global,
     path: &str,
-    lines: List<Bits>,
+    sampled: SampledLines,
 ) -> Result<SimulatedRun, NoMemory>
-    ensures { IfOk result (λ run. run_in run ≡ simulated path.now lines) }
+    ensures { IfOk result (λ run. run_in run ≡ simulated path.now sampled) }
 {
     let name = run_name(alloc, path.as_bytes())?;
-    Ok(SimulatedRun { name, lines })
+    let begin = begin_in(&sampled);
+    Ok(SimulatedRun {
+        name,
+        lines: sampled.lines,
+        begin,
+    })
+}
+
+/// The first of these runs whose values begin behind time 0.
+fn late_among(runs: &[SimulatedRun]) -> Option<&SimulatedRun>
+    ensures { option_map (λ run. run.now) result ≡ find (λ run. nat_lt 0 run.begin) runs.now }
+{
+    runs.iter().find(|run| 0 < run.begin)
+}
+
+/// The first of these runs whose values begin behind time 0.
+#[tactic(auto, using(crate::proofs::RunLemmas::late_by))]
+pub fn first_late(runs: &[SimulatedRun]) -> Option<&SimulatedRun>
+    ensures { option_map (λ run. run_in run.now) result ≡ find is_late (map run_in runs.now) }
+{
+    late_among(runs)
 }
 
 // ---- the text
 
 /// Appends the first line of a run.
 fn push_head(text: &mut Vec<u8>, run: &SimulatedRun) -> Result<(), NoMemory>
-    ensures { OnOk result (text.new.items ≡ text.old.items ++ line (head_text (run_in run.now))) }
+    ensures { OnOk result (text.new.items ≡ text.old.items ++ line (head_text (recorded_in run.now))) }
 {
     push_piece(text, b"run ")?;
     push_piece(text, run.name.as_slice())?;
@@ -137,7 +160,7 @@ fn push_inputs(text: &mut Vec<u8>, lines: &[Bits]) -> Result<(), NoMemory>
 
 /// Appends a run.
 fn push_run(text: &mut Vec<u8>, run: &SimulatedRun) -> Result<(), NoMemory>
-    ensures { OnOk result (text.new.items ≡ text.old.items ++ run_text (run_in run.now)) }
+    ensures { OnOk result (text.new.items ≡ text.old.items ++ run_text (recorded_in run.now)) }
 {
     push_head(text, run)?;
     push_inputs(text, run.lines.slice())?;
@@ -145,14 +168,23 @@ fn push_run(text: &mut Vec<u8>, run: &SimulatedRun) -> Result<(), NoMemory>
     Ok(())
 }
 
-/// The text of runs (docs/FORMATS.md, "Stimulus").
+/// The text of runs.
 #[tactic(auto, using(crate::proofs::RunLemmas::runs_more))]
-pub fn runs_text(alloc: Global, runs: &[SimulatedRun]) -> Result<Vec<u8>, NoMemory>
-    ensures { IfOk result (λ text. text.items ≡ runs_text (map run_in runs.now)) }
+fn recorded_text(alloc: Global, runs: &[SimulatedRun]) -> Result<Vec<u8>, NoMemory>
+    ensures { IfOk result (λ text. text.items ≡ runs_text (map recorded_in runs.now)) }
 {
     let mut text = Vec::new(alloc);
     'runs: for run in runs {
         push_run(&mut text, run)?;
     }
+    Ok(text)
+}
+
+/// The text of runs (docs/FORMATS.md, "Stimulus").
+#[tactic(auto, using(crate::proofs::RunLemmas::text_by))]
+pub fn runs_text(alloc: Global, runs: &[SimulatedRun]) -> Result<Vec<u8>, NoMemory>
+    ensures { IfOk result (λ text. text.items ≡ simulated_text (map run_in runs.now)) }
+{
+    let text = recorded_text(alloc, runs)?;
     Ok(text)
 }

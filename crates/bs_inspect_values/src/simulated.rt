@@ -18,13 +18,14 @@ use crate::mapping::names_or_diagnostic;
 use crate::ready::{Sampled, Simulated};
 use crate::run::{SimulatedRun, simulated};
 use crate::values::{Sampling, lines_or_diagnostic};
-use bs_bits::{Bits, List, NoMemory};
+use bs_bits::NoMemory;
 use bs_inspect_notes::Subject;
 use bs_net::Netlist;
 use bs_net_names::{KeyParts, key_parts, same_name};
 use bs_outside::Shelf;
 use bs_top_files::load_netlist;
 use bs_top_plan::{File, JobFault, WalkStop, fetch_file, settle_diagnostic};
+use bs_vcd::SampledLines;
 use std::alloc::Global;
 
 /// The name of the clock in a simulation, and the path of a scope, where one is asked for.
@@ -47,11 +48,11 @@ fn load_lines<S: Shelf>(
     names: &[&[u8]],
     at: Clocked<'_>,
     vcd: &str,
-) -> Result<List<Bits>, WalkStop>
+) -> Result<SampledLines, WalkStop>
     ensures { WalksDiagnosed CheckSays NoteSays S.held S.faults S.leads shelf.old shelf.new
         (lines_of (map (λ k. k.now) keys.now) (map (λ n. n.now) names.now) (clocked_in at.entry) vcd.now)
         (lines_looked (map (λ k. k.now) keys.now) (map (λ n. n.now) names.now) (clocked_in at.entry) vcd.now)
-        (λ lines. lines) (λ lines. lines) result }
+        (λ sampled. sampled) (λ sampled. sampled) result }
 {
     let sampling = Sampling {
         vcd,
@@ -70,11 +71,11 @@ fn put_run(
     alloc: Global,
     runs: &mut Vec<SimulatedRun>,
     path: &str,
-    lines: List<Bits>,
+    sampled: SampledLines,
 ) -> Result<(), NoMemory>
-    ensures { OnOk result (map run_in runs.new.items ≡ map run_in runs.old.items ++ simulated path.now lines ∷ []) }
+    ensures { OnOk result (map run_in runs.new.items ≡ map run_in runs.old.items ++ simulated path.now sampled ∷ []) }
 {
-    let run = simulated(alloc, path, lines)?;
+    let run = simulated(alloc, path, sampled)?;
     runs.push(run)?;
     Ok(())
 }
@@ -84,12 +85,12 @@ fn put_or_stop(
     alloc: Global,
     runs: &mut Vec<SimulatedRun>,
     path: &str,
-    lines: List<Bits>,
+    sampled: SampledLines,
 ) -> Result<(), WalkStop>
-    ensures done { OnOk result (map run_in runs.new.items ≡ map run_in runs.old.items ++ simulated path.now lines ∷ []) }
+    ensures done { OnOk result (map run_in runs.new.items ≡ map run_in runs.old.items ++ simulated path.now sampled ∷ []) }
     ensures want { IfErr result (λ stop. stop ≡ Plain NoRoom) }
 {
-    match put_run(alloc, runs, path, lines) {
+    match put_run(alloc, runs, path, sampled) {
         Ok(()) => Ok(()),
         Err(_) => Err(WalkStop::Plain(JobFault::NoMemory)),
     }
@@ -111,7 +112,7 @@ fn load_one<S: Shelf>(
         (λ _. map run_in runs.new.items) (λ _. map run_in runs.new.items) result }
 {
     match load_lines(alloc, shelf, keys, names, at, vcd) {
-        Ok(lines) => put_or_stop(alloc, runs, vcd, lines),
+        Ok(sampled) => put_or_stop(alloc, runs, vcd, sampled),
         Err(stop) => Err(stop),
     }
 }

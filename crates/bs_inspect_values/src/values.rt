@@ -5,7 +5,7 @@ ghost use Rattle.bs_vcd_header.specs.declared.fault.VcdFault.TheVariants.{NoMemo
 ghost use Rattle.bs_vcd_header.specs.Header.{declared_in};
 ghost use Rattle.bs_vcd.specs.Cycles.{states_in};
 ghost use Rattle.bs_vcd.specs.Stimulus.{stimulus_in};
-ghost use Rattle.bs_inspect_notes.specs.Simulations.{word_saying, cycles_text, unknown_text};
+ghost use Rattle.bs_inspect_notes.specs.Simulations.{cycles_text, off_saying, unknown_text, word_saying};
 ghost use Rattle.bs_note_files.specs.Notes.{said};
 ghost use Rattle.bs_top_plan.specs.declared.limits.TheConstants.{MAX_VCD_BYTES};
 ghost use Rattle.bs_top_plan.specs.declared.walk.Refusal.TheVariants.{NoMemory as Want};
@@ -24,13 +24,14 @@ use crate::lines::line_note;
 use crate::refusals::{cycles_refusal, key_at, vcd_refusal};
 use bs_bits::{Bits, List, NoMemory};
 use bs_inspect_notes::{
-    Subject, clock_note, cycles_note, ended_note, foreign, input_note, short_note, unknown_note,
+    Subject, clock_note, cycles_note, early_note, ended_note, foreign, input_note, short_note,
+    time_note, unknown_note,
 };
 use bs_net_names::key_parts;
 use bs_note_files::{Message, file_note};
 use bs_stim::MAX_CYCLES;
 use bs_top_plan::{Unread, both};
-use bs_vcd::{When, states, stimulus};
+use bs_vcd::{SampledLines, When, states, stimulus};
 use bs_vcd_header::{HeaderDeclarations, VcdFault, declared, names_of, scope_of, scopes_of};
 use std::alloc::Global;
 
@@ -59,6 +60,25 @@ fn word_note(alloc: Global, path: &str, text: &[u8], number: u64) -> Result<Vec<
     ensures { IfOk result (λ note. IsNoteAtLine path.now text.now number word_saying note.items) }
 {
     let message = word_saying();
+    let note = line_note(alloc, path, text, number, message)?;
+    Ok(note)
+}
+
+/// What is said of a line in which the dump is switched off.
+fn off_saying() -> Message<'static>
+    ensures { said result ≡ off_saying }
+{
+    Message {
+        sentence: b"the dump is switched off here: cycles behind this line are not in the text",
+        label: b"take `$dumpoff` out of the bench",
+    }
+}
+
+/// A note on a line in which the dump is switched off.
+fn off_note(alloc: Global, path: &str, text: &[u8], number: u64) -> Result<Vec<u8>, NoMemory>
+    ensures { IfOk result (λ note. IsNoteAtLine path.now text.now number off_saying note.items) }
+{
+    let message = off_saying();
     let note = line_note(alloc, path, text, number, message)?;
     Ok(note)
 }
@@ -183,6 +203,9 @@ fn fault_note(
         VcdFault::NoInput(i) => input_in(alloc, subject, text, keys, names, sampling, i),
         VcdFault::Unknown(i, time) => unknown_in(alloc, subject, sampling.vcd, keys, i, time),
         VcdFault::NoCycle(count) => short_note(alloc, sampling.vcd, count),
+        VcdFault::DumpOff(line) => off_note(alloc, sampling.vcd, text, line),
+        VcdFault::NoTime(last) => time_note(alloc, sampling.vcd, last),
+        VcdFault::Late(begin) => early_note(alloc, sampling.vcd, begin),
         VcdFault::NoMemory => Err(NoMemory),
     }
 }
@@ -244,14 +267,18 @@ fn cycles_diagnostic(alloc: Global, path: &str) -> Unread
 
 /// Lines, where there are no more than a run may have, or the diagnostic of them.
 #[tactic(auto, using(crate::proofs::ValueLemmas::few_worded, crate::proofs::ValueLemmas::few_said))]
-fn few_or_diagnostic(alloc: Global, path: &str, lines: List<Bits>) -> Result<List<Bits>, Unread>
-    ensures words { Reads CheckSays (λ lines. lines) (few_lines (TheOk lines)) (worded result) }
-    ensures note { Reads NoteSays (λ lines. lines) (few_noted path.now (TheOk lines)) (noted result) }
+fn few_or_diagnostic(
+    alloc: Global,
+    path: &str,
+    sampled: SampledLines,
+) -> Result<SampledLines, Unread>
+    ensures words { Reads CheckSays (λ sampled. sampled) (few_lines (TheOk sampled)) (worded result) }
+    ensures note { Reads NoteSays (λ sampled. sampled) (few_noted path.now (TheOk sampled)) (noted result) }
 {
-    if lines.len() > MAX_CYCLES as usize {
+    if sampled.lines.len() > MAX_CYCLES as usize {
         return Err(cycles_diagnostic(alloc, path));
     }
-    Ok(lines)
+    Ok(sampled)
 }
 
 /// The inputs just before each rising edge of a clock.
@@ -260,9 +287,9 @@ fn sampled(
     text: &[u8],
     names: &[&[u8]],
     sampling: Sampling<'_>,
-) -> Result<List<Bits>, VcdFault>
+) -> Result<SampledLines, VcdFault>
     requires { length text.now ≤ MAX_VCD_BYTES }
-    ensures { Answers VcdWant (λ lines. lines) result (stimulus_in text.now (option_map (λ s. s.now) sampling.entry.scope) sampling.entry.clock.now (map (λ n. n.now) names.now)) }
+    ensures { Answers VcdWant (λ sampled. sampled) result (stimulus_in text.now (option_map (λ s. s.now) sampling.entry.scope) sampling.entry.clock.now (map (λ n. n.now) names.now)) }
 {
     let scope = maybe_bytes(sampling.scope);
     let clock = sampling.clock.as_bytes();
@@ -277,13 +304,13 @@ pub fn lines_or_diagnostic(
     keys: &[&[u8]],
     names: &[&[u8]],
     sampling: Sampling<'_>,
-) -> Result<List<Bits>, Unread>
+) -> Result<SampledLines, Unread>
     requires { length text.now ≤ MAX_VCD_BYTES }
-    ensures words { Reads CheckSays (λ lines. lines) (lines_read (map (λ k. k.now) keys.now) (map (λ n. n.now) names.now) (option_map (λ s. s.now) sampling.entry.scope) sampling.entry.clock.now text.now) (worded result) }
-    ensures note { Reads NoteSays (λ lines. lines) (lines_noted sampling.entry.vcd.now (map (λ k. k.now) keys.now) (map (λ n. n.now) names.now) (option_map (λ s. s.now) sampling.entry.scope) sampling.entry.clock.now text.now) (noted result) }
+    ensures words { Reads CheckSays (λ sampled. sampled) (lines_read (map (λ k. k.now) keys.now) (map (λ n. n.now) names.now) (option_map (λ s. s.now) sampling.entry.scope) sampling.entry.clock.now text.now) (worded result) }
+    ensures note { Reads NoteSays (λ sampled. sampled) (lines_noted sampling.entry.vcd.now (map (λ k. k.now) keys.now) (map (λ n. n.now) names.now) (option_map (λ s. s.now) sampling.entry.scope) sampling.entry.clock.now text.now) (noted result) }
 {
     match sampled(alloc, text, names, sampling) {
-        Ok(lines) => few_or_diagnostic(alloc, sampling.vcd, lines),
+        Ok(sampled) => few_or_diagnostic(alloc, sampling.vcd, sampled),
         Err(fault) => Err(vcd_diagnostic(
             alloc,
             Subject::Inputs,

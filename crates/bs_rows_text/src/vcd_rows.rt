@@ -65,7 +65,7 @@ fn gives_for(
         return Ok(false);
     }
     match (stimulus(alloc, text, scope, "ck".as_bytes(), keys), want) {
-        (Ok(lines), Ok(want)) => are_told(alloc, lines.slice(), want),
+        (Ok(sampled), Ok(want)) => are_told(alloc, sampled.lines.slice(), want),
         (Err(fault), Err(want)) => Ok(fault == want),
         _ => Ok(false),
     }
@@ -95,8 +95,20 @@ const SHORT: &str = "$var wire 1 ! ck $end\n$enddefinitions $end\n#5 b01";
 /// A dump that ends in a word of its head.
 const CUT: &str = "$var wire 1 ! ck $end\n$en";
 
+/// A dump that is switched off.
+const OFF: &str =
+    "$var wire 1 ! ck $end\n$enddefinitions $end\n#0\n0!\n#5\n1!\n#8\n$dumpoff\nx!\n$end\n#20\n$dumpon\n0!\n$end\n#25\n1!\n";
+
+/// A clock that goes from x to 1, and from 0 by x to 1.
+const UNKNOWN: &str =
+    "$var wire 1 ! ck $end\n$var wire 1 \" d $end\n$enddefinitions $end\n#0\nx!\n0\"\n#5\n1!\n#8\n1\"\n#10\n0!\n#15\nx!\n0\"\n#20\n1!\n";
+
+/// A dump that begins late.
+const LATE: &str =
+    "$var wire 1 ! ck $end\n$var wire 1 \" q $end\n$enddefinitions $end\n#0\n#40\n$dumpvars\n1!\n1\"\n$end\n#45\n0!\n#50\n1!\n0\"\n#52\n";
+
 /// Dumps, and what they give.
-static DUMPS: [Dump<'static>; 13] = [
+static DUMPS: [Dump<'static>; 16] = [
     (ICARUS, None, "", Ok(",,,")),
     (
         ICARUS,
@@ -135,6 +147,9 @@ static DUMPS: [Dump<'static>; 13] = [
     (SMALL, None, "", Err(VcdFault::Line(1))),
     (SHORT, None, "", Err(VcdFault::Ended)),
     (CUT, None, "", Err(VcdFault::Ended)),
+    (OFF, None, "", Err(VcdFault::DumpOff(8))),
+    (UNKNOWN, None, "d", Ok("0,1,0,")),
+    (LATE, None, "q", Ok("1,")),
 ];
 
 #[test]
@@ -183,7 +198,7 @@ fn has(alloc: Global, taken: &Taken<'_>) -> Result<bool, NoMemory> {
 }
 
 /// Cycles of dumps: each edge ends one, and the end of the text the last.
-static TAKEN: [Taken<'static>; 9] = [
+static TAKEN: [Taken<'static>; 14] = [
     (
         VERILATED,
         None,
@@ -235,6 +250,25 @@ static TAKEN: [Taken<'static>; 9] = [
         1,
         Err(VcdFault::Unknown(0, 5)),
     ),
+    (
+        VERILATED,
+        None,
+        "q[0]",
+        When::Time(16),
+        0,
+        Err(VcdFault::NoTime(15)),
+    ),
+    (
+        ICARUS,
+        Some("tb.dut"),
+        "\\e[3]",
+        When::Time(42),
+        0,
+        Ok("0,"),
+    ),
+    (LATE, None, "q", When::Cycle(0), 0, Ok("1,")),
+    (LATE, None, "q", When::Cycle(0), 1, Err(VcdFault::Late(40))),
+    (LATE, None, "q", When::Time(52), 1, Ok("1,0,")),
 ];
 
 #[test]

@@ -9,17 +9,18 @@ use Rattle.std.proofs.lemmas.Option.{get_or_from_slice_get, slice_get_within}
 use Rattle.bs_bits.specs.Reading.{◌>>=◌}
 use Rattle.bs_net_names.specs.Keys.{key_parts}
 use Rattle.bs_vcd_header.specs.declared.fault.VcdFault.{VcdFault}
-use Rattle.bs_vcd_header.specs.declared.fault.VcdFault.TheVariants.{NoClock, NoCycle}
+use Rattle.bs_vcd_header.specs.declared.fault.VcdFault.TheVariants.{Late, NoClock, NoCycle}
 use Rattle.bs_vcd_header.specs.declared.sources.BitSource.{BitSource}
 use Rattle.bs_vcd_header.specs.Header.{HeaderDeclarations, header_of}
 use Rattle.bs_vcd_header.specs.Sources.{input_at, inputs_from, or_fault, scope_of, source_in}
 use Rattle.bs_vcd_header.specs.Tokens.{tokens_from}
 use Rattle.bs_vcd.specs.declared.cycles.When.{When}
+use Rattle.bs_vcd.specs.declared.sampling.SampledLines.{SampledLines}
 use Rattle.bs_vcd.specs.History.{History, history_of}
 use Rattle.bs_vcd.specs.Levels.{Known, is_bit, is_unknown, known_by, level}
-use Rattle.bs_vcd.specs.Sampled.{SamplingRequest, Cut, is_within, line_at, line_or, lines_asked, numbered_lines, stops_of, wanted, or_fault as or_end}
+use Rattle.bs_vcd.specs.Sampled.{SamplingRequest, Cut, is_within, line_at, line_or, lines_asked, numbered_lines, stops_of, timed_lines, wanted, or_fault as or_end}
 use Rattle.bs_vcd.specs.Stimulus.{ClockAndInputs, sampling_of}
-use Rattle.bs_vcd.specs.Cycles.{cycle_ends, cycle_in, states_at, states_in, states_of, states_when, window}
+use Rattle.bs_vcd.specs.Cycles.{begin_in, cycle_ends, cycle_in, is_late, states_at, states_in, states_of, states_when, window, window_of}
 
 abbrev Lines : Type 0
 Lines = List (List Bool)
@@ -38,17 +39,29 @@ between_more lines own line first i le e is =
     ∙ (ap (λ (x : List Bool). drop first (take i lines ++ x ∷ [])) (sym (get_or_from_slice_get lines i line line is))
     ∙ ap (drop first) (sym (take_more lines i line within))))
 
--- the lines of a cycle, where there are that many
-pub window_there : (cycle back first behind : ℕ) (lines own : Lines) → cycle < length lines → first ≡ cycle - back → behind ≡ cycle + 1 →
-    own ≡ drop first (take behind lines) → window cycle back lines ≡ Ok own
-window_there cycle back first behind lines own lt one two e =
-    ap (λ (b : Bool). cond b (Ok (drop (cycle - back) (take (cycle + 1) lines))) (Err (NoCycle (length lines - 1)))) (lt-ltb cycle (length lines) lt)
-    ∙ ap Ok (sym (e ∙ (λ i. drop (one i) (take (two i) lines))))
+-- ---- the lines of a cycle
 
-pub window_short : (cycle back count : ℕ) (lines : Lines) → length lines ≤ cycle → count ≡ length lines - 1 → window cycle back lines ≡ Err (NoCycle count)
-window_short cycle back count lines le e =
-    ap (λ (b : Bool). cond b (Ok (drop (cycle - back) (take (cycle + 1) lines))) (Err (NoCycle (length lines - 1)))) (le-ltb cycle (length lines) le)
-    ∙ ap (λ n. Err (NoCycle n)) (sym e)
+-- where there are that many
+abbrev there : (cycle back : ℕ) → SampledLines → Bool → Result Lines VcdFault
+there cycle back s b = cond b (Err (Late (begin_in s))) (Ok (window_of cycle back s))
+
+abbrev windows : (cycle back : ℕ) → SampledLines → Bool → Result Lines VcdFault
+windows cycle back s b = cond b (there cycle back s (is_late cycle back s)) (Err (NoCycle (length s.lines - 1)))
+
+pub window_there : (cycle back first behind : ℕ) (s : SampledLines) (own : Lines) → cycle < length s.lines → is_late cycle back s ≡ false →
+    first ≡ cycle - back → behind ≡ cycle + 1 → own ≡ drop first (take behind s.lines) → window cycle back s ≡ Ok own
+window_there cycle back first behind s own lt early one two e =
+    ap (windows cycle back s) (lt-ltb cycle (length s.lines) lt)
+    ∙ (ap (there cycle back s) early ∙ ap Ok (sym (e ∙ (λ i. drop (one i) (take (two i) s.lines)))))
+
+pub window_late : (cycle back begin : ℕ) (s : SampledLines) → cycle < length s.lines → is_late cycle back s ≡ true → begin ≡ begin_in s →
+    window cycle back s ≡ Err (Late begin)
+window_late cycle back begin s lt late e =
+    ap (windows cycle back s) (lt-ltb cycle (length s.lines) lt) ∙ (ap (there cycle back s) late ∙ ap (λ n. Err (Late n)) (sym e))
+
+pub window_short : (cycle back count : ℕ) (s : SampledLines) → length s.lines ≤ cycle → count ≡ length s.lines - 1 →
+    window cycle back s ≡ Err (NoCycle count)
+window_short cycle back count s le e = ap (windows cycle back s) (le-ltb cycle (length s.lines) le) ∙ ap (λ n. Err (NoCycle n)) (sym e)
 
 -- ---- what a value keeps
 
@@ -149,45 +162,51 @@ lines_wide a (c ∷ cs) n (suc first) (suc behind) w =
     (lines_wide a cs (n + 1) first behind (next_within a n first behind w))
     (λ xs all. gives_ok (WideIn width (suc first) (suc behind)) (x ∷ xs) all))
 
-end_wide : (P : Lines → Type 0) (fault : Option VcdFault) (lines : Lines) → P lines → Gives P (or_end fault lines)
-end_wide P None lines p = gives_ok P lines p
-end_wide P (Some fault) lines p = gives_err P fault
+end_wide : (P : SampledLines → Type 0) (fault : Option VcdFault) (s : SampledLines) → P s → Gives P (or_end fault s)
+end_wide P None s p = gives_ok P s p
+end_wide P (Some fault) s p = gives_err P fault
 
 -- the lines of a cycle and of so many before it
 asked_wide : (s : ClockAndInputs) (h : History) (cycle back : ℕ) →
-    Gives (WideIn (length s.inputs) (cycle - back) (cycle + 1)) (lines_asked (cycle_ends s cycle back) h)
+    Gives (λ (t : SampledLines). WideIn (length s.inputs) (cycle - back) (cycle + 1) t.lines) (lines_asked (cycle_ends s cycle back) h)
 asked_wide s h cycle back =
     let a : SamplingRequest = cycle_ends s cycle back in
-    let P = WideIn (length s.inputs) (cycle - back) (cycle + 1) in
+    let P : Lines → Type 0 = WideIn (length s.inputs) (cycle - back) (cycle + 1) in
+    let Q : SampledLines → Type 0 = λ (t : SampledLines). P t.lines in
     let cuts : List Cut = stops_of a [] 0 h in
-    gives_then P P (numbered_lines a 0 cuts) (λ lines. or_end h.fault lines)
+    gives_then P Q (numbered_lines a 0 cuts) (λ lines. or_end h.fault (timed_lines h lines))
     (lines_wide a cuts 0 (cycle - back) (cycle + 1)
     (record {
       is = λ j le lt.
           and_from (nat_le (cycle - back) (0 + j)) (nat_le (0 + j) cycle) (le-leb (cycle - back) (0 + j) (omega (arith, le)))
           (le-leb (0 + j) cycle (omega (arith, lt)));
     }))
-    (λ lines all. end_wide P h.fault lines all)
+    (λ lines all. end_wide Q h.fault (timed_lines h lines) all)
 
-window_wide : (width cycle back : ℕ) (lines : Lines) → WideIn width (cycle - back) (cycle + 1) lines → Gives (AreStates width) (window cycle back lines)
-window_wide width cycle back lines all = by (nat_lt cycle (length lines)) refl
+there_wide : (width cycle back : ℕ) (s : SampledLines) → AreStates width (window_of cycle back s) → (b : Bool) →
+    Gives (AreStates width) (there cycle back s b)
+there_wide width cycle back s are true = gives_err (AreStates width) (Late (begin_in s))
+there_wide width cycle back s are false = gives_ok (AreStates width) (window_of cycle back s) are
+
+window_wide : (width cycle back : ℕ) (s : SampledLines) → WideIn width (cycle - back) (cycle + 1) s.lines → Gives (AreStates width) (window cycle back s)
+window_wide width cycle back s all = by (nat_lt cycle (length s.lines)) refl
   where
-    by : (b : Bool) → nat_lt cycle (length lines) ≡ b
-        → Gives (AreStates width) (cond b (Ok (drop (cycle - back) (take (cycle + 1) lines))) (Err (NoCycle (length lines - 1))))
+    by : (b : Bool) → nat_lt cycle (length s.lines) ≡ b → Gives (AreStates width) (windows cycle back s b)
     by true e =
-        let there : cycle < length lines = ltb-true cycle (length lines) e in
-        gives_ok (AreStates width) (drop (cycle - back) (take (cycle + 1) lines))
-        (omega (arith, length-drop (cycle - back) (take (cycle + 1) lines), length-take-le (cycle + 1) lines (omega (arith, there))), all)
-    by false e = gives_err (AreStates width) (NoCycle (length lines - 1))
+        let lt : cycle < length s.lines = ltb-true cycle (length s.lines) e in
+        let some : 0 < length (drop (cycle - back) (take (cycle + 1) s.lines)) =
+        omega (arith, length-drop (cycle - back) (take (cycle + 1) s.lines), length-take-le (cycle + 1) s.lines (omega (arith, lt))) in
+        there_wide width cycle back s (some, all) (is_late cycle back s)
+    by false e = gives_err (AreStates width) (NoCycle (length s.lines - 1))
 
 when_wide : (s : ClockAndInputs) (h : History) (at : When) (back : ℕ) → Gives (AreStates (length s.inputs)) (states_when s h at back)
 when_wide s h at back =
     let R = AreStates (length s.inputs) in
     gives_then (λ _. Unit {0}) R (cycle_in s.clock h at) (λ cycle. states_at s h back cycle) (gives_any (cycle_in s.clock h at))
     (λ cycle u.
-    gives_then (WideIn (length s.inputs) (cycle - back) (cycle + 1)) R (lines_asked (cycle_ends s cycle back) h) (λ lines. window cycle back lines)
-    (asked_wide s h cycle back)
-    (λ lines all. window_wide (length s.inputs) cycle back lines all))
+    gives_then (λ (t : SampledLines). WideIn (length s.inputs) (cycle - back) (cycle + 1) t.lines) R (lines_asked (cycle_ends s cycle back) h)
+    (λ t. window cycle back t) (asked_wide s h cycle back)
+    (λ t all. window_wide (length s.inputs) cycle back t all))
 
 -- a source for each name
 abbrev more_sources : ℕ → HeaderDeclarations → List ℕ → List (List ℕ) → BitSource → Result (List BitSource) VcdFault

@@ -1,15 +1,17 @@
 -- The states of a cycle and of those before it (docs/FORMATS.md, "Value changes (VCD)"). Each rising edge of the clock ends a cycle,
 -- and the end of the text ends the last one.
-use Rattle.std.specs.Prelude.{ℕ, ◌+◌, ◌-◌, nat_lt, Bool, true, false, List, [], length, drop, take, Option, Some, None, Result, Ok, Err, if◌then◌else◌}
+use Rattle.std.specs.Prelude.{ℕ, ◌+◌, ◌-◌, nat_lt, ◌&&◌, Bool, true, false, List, [], length, drop, take, Option, Some, None, Result, Ok, Err, if◌then◌else◌}
+use Rattle.std.specs.Option.{unwrap_or}
 use Rattle.bs_bits.specs.Reading.{◌>>=◌}
 use Rattle.bs_vcd_header.specs.declared.fault.VcdFault.{VcdFault}
-use Rattle.bs_vcd_header.specs.declared.fault.VcdFault.TheVariants.{NoCycle}
+use Rattle.bs_vcd_header.specs.declared.fault.VcdFault.TheVariants.{Late, NoCycle, NoTime}
 use Rattle.bs_vcd_header.specs.declared.sources.BitSource.{BitSource}
 use Rattle.bs_vcd_header.specs.Header.{Header, HeaderState, header_of, header_from}
 use Rattle.bs_vcd_header.specs.Tokens.{VcdToken, tokens_from}
 use Rattle.bs_vcd.specs.declared.cycles.When.{When}
 use Rattle.bs_vcd.specs.declared.cycles.When.TheVariants.{Time, Cycle}
 use Rattle.bs_vcd.specs.declared.sampling.LineSpan.{LineSpan}
+use Rattle.bs_vcd.specs.declared.sampling.SampledLines.{SampledLines}
 use Rattle.bs_vcd.specs.History.{History, history_of}
 use Rattle.bs_vcd.specs.Sampled.{SamplingRequest, lines_asked}
 use Rattle.bs_vcd.specs.Stimulus.{ClockAndInputs, sampling_of}
@@ -18,9 +20,13 @@ use Rattle.bs_vcd.specs.Stimulus.{ClockAndInputs, sampling_of}
 abbrev pub edges_until : BitSource → ℕ → SamplingRequest
 edges_until clock time = record { clock = clock; inputs = []; span = None; until = Some time; tail = false }
 
+-- how many edges there are up to a time, which is not behind the last one
+abbrev pub edges_counted : ℕ → SampledLines → Result ℕ VcdFault
+edges_counted time s = if nat_lt s.last time then Err (NoTime s.last) else Ok (length s.lines)
+
 -- the number of the cycle, from 0: as many edges are before the cycle under way at a time, and at it
 abbrev pub cycle_in : BitSource → History → When → Result ℕ VcdFault
-cycle_in clock h (Time time) = lines_asked (edges_until clock time) h >>= λ lines. Ok (length lines)
+cycle_in clock h (Time time) = lines_asked (edges_until clock time) h >>= λ s. edges_counted time s
 cycle_in clock h (Cycle cycle) = Ok cycle
 
 abbrev pub span : ℕ → ℕ → LineSpan
@@ -30,13 +36,26 @@ span cycle back = record { first = cycle - back; last = cycle }
 abbrev pub cycle_ends : ClockAndInputs → ℕ → ℕ → SamplingRequest
 cycle_ends s cycle back = record { clock = s.clock; inputs = s.inputs; span = Some (span cycle back); until = None; tail = true }
 
--- the lines of a cycle and of so many before it, where there are that many
-abbrev pub window : ℕ → ℕ → List (List Bool) → Result (List (List Bool)) VcdFault
-window cycle back lines =
-    if nat_lt cycle (length lines) then Ok (drop (cycle - back) (take (cycle + 1) lines)) else Err (NoCycle (length lines - 1))
+-- the time of the first change, or 0 where there is none
+abbrev pub begin_in : SampledLines → ℕ
+begin_in s = unwrap_or s.first 0
+
+-- cycles are wanted before those of the values, which begin behind time 0
+abbrev pub is_late : (cycle back : ℕ) → SampledLines → Bool
+is_late cycle back s = nat_lt cycle back && nat_lt 0 (begin_in s)
+
+-- the lines of a cycle and of so many before it
+abbrev pub window_of : (cycle back : ℕ) → SampledLines → List (List Bool)
+window_of cycle back s = drop (cycle - back) (take (cycle + 1) s.lines)
+
+-- the same, where there are that many cycles; fewer earlier ones are enough where the values begin at time 0
+abbrev pub window : (cycle back : ℕ) → SampledLines → Result (List (List Bool)) VcdFault
+window cycle back s =
+    if nat_lt cycle (length s.lines) then (if is_late cycle back s then Err (Late (begin_in s)) else Ok (window_of cycle back s))
+    else Err (NoCycle (length s.lines - 1))
 
 abbrev pub states_at : ClockAndInputs → History → ℕ → ℕ → Result (List (List Bool)) VcdFault
-states_at s h back cycle = lines_asked (cycle_ends s cycle back) h >>= λ lines. window cycle back lines
+states_at s h back cycle = lines_asked (cycle_ends s cycle back) h >>= λ sampled. window cycle back sampled
 
 abbrev pub states_when : ClockAndInputs → History → When → ℕ → Result (List (List Bool)) VcdFault
 states_when s h at back = cycle_in s.clock h at >>= λ cycle. states_at s h back cycle

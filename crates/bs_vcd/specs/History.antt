@@ -1,5 +1,6 @@
 -- What the value changes of a VCD say: moments in time, each with its changes (docs/FORMATS.md, "Value changes (VCD)").
 use Rattle.std.specs.Prelude.{ℕ, nat_lt, ◌==◌, List, [], ◌∷◌, ◌++◌, codes, Option, Some, None, if◌then◌else◌}
+use Rattle.std.specs.Option.{option_or}
 use Rattle.std.specs.Str.{bytes_eq}
 use Rattle.bs_vcd.specs.declared.changes.ValueChange.{ValueChange as CodeValueChange}
 use Rattle.bs_vcd.specs.declared.changes.WordPlace.{WordPlace as CodeWordPlace}
@@ -7,9 +8,9 @@ use Rattle.bs_vcd.specs.declared.changes.WordPlace.TheVariants as M
 use Rattle.bs_vcd.specs.declared.changes.WordEffect.{WordEffect as CodeWordEffect}
 use Rattle.bs_vcd.specs.declared.changes.WordEffect.TheVariants as T
 use Rattle.bs_vcd_header.specs.declared.fault.VcdFault.{VcdFault}
-use Rattle.bs_vcd_header.specs.declared.fault.VcdFault.TheVariants.{Line, Ended}
+use Rattle.bs_vcd_header.specs.declared.fault.VcdFault.TheVariants.{Line, Ended, DumpOff}
 use Rattle.bs_vcd_header.specs.Tokens.{VcdToken}
-use Rattle.bs_vcd_header.specs.Words.{Said, Time, Scalar, Vector, Passed, Comment, Nothing, id_in, said_of}
+use Rattle.bs_vcd_header.specs.Words.{Said, Time, Scalar, Vector, Passed, Comment, Nothing, Off, id_in, said_of}
 
 -- the new value of the variables with this code, a character a bit, the lowest last
 pub record ValueChange : Type 0 where
@@ -35,11 +36,12 @@ pub data WordPlace : Type 0 where
   Skip : WordPlace
   Remark : WordPlace
 
--- what comes of a word: a place for the next one, a change, or a time
+-- what comes of a word: a place for the next one, a change, a time, or that the dump is switched off
 pub data WordEffect : Type 0 where
   Goes : WordPlace → WordEffect
   Changes : ValueChange → WordEffect
   Begins : ℕ → WordEffect
+  Stops : WordEffect
 
 abbrev pub change : List ℕ → ℕ → ValueChange
 change bits id = record { id = id; bits = bits }
@@ -52,6 +54,7 @@ step_of (Some (Vector bits)) = Some (Goes (Value bits))
 step_of (Some Passed) = Some (Goes Skip)
 step_of (Some Comment) = Some (Goes Remark)
 step_of (Some Nothing) = Some (Goes Plain)
+step_of (Some Off) = Some Stops
 
 abbrev pub named_step : List ℕ → Option ℕ → Option WordEffect
 named_step bits None = None
@@ -98,6 +101,7 @@ stepped None now line on = stopped (Line line)
 stepped (Some (Goes mode)) now line on = on mode now
 stepped (Some (Changes c)) now line on = on Plain (with_change now c)
 stepped (Some (Begins time)) now line on = begun now line time (on Plain)
+stepped (Some Stops) now line on = stopped (DumpOff line)
 
 -- the moments of these words, the first of which is under way
 abbrev pub history_from : WordPlace → Moment → List VcdToken → History
@@ -107,6 +111,23 @@ history_from mode now (t ∷ ts) = stepped (step mode t.text) now t.line (λ m n
 -- the moments of the words behind the declarations; what stands before the first time is of time 0
 abbrev pub history_of : List VcdToken → History
 history_of tokens = history_from Plain (moment 0) tokens
+
+-- ---- the times
+
+-- a time, where it has changes
+abbrev pub time_if : List ValueChange → ℕ → Option ℕ
+time_if [] time = None
+time_if (c ∷ cs) time = Some time
+
+-- the time of the first change, if there is one
+abbrev pub begin_of : List Moment → Option ℕ
+begin_of [] = None
+begin_of (m ∷ ms) = option_or (time_if m.changes m.time) (begin_of ms)
+
+-- the last time, where this one was before
+abbrev pub last_of : ℕ → List Moment → ℕ
+last_of time [] = time
+last_of time (m ∷ ms) = last_of m.time ms
 
 -- ---- the code's values
 
@@ -123,6 +144,7 @@ abbrev pub step_in : CodeWordEffect → WordEffect
 step_in (T.Goes mode) = Goes (mode_in mode)
 step_in (T.Changes c) = Changes (change_in c)
 step_in (T.Begins time) = Begins time
+step_in T.Stops = Stops
 
 abbrev pub maybe_step : Option CodeWordEffect → Option WordEffect
 maybe_step None = None

@@ -1,5 +1,5 @@
 -- The bit of a variable by its changes (docs/FORMATS.md, "Value changes (VCD)").
-use Rattle.std.specs.Prelude.{ℕ, ◌-◌, nat_lt, ◌==◌, Bool, true, false, not, List, [], ◌∷◌, length, reverse, find, slice_index_or, Option, Some, None, if◌then◌else◌, nat_eq, ◌&&◌}
+use Rattle.std.specs.Prelude.{ℕ, ◌-◌, nat_lt, ◌==◌, Bool, true, false, not, List, [], ◌∷◌, length, reverse, find, is_some, slice_index_or, Option, Some, None, if◌then◌else◌, nat_eq, ◌&&◌}
 use Rattle.std.specs.Option.{option_map}
 use Rattle.std.specs.Borrow.{Bor}
 use Rattle.std.specs.HashMap.{get, HashMap}
@@ -46,6 +46,10 @@ level_of place (Some bits) = bit_at place bits
 -- the bit of a source, where it is known
 abbrev pub level : Known → BitSource → Option Bool
 level known s = level_of s.place (known s.id)
+
+-- a source has had a value, be it known or not
+abbrev pub is_given : Known → BitSource → Bool
+is_given known s = is_some (known s.id)
 
 -- whether a bit is known to be this one
 abbrev pub is_bit : Bool → Option Bool → Bool

@@ -1,14 +1,15 @@
 -- The lines of a run: the inputs just before each rising edge of a clock (docs/FORMATS.md, "Value changes (VCD)").
-use Rattle.std.specs.Prelude.{ℕ, ◌+◌, nat_le, Bool, true, false, ◌&&◌, List, [], ◌∷◌, ◌++◌, map, filter, Option, Some, None, Result, Ok, Err, if◌then◌else◌}
+use Rattle.std.specs.Prelude.{ℕ, ◌+◌, nat_le, Bool, true, false, not, ◌&&◌, ◌||◌, List, [], ◌∷◌, ◌++◌, map, filter, Option, Some, None, Result, Ok, Err, if◌then◌else◌}
 use Rattle.std.specs.List.{position}
 use Rattle.bs_bits.specs.Reading.{◌>>=◌}
 use Rattle.bs_vcd_header.specs.declared.fault.VcdFault.{VcdFault}
 use Rattle.bs_vcd_header.specs.declared.fault.VcdFault.TheVariants.{Unknown}
 use Rattle.bs_vcd_header.specs.declared.sources.BitSource.{BitSource}
 use Rattle.bs_vcd.specs.declared.sampling.LineSpan.{LineSpan}
+use Rattle.bs_vcd.specs.declared.sampling.SampledLines.{SampledLines}
 use Rattle.bs_vcd.specs.declared.sampling.SamplingRequest.{SamplingRequest as CodeSamplingRequest}
-use Rattle.bs_vcd.specs.History.{ValueChange, Moment, History}
-use Rattle.bs_vcd.specs.Levels.{Known, known_by, level, is_bit, is_unknown}
+use Rattle.bs_vcd.specs.History.{ValueChange, Moment, History, begin_of, last_of}
+use Rattle.bs_vcd.specs.Levels.{Known, known_by, level, is_bit, is_given, is_unknown}
 
 -- a moment, and all changes before it
 pub record Cut : Type 0 where
@@ -20,9 +21,13 @@ abbrev pub cuts_from : List ValueChange → List Moment → List Cut
 cuts_from earlier [] = []
 cuts_from earlier (m ∷ ms) = (record { earlier = earlier; moment = m }) ∷ cuts_from (earlier ++ m.changes) ms
 
--- a clock rises where it is 0 before a moment and 1 at its end
+-- from one level to another a bit has a `posedge` (IEEE 1364-2005, 9.7.2): from 0 to 1, x or z, and from x or z to 1
+abbrev pub is_posedge : Option Bool → Option Bool → Bool
+is_posedge before behind = (is_bit false before && not (is_bit false behind)) || (not (is_bit true before) && is_bit true behind)
+
+-- a clock rises in a moment where it has a value before it, and a `posedge` from that to the value at its end
 abbrev pub rises : BitSource → Known → Known → Bool
-rises clock before behind = is_bit false (level before clock) && is_bit true (level behind clock)
+rises clock before behind = is_given before clock && is_posedge (level before clock) (level behind clock)
 
 abbrev pub is_edge : BitSource → Cut → Bool
 is_edge clock cut = rises clock (known_by cut.earlier) (known_by (cut.earlier ++ cut.moment.changes))
@@ -48,13 +53,17 @@ abbrev pub or_fault : {A : Type 0} → Option VcdFault → A → Result A VcdFau
 or_fault None lines = Ok lines
 or_fault (Some fault) lines = Err fault
 
+-- lines, with the time of the first change and the last time
+abbrev pub timed_lines : History → List (List Bool) → SampledLines
+timed_lines h lines = record { first = begin_of h.moments; last = last_of 0 h.moments; lines = lines }
+
 -- the line of each moment in which the clock rises
 abbrev pub lines_of : BitSource → List BitSource → List ValueChange → List Moment → Result (List (List Bool)) VcdFault
 lines_of clock inputs earlier moments = all_ok (map (line_at inputs) (filter (is_edge clock) (cuts_from earlier moments)))
 
 -- The lines of all rising edges of a clock, in order; or the first fault in the order of the text.
-abbrev pub sampled : BitSource → List BitSource → History → Result (List (List Bool)) VcdFault
-sampled clock inputs h = lines_of clock inputs [] h.moments >>= λ lines. or_fault h.fault lines
+abbrev pub sampled : BitSource → List BitSource → History → Result SampledLines VcdFault
+sampled clock inputs h = lines_of clock inputs [] h.moments >>= λ lines. or_fault h.fault (timed_lines h lines)
 
 -- ---- the same of some edges
 
@@ -107,8 +116,8 @@ numbered_lines a n [] = Ok []
 numbered_lines a n (cut ∷ cuts) = line_at (wanted a n) cut >>= λ x. numbered_lines a (n + 1) cuts >>= λ xs. Ok (x ∷ xs)
 
 -- The lines that are asked for, in order; or the first fault in the order of the text.
-abbrev pub lines_asked : SamplingRequest → History → Result (List (List Bool)) VcdFault
-lines_asked a h = numbered_lines a 0 (stops_of a [] 0 h) >>= λ lines. or_fault h.fault lines
+abbrev pub lines_asked : SamplingRequest → History → Result SampledLines VcdFault
+lines_asked a h = numbered_lines a 0 (stops_of a [] 0 h) >>= λ lines. or_fault h.fault (timed_lines h lines)
 
 -- all edges of a clock, and the bits of these sources in each line
 abbrev pub all_edges : BitSource → List BitSource → SamplingRequest

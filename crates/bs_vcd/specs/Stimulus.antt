@@ -1,5 +1,5 @@
 -- The run that the text of a VCD gives (docs/FORMATS.md, "Value changes (VCD)").
-use Rattle.std.specs.Prelude.{ℕ, Bool, List, Option, Result, Ok}
+use Rattle.std.specs.Prelude.{ℕ, List, Option, Result, Ok}
 use Rattle.bs_bits.specs.Reading.{◌>>=◌}
 use Rattle.bs_net_names.specs.Keys.{key_parts}
 use Rattle.bs_vcd_header.specs.declared.fault.VcdFault.{VcdFault}
@@ -9,6 +9,7 @@ use Rattle.bs_vcd_header.specs.Header.{HeaderDeclarations, Header, HeaderState, 
 use Rattle.bs_vcd_header.specs.Sources.{inputs_from, or_fault, scope_of, source_in}
 use Rattle.bs_vcd_header.specs.Tokens.{VcdToken, tokens_from}
 use Rattle.bs_vcd.specs.declared.edges.ClockAndInputs.{ClockAndInputs as CodeClockAndInputs}
+use Rattle.bs_vcd.specs.declared.sampling.SampledLines.{SampledLines}
 use Rattle.bs_vcd.specs.History.{history_of}
 use Rattle.bs_vcd.specs.Sampled.{sampled}
 
@@ -29,14 +30,14 @@ sampling_of d scope clock keys = do
   Ok record { clock = source; inputs = inputs }
 
 -- the lines of a clock's rising edges by what is declared and the words behind that
-abbrev pub edges_of : Header → Option (List ℕ) → List ℕ → List (List ℕ) → Result (List (List Bool)) VcdFault
+abbrev pub edges_of : Header → Option (List ℕ) → List ℕ → List (List ℕ) → Result SampledLines VcdFault
 edges_of h scope clock keys = sampling_of h.declared scope clock keys >>= λ s. sampled s.clock s.inputs (history_of h.rest)
 
--- The line of each rising edge of a clock in the text of a VCD: the bits of these names in a scope just before it. Or the first
--- fault: of the declarations, of the names, or of the value changes.
-abbrev pub stimulus_in : List ℕ → Option (List ℕ) → List ℕ → List (List ℕ) → Result (List (List Bool)) VcdFault
+-- The line of each rising edge of a clock in the text of a VCD: the bits of these names in a scope just before it; with the time of the
+-- first change and the last time. Or the first fault: of the declarations, of the names, or of the value changes.
+abbrev pub stimulus_in : List ℕ → Option (List ℕ) → List ℕ → List (List ℕ) → Result SampledLines VcdFault
 stimulus_in text scope clock keys = header_of (tokens_from 1 text) >>= λ h. edges_of h scope clock keys
 
 -- the same, where so much is read of the declarations
-abbrev pub read_from : HeaderState → List VcdToken → Option (List ℕ) → List ℕ → List (List ℕ) → Result (List (List Bool)) VcdFault
+abbrev pub read_from : HeaderState → List VcdToken → Option (List ℕ) → List ℕ → List (List ℕ) → Result SampledLines VcdFault
 read_from b tokens scope clock keys = header_from b tokens >>= λ h. edges_of h scope clock keys

@@ -34,6 +34,8 @@ pub enum WordEffect<'a> {
     Changes(ValueChange<'a>),
     /// A time.
     Begins(u64),
+    /// The dump is switched off.
+    Stops,
 }
 
 /// What comes of a word where a change may begin.
@@ -48,6 +50,7 @@ fn plain_step(text: &[u8]) -> Option<WordEffect<'_>>
         Some(Said::Passed) => Some(WordEffect::Goes(WordPlace::Skip)),
         Some(Said::Comment) => Some(WordEffect::Goes(WordPlace::Remark)),
         Some(Said::Nothing) => Some(WordEffect::Goes(WordPlace::Plain)),
+        Some(Said::Off) => Some(WordEffect::Stops),
     }
 }
 

@@ -4,13 +4,13 @@ ghost use Rattle.bs_bits.specs.Reading.{Answers};
 ghost use Rattle.bs_vcd_header.specs.declared.fault.VcdFault.TheVariants.{NoMemory as Want};
 ghost use Rattle.bs_vcd_header.specs.Header.{begun_in, header_in};
 ghost use Rattle.bs_vcd_header.specs.Tokens.{tokens_from};
-ghost use Rattle.bs_vcd.specs.Cycles.{cycle_ends, cycle_in, edges_until, states_at, states_from, states_in, states_of, states_when, window};
+ghost use Rattle.bs_vcd.specs.Cycles.{begin_in, cycle_ends, cycle_in, edges_counted, edges_until, is_late, states_at, states_from, states_in, states_of, states_when, window};
 ghost use Rattle.bs_vcd.specs.History.{history_of};
 ghost use Rattle.bs_vcd.specs.Sampled.{lines_asked};
 ghost use Rattle.bs_vcd.specs.Stimulus.{sampling_in};
 
 use crate::edges::{ClockAndInputs, sampling_of};
-use crate::sampling::{LineSpan, SamplingRequest, watch_lines};
+use crate::sampling::{LineSpan, SampledLines, SamplingRequest, watch_lines};
 use bs_bits::{Bits, List, NoMemory};
 use bs_vcd_header::{
     Behind, BitSource, HeaderDeclarations, HeaderState, VcdFault, nothing, take_words,
@@ -30,9 +30,9 @@ fn edges_until(
     clock: BitSource,
     time: u64,
     behind: Behind<'_>,
-) -> Result<List<Bits>, VcdFault>
+) -> Result<SampledLines, VcdFault>
     requires { behind.line + length behind.rest.now < 2 ^ 64 }
-    ensures { Answers Want (λ lines. lines) result (lines_asked (edges_until clock time) (history_of (tokens_from behind.entry.line behind.entry.rest.now))) }
+    ensures { Answers Want (λ sampled. sampled) result (lines_asked (edges_until clock time) (history_of (tokens_from behind.entry.line behind.entry.rest.now))) }
 {
     let asked = SamplingRequest {
         clock,
@@ -41,8 +41,18 @@ fn edges_until(
         until: Some(time),
         tail: false,
     };
-    let lines = watch_lines(alloc, &asked, behind.line, behind.rest)?;
-    Ok(lines)
+    let sampled = watch_lines(alloc, &asked, behind.line, behind.rest)?;
+    Ok(sampled)
+}
+
+/// How many edges there are up to a time, which is not behind the last one.
+fn edges_counted(time: u64, sampled: SampledLines) -> Result<u64, VcdFault>
+    ensures { Answers Want (λ count. count) result (edges_counted time sampled) }
+{
+    if sampled.last < time {
+        return Err(VcdFault::NoTime(sampled.last));
+    }
+    Ok(sampled.lines.len() as u64)
 }
 
 /// The number of the cycle.
@@ -53,8 +63,9 @@ fn cycle_in(alloc: Global, clock: BitSource, behind: Behind<'_>, at: When) -> Re
     match at {
         When::Cycle(cycle) => Ok(cycle),
         When::Time(time) => {
-            let lines = edges_until(alloc, clock, time, behind)?;
-            Ok(lines.len() as u64)
+            let sampled = edges_until(alloc, clock, time, behind)?;
+            let count = edges_counted(time, sampled)?;
+            Ok(count)
         }
     }
 }
@@ -66,9 +77,9 @@ fn cycle_ends(
     behind: Behind<'_>,
     back: u64,
     cycle: u64,
-) -> Result<List<Bits>, VcdFault>
+) -> Result<SampledLines, VcdFault>
     requires { behind.line + length behind.rest.now < 2 ^ 64 }
-    ensures { Answers Want (λ lines. lines) result (lines_asked (cycle_ends (sampling_in sampling.now) cycle back) (history_of (tokens_from behind.entry.line behind.entry.rest.now))) }
+    ensures { Answers Want (λ sampled. sampled) result (lines_asked (cycle_ends (sampling_in sampling.now) cycle back) (history_of (tokens_from behind.entry.line behind.entry.rest.now))) }
 {
     let asked = SamplingRequest {
         clock: sampling.clock,
@@ -80,8 +91,8 @@ fn cycle_ends(
         until: None,
         tail: true,
     };
-    let lines = watch_lines(alloc, &asked, behind.line, behind.rest)?;
-    Ok(lines)
+    let sampled = watch_lines(alloc, &asked, behind.line, behind.rest)?;
+    Ok(sampled)
 }
 
 /// Puts a line at the end.
@@ -112,17 +123,43 @@ fn between(
     Ok(own)
 }
 
-/// The lines of a cycle and of so many before it, where there are that many.
-#[tactic(auto, using(crate::proofs::CycleLemmas::window_there, crate::proofs::CycleLemmas::window_short))]
-fn window(alloc: Global, lines: &List<Bits>, back: u64, cycle: u64) -> Result<List<Bits>, VcdFault>
-    ensures { Answers Want (λ own. own) result (window cycle back lines.now) }
+/// The time of the first change, or 0 where there is none.
+pub fn begin_in(sampled: &SampledLines) -> u64
+    ensures { result ≡ begin_in sampled.now }
 {
-    let count = lines.len() as u64;
+    match sampled.first {
+        Some(first) => first,
+        None => 0,
+    }
+}
+
+/// Whether cycles are wanted before those of the values, which begin behind time 0.
+fn is_late(sampled: &SampledLines, back: u64, cycle: u64) -> bool
+    ensures { result ≡ is_late cycle back sampled.now }
+{
+    let begin = begin_in(sampled);
+    cycle < back && 0 < begin
+}
+
+/// The lines of a cycle and of so many before it, where there are that many.
+#[tactic(auto, using(crate::proofs::CycleLemmas::window_there, crate::proofs::CycleLemmas::window_late, crate::proofs::CycleLemmas::window_short))]
+fn window(
+    alloc: Global,
+    sampled: &SampledLines,
+    back: u64,
+    cycle: u64,
+) -> Result<List<Bits>, VcdFault>
+    ensures { Answers Want (λ own. own) result (window cycle back sampled.now) }
+{
+    let count = sampled.lines.len() as u64;
     if cycle >= count {
         return Err(VcdFault::NoCycle(count.saturating_sub(1)));
     }
+    if is_late(sampled, back, cycle) {
+        return Err(VcdFault::Late(begin_in(sampled)));
+    }
     let first = cycle.saturating_sub(back);
-    let own = between(alloc, lines, first as usize, cycle as usize + 1)?;
+    let own = between(alloc, &sampled.lines, first as usize, cycle as usize + 1)?;
     Ok(own)
 }
 
@@ -137,8 +174,8 @@ fn states_at(
     requires { behind.line + length behind.rest.now < 2 ^ 64 }
     ensures { Answers Want (λ states. states) result (states_at (sampling_in sampling.now) (history_of (tokens_from behind.entry.line behind.entry.rest.now)) back cycle) }
 {
-    let lines = cycle_ends(alloc, sampling, behind, back, cycle)?;
-    let states = window(alloc, &lines, back, cycle)?;
+    let sampled = cycle_ends(alloc, sampling, behind, back, cycle)?;
+    let states = window(alloc, &sampled, back, cycle)?;
     Ok(states)
 }
 
@@ -215,7 +252,7 @@ fn read_states(
 }
 
 /// The bits of these names at the end of a cycle of the text of a VCD, and before them those of so many cycles before it, or of as many
-/// as there are, in the scope with this path or else in that of the first variable that has the clock (docs/FORMATS.md, "Value changes
+/// as there are where the values begin at time 0, in the scope with this path or else in that of the first variable that has the clock (docs/FORMATS.md, "Value changes
 /// (VCD)"). The names are keys. It takes one pass over the text, and for a time two.
 #[tactic(auto, using(crate::proofs::CycleLemmas::states_some, crate::proofs::CycleLemmas::states_wide))]
 pub fn states(

@@ -8,8 +8,7 @@ ghost use Rattle.bs_vcd_header.specs.Sources.{inputs_from, or_fault, scope_of, s
 ghost use Rattle.bs_vcd_header.specs.Tokens.{tokens_from};
 ghost use Rattle.bs_vcd.specs.Stimulus.{edges_of, read_from, sampling_in, sampling_of, stimulus_in};
 
-use crate::sampling::sample;
-use bs_bits::{Bits, List};
+use crate::sampling::{SampledLines, sample};
 use bs_net_names::{KeyParts, key_parts};
 use bs_vcd_header::{
     Behind, BitSource, HeaderDeclarations, HeaderState, VcdFault, nothing, scope_of, source_in,
@@ -81,19 +80,19 @@ fn edges_of(
     scope: Option<&[u8]>,
     clock: &[u8],
     keys: &[&[u8]],
-) -> Result<List<Bits>, VcdFault>
+) -> Result<SampledLines, VcdFault>
     requires { behind.line + length behind.rest.now < 2 ^ 64 }
-    ensures { Answers Want (λ lines. lines) result (edges_of (header_in behind.entry declared.now) (option_map (λ path. path.now) scope.entry) clock.now (map (λ key. key.now) keys.now)) }
+    ensures { Answers Want (λ sampled. sampled) result (edges_of (header_in behind.entry declared.now) (option_map (λ path. path.now) scope.entry) clock.now (map (λ key. key.now) keys.now)) }
 {
     let sampling = sampling_of(alloc, declared, scope, clock, keys)?;
-    let lines = sample(
+    let sampled = sample(
         alloc,
         sampling.clock,
         sampling.inputs.as_slice(),
         behind.line,
         behind.rest,
     )?;
-    Ok(lines)
+    Ok(sampled)
 }
 
 /// The lines of a clock's rising edges, where so much is read of the declarations.
@@ -104,28 +103,29 @@ fn read_from<'a>(
     clock: &[u8],
     keys: &[&[u8]],
     begun: &mut HeaderState<'a>,
-) -> Result<List<Bits>, VcdFault>
+) -> Result<SampledLines, VcdFault>
     requires { length text.now < 2 ^ 63 }
-    ensures { Answers Want (λ lines. lines) result (read_from (begun_in begun.old) (tokens_from 1 text.now) (option_map (λ path. path.now) scope.entry) clock.now (map (λ key. key.now) keys.now)) }
+    ensures { Answers Want (λ sampled. sampled) result (read_from (begun_in begun.old) (tokens_from 1 text.now) (option_map (λ path. path.now) scope.entry) clock.now (map (λ key. key.now) keys.now)) }
 {
     let behind = take_words(alloc, 1, text, begun)?;
-    let lines = edges_of(alloc, &begun.declared, behind, scope, clock, keys)?;
-    Ok(lines)
+    let sampled = edges_of(alloc, &begun.declared, behind, scope, clock, keys)?;
+    Ok(sampled)
 }
 
 /// The line of each rising edge of a clock in the text of a VCD: the bits of these names just before it, in the scope with this
-/// path or else in that of the first variable that has the clock (docs/FORMATS.md, "Value changes (VCD)"). The names are keys.
+/// path or else in that of the first variable that has the clock (docs/FORMATS.md, "Value changes (VCD)"). The names are keys. With
+/// the time of the first change and the last time.
 pub fn stimulus(
     alloc: Global,
     text: &[u8],
     scope: Option<&[u8]>,
     clock: &[u8],
     keys: &[&[u8]],
-) -> Result<List<Bits>, VcdFault>
+) -> Result<SampledLines, VcdFault>
     requires { length text.now < 2 ^ 63 }
-    ensures { Answers Want (λ lines. lines) result (stimulus_in text.now (option_map (λ path. path.now) scope.entry) clock.now (map (λ key. key.now) keys.now)) }
+    ensures { Answers Want (λ sampled. sampled) result (stimulus_in text.now (option_map (λ path. path.now) scope.entry) clock.now (map (λ key. key.now) keys.now)) }
 {
     let mut begun = nothing(alloc)?;
-    let lines = read_from(alloc, text, scope, clock, keys, &mut begun)?;
-    Ok(lines)
+    let sampled = read_from(alloc, text, scope, clock, keys, &mut begun)?;
+    Ok(sampled)
 }

@@ -3,9 +3,9 @@ ghost use Rattle.std.specs.Prelude.{◌≡◌, true, map, OnOk, IfOk};
 ghost use Rattle.std.specs.List.{position};
 ghost use Rattle.std.specs.Option.{option_map};
 ghost use Rattle.bs_vcd.specs.History.{change_in};
-ghost use Rattle.bs_vcd.specs.Levels.{bit_at, extension, is_bit, is_unknown, known_in, latest, level, level_in, level_of};
+ghost use Rattle.bs_vcd.specs.Levels.{bit_at, extension, is_bit, is_given, is_unknown, known_in, latest, level, level_in, level_of};
 ghost use Rattle.bs_vcd.specs.Watching.{known_after};
-ghost use Rattle.bs_vcd.specs.Sampled.{rises};
+ghost use Rattle.bs_vcd.specs.Sampled.{is_posedge, rises};
 
 use crate::changes::ValueChange;
 use bs_bits::{Bits, NoMemory};
@@ -61,6 +61,16 @@ fn is_bit(bit: bool, level: Option<bool>) -> bool
     match level {
         None => false,
         Some(known) => { if bit { known } else { !known } }
+    }
+}
+
+/// Whether a source has had a value.
+fn is_given(known: &HashMap<u64, &[u8]>, source: BitSource) -> bool
+    ensures { result ≡ is_given (known_in known.now) source }
+{
+    match known.get(&source.id) {
+        Some(_) => true,
+        None => false,
     }
 }
 
@@ -131,13 +141,24 @@ fn level_after(
     }
 }
 
-/// Whether a clock is 0 before changes and 1 after them.
+/// Whether a bit has a `posedge` from one level to another.
+fn is_posedge(before: Option<bool>, behind: Option<bool>) -> bool
+    ensures { result ≡ is_posedge before behind }
+{
+    let low = is_bit(false, before);
+    let low_behind = is_bit(false, behind);
+    let high = is_bit(true, before);
+    let high_behind = is_bit(true, behind);
+    (low && !low_behind) || (!high && high_behind)
+}
+
+/// Whether a clock rises by changes.
 pub fn rises(known: &HashMap<u64, &[u8]>, changes: &[ValueChange<'_>], clock: BitSource) -> bool
     ensures { result ≡ rises clock (known_in known.now) (known_after (known_in known.now) (map change_in changes.now)) }
 {
-    let before = is_bit(false, level(known, clock));
-    let behind = is_bit(true, level_after(known, changes, clock));
-    before && behind
+    let given = is_given(known, clock);
+    let posedge = is_posedge(level(known, clock), level_after(known, changes, clock));
+    given && posedge
 }
 
 /// Makes changes.

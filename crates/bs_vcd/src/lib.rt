@@ -12,5 +12,6 @@ mod edges;
 mod levels;
 mod sampling;
 
-pub use cycles::{When, states};
+pub use cycles::{When, begin_in, states};
 pub use edges::stimulus;
+pub use sampling::SampledLines;

@@ -1,12 +1,13 @@
 //! The value changes of a text, word by word, up to the lines that are asked for.
-ghost use Rattle.std.specs.Prelude.{◌≡◌, ◌<◌, ◌+◌, ◌^◌, ◌&&◌, length, map, OnOk};
+ghost use Rattle.std.specs.Prelude.{◌≡◌, ◌<◌, ◌+◌, ◌^◌, ◌&&◌, Some, length, map, OnOk};
+ghost use Rattle.std.specs.Option.{option_or};
 ghost use Rattle.bs_bits.specs.Reading.{Answers};
 ghost use Rattle.bs_vcd_header.specs.declared.fault.VcdFault.TheVariants.{NoMemory as Want};
 ghost use Rattle.bs_vcd_header.specs.Tokens.{tokens_from};
 ghost use Rattle.bs_vcd.specs.History.{Plain, change_in, history_of, mode_in, step};
 ghost use Rattle.bs_vcd.specs.Levels.{known_in};
 ghost use Rattle.bs_vcd.specs.Sampled.{asked_in, is_until, is_within, line_of, lines_asked, rises, sampled, wanted};
-ghost use Rattle.bs_vcd.specs.Watching.{closed, ended, finished, known_after, lined, may_end, moved, nothing_watched, tailed, timed, took, watch_in, watched_from, with_change};
+ghost use Rattle.bs_vcd.specs.Watching.{closed, ended, finished, known_after, lined, may_end, moved, nothing_watched, tailed, timed, took, watch_in, watched_from, with_change, with_times};
 
 use crate::changes::{ValueChange, WordEffect, WordPlace, word_step};
 use crate::levels::{apply, first_unknown, high_bits, rises};
@@ -33,10 +34,20 @@ pub struct SamplingRequest<'a> {
     pub tail: bool,
 }
 
-/// The time of the moment under way, what is known before it, its changes so far, and the lines so far.
+/// Lines, with the time of the first change, if there is one, and the last time.
+#[derive(Drop)]
+pub struct SampledLines {
+    pub first: Option<u64>,
+    pub last: u64,
+    pub lines: List<Bits>,
+}
+
+/// The time of the moment under way, that of the first change so far, what is known before the moment, its changes so far, and the
+/// lines so far.
 #[derive(Drop)]
 pub struct SamplingState<'a> {
     pub time: u64,
+    pub first: Option<u64>,
     pub known: HashMap<u64, &'a [u8]>,
     pub changes: Vec<ValueChange<'a>>,
     pub lines: List<Bits>,
@@ -48,6 +59,7 @@ fn nothing<'a>(alloc: Global) -> SamplingState<'a>
 {
     SamplingState {
         time: 0,
+        first: None,
         known: HashMap::new(alloc),
         changes: Vec::new(alloc),
         lines: List::new(alloc),
@@ -198,11 +210,23 @@ fn take_time(
     Ok(())
 }
 
+/// The first of two times, where there is one before the second.
+fn first_or(first: Option<u64>, time: u64) -> Option<u64>
+    ensures { result ≡ option_or first (Some time) }
+{
+    match first {
+        Some(first) => Some(first),
+        None => Some(time),
+    }
+}
+
 /// Takes a change.
+#[tactic(auto, using(crate::proofs::TakingLemmas::change_taken))]
 fn take_change<'a>(change: ValueChange<'a>, watch: &mut SamplingState<'a>) -> Result<(), NoMemory>
     ensures { OnOk result (watch_in watch.new ≡ with_change (watch_in watch.old) (change_in change.entry)) }
 {
     watch.changes.push(change)?;
+    watch.first = first_or(watch.first, watch.time);
     Ok(())
 }
 
@@ -228,6 +252,7 @@ fn take<'a>(
             take_time(alloc, asked, line, time, watch)?;
             Ok(WordPlace::Plain)
         }
+        Some(WordEffect::Stops) => Err(VcdFault::DumpOff(line)),
     }
 }
 
@@ -266,7 +291,9 @@ fn put_tail(
     asked: &SamplingRequest<'_>,
     watch: &mut SamplingState<'_>,
 ) -> Result<(), VcdFault>
-    ensures { Answers Want (λ _. (watch_in watch.new).lines) result (tailed (asked_in asked.now) (watch_in watch.old).time (known_after (watch_in watch.old).known (watch_in watch.old).changes) (watch_in watch.old).lines) }
+    ensures lines { Answers Want (λ _. (watch_in watch.new).lines) result (tailed (asked_in asked.now) (watch_in watch.old).time (known_after (watch_in watch.old).known (watch_in watch.old).changes) (watch_in watch.old).lines) }
+    ensures time { watch.new.time ≡ watch.old.time }
+    ensures first { watch.new.first ≡ watch.old.first }
 {
     apply(&mut watch.known, watch.changes.as_slice())?;
     add_tail(alloc, asked, watch.time, &watch.known, &mut watch.lines)
@@ -278,7 +305,9 @@ fn end(
     asked: &SamplingRequest<'_>,
     watch: &mut SamplingState<'_>,
 ) -> Result<(), VcdFault>
-    ensures { Answers Want (λ _. (watch_in watch.new).lines) result (ended (asked_in asked.now) (watch_in watch.old)) }
+    ensures lines { Answers Want (λ _. (watch_in watch.new).lines) result (ended (asked_in asked.now) (watch_in watch.old)) }
+    ensures time { watch.new.time ≡ watch.old.time }
+    ensures first { watch.new.first ≡ watch.old.first }
 {
     close(
         alloc,
@@ -299,7 +328,9 @@ fn finish(
     mode: WordPlace<'_>,
     watch: &mut SamplingState<'_>,
 ) -> Result<(), VcdFault>
-    ensures { Answers Want (λ _. (watch_in watch.new).lines) result (finished (asked_in asked.now) (mode_in mode.entry) (watch_in watch.old)) }
+    ensures lines { Answers Want (λ _. (watch_in watch.new).lines) result (finished (asked_in asked.now) (mode_in mode.entry) (watch_in watch.old)) }
+    ensures time { watch.new.time ≡ watch.old.time }
+    ensures first { watch.new.first ≡ watch.old.first }
 {
     if !may_end(mode) {
         return Err(VcdFault::Ended);
@@ -309,7 +340,7 @@ fn finish(
 }
 
 /// Takes all words of a text whose first line has this number.
-#[tactic(auto, using(crate::proofs::TakingLemmas::word_taken, crate::proofs::TakingLemmas::word_faulty, crate::proofs::TakingLemmas::words_end, crate::proofs::TakingLemmas::end_faulty))]
+#[tactic(auto, using(crate::proofs::TakingLemmas::word_taken, crate::proofs::TakingLemmas::word_faulty, crate::proofs::TakingLemmas::end_taken, crate::proofs::TakingLemmas::end_faulty))]
 fn take_all<'a>(
     alloc: Global,
     asked: &SamplingRequest<'_>,
@@ -318,7 +349,7 @@ fn take_all<'a>(
     watch: &mut SamplingState<'a>,
 ) -> Result<(), VcdFault>
     requires { line + length text.now < 2 ^ 64 }
-    ensures { Answers Want (λ _. (watch_in watch.new).lines) result (watched_from (asked_in asked.now) Plain (watch_in watch.old) (tokens_from line text.now)) }
+    ensures { Answers Want (λ _. with_times (watch_in watch.new) (watch_in watch.new).lines) result (watched_from (asked_in asked.now) Plain (watch_in watch.old) (tokens_from line text.now)) }
 {
     let mut mode = WordPlace::Plain;
     let mut line = line;
@@ -332,20 +363,24 @@ fn take_all<'a>(
     Ok(())
 }
 
-/// The lines that are asked for, in value changes whose first line has this number.
+/// The lines that are asked for, in value changes whose first line has this number, with the time of the first change and the last time.
 #[tactic(auto, using(crate::proofs::SamplingLemmas::lines_whole, crate::proofs::SamplingLemmas::lines_faulty))]
 pub fn watch_lines(
     alloc: Global,
     asked: &SamplingRequest<'_>,
     line: u64,
     text: &[u8],
-) -> Result<List<Bits>, VcdFault>
+) -> Result<SampledLines, VcdFault>
     requires { line + length text.now < 2 ^ 64 }
-    ensures { Answers Want (λ lines. lines) result (lines_asked (asked_in asked.now) (history_of (tokens_from line text.now))) }
+    ensures { Answers Want (λ sampled. sampled) result (lines_asked (asked_in asked.now) (history_of (tokens_from line text.now))) }
 {
     let mut watch = nothing(alloc);
     take_all(alloc, asked, line, text, &mut watch)?;
-    Ok(watch.lines)
+    Ok(SampledLines {
+        first: watch.first,
+        last: watch.time,
+        lines: watch.lines,
+    })
 }
 
 /// The lines of all rising edges of a clock, in value changes whose first line has this number.
@@ -356,9 +391,9 @@ pub fn sample(
     inputs: &[BitSource],
     line: u64,
     text: &[u8],
-) -> Result<List<Bits>, VcdFault>
+) -> Result<SampledLines, VcdFault>
     requires { line + length text.now < 2 ^ 64 }
-    ensures { Answers Want (λ lines. lines) result (sampled clock inputs.now (history_of (tokens_from line text.now))) }
+    ensures { Answers Want (λ sampled. sampled) result (sampled clock inputs.now (history_of (tokens_from line text.now))) }
 {
     let asked = SamplingRequest {
         clock,
@@ -367,6 +402,6 @@ pub fn sample(
         until: None,
         tail: false,
     };
-    let lines = watch_lines(alloc, &asked, line, text)?;
-    Ok(lines)
+    let sampled = watch_lines(alloc, &asked, line, text)?;
+    Ok(sampled)
 }

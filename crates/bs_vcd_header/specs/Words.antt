@@ -38,16 +38,19 @@ pub data Said : Type 0 where
   Comment : Said
   -- the beginning or the end of a list of changes
   Nothing : Said
+  -- the dump is switched off: what changes behind it is not in the text
+  Off : Said
 
--- Whether a word begins or ends a list of changes. `$dumpoff` is none: what changes behind it is not in the text, so the text is refused
--- there.
+-- whether a word begins or ends a list of changes
 abbrev pub is_section : List ℕ → Bool
 is_section word =
     bytes_eq word (codes "$dumpvars")
     || (bytes_eq word (codes "$end") || (bytes_eq word (codes "$dumpall") || bytes_eq word (codes "$dumpon")))
 
 abbrev pub keyword : List ℕ → Option Said
-keyword word = if bytes_eq word (codes "$comment") then Some Comment else (if is_section word then Some Nothing else None)
+keyword word =
+    if bytes_eq word (codes "$comment") then Some Comment
+    else (if bytes_eq word (codes "$dumpoff") then Some Off else (if is_section word then Some Nothing else None))
 
 abbrev pub timed : Option ℕ → Option Said
 timed None = None
@@ -87,6 +90,7 @@ said_in (S.Vector bits) = Vector bits.now
 said_in S.Passed = Passed
 said_in S.Comment = Comment
 said_in S.Nothing = Nothing
+said_in S.Off = Off
 
 abbrev pub maybe_said : Option CodeSaid → Option Said
 maybe_said None = None

@@ -12,6 +12,8 @@ pub enum VcdFault {
     Line(u64),
     #[error("the text ends too early")]
     Ended,
+    #[error("the dump is switched off in line {0}")]
+    DumpOff(u64),
     #[error("no variable is the clock")]
     NoClock,
     #[error("no variable of the scope is input {0}")]
@@ -20,6 +22,10 @@ pub enum VcdFault {
     Unknown(u64, u64),
     #[error("there is no such cycle: the clock rises {0} times")]
     NoCycle(u64),
+    #[error("there is no such time: the last one is {0}")]
+    NoTime(u64),
+    #[error("earlier states are wanted than the values have, which begin at {0}")]
+    Late(u64),
     #[error("out of memory")]
     NoMemory,
 }

@@ -22,6 +22,8 @@ pub enum Said<'a> {
     Comment,
     /// The beginning or the end of a list of changes.
     Nothing,
+    /// The dump is switched off.
+    Off,
 }
 
 /// Whether two texts are the same.
@@ -71,7 +73,7 @@ fn are_levels(text: &[u8]) -> bool
     !text.is_empty() && each
 }
 
-/// Whether a word begins or ends a list of changes. `$dumpoff` is none: what changes behind it is not in the text.
+/// Whether a word begins or ends a list of changes.
 fn is_section(word: &[u8]) -> bool
     ensures { result ≡ is_section word.now }
 {
@@ -87,6 +89,9 @@ fn keyword<'a>(word: &'a [u8]) -> Option<Said<'a>>
 {
     if is_text(word, b"$comment") {
         return Some(Said::Comment);
+    }
+    if is_text(word, b"$dumpoff") {
+        return Some(Said::Off);
     }
     if is_section(word) {
         Some(Said::Nothing)

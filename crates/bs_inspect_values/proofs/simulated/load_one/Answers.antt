@@ -3,24 +3,24 @@ use Rattle.std.specs.Option.{option_map}
 use Rattle.bs_top_plan.specs.Plan.{Plan}
 use Rattle.bs_top_files.specs.NoteCases.{NoteCase}
 use Rattle.bs_top_files.specs.Refusals.{Case}
-use Rattle.bs_stim.specs.Runs.{Recorded}
+use Rattle.bs_vcd.specs.declared.sampling.SampledLines.{SampledLines}
 use Rattle.bs_top_plan.specs.Plan.{end}
 use Rattle.bs_top_plan.proofs.TellingLemmas.{diagnosed_stop, diagnosed_then}
-use Rattle.bs_inspect_values.specs.SimulatedRun.{run_in, simulated}
+use Rattle.bs_inspect_values.specs.SimulatedRun.{SimulatedRun, run_in, simulated}
 use Rattle.std.specs.Prelude.{◌++◌, ◌∷◌, []}
 use Rattle.bs_inspect_values.proofs.WalkLemmas.{diagnosed_put}
 use Rattle.bs_inspect_values.proofs.simulated.load_one.Goals as goal
 
 pub returns-in-Ok : goal.returns-in-Ok
 returns-in-Ok g c =
-    let old : List Recorded = map run_in c.args.runs.now.items in
-    let f : List (List Bool) → Plan Case (List Recorded) = λ lines. end (old ++ simulated c.args.vcd.now lines ∷ []) in
-    let h : List (List Bool) → Plan NoteCase (List Recorded) = λ lines. end (old ++ simulated c.args.vcd.now lines ∷ []) in
+    let old : List SimulatedRun = map run_in c.args.runs.now.items in
+    let f : SampledLines → Plan Case (List SimulatedRun) = λ sampled. end (old ++ simulated c.args.vcd.now sampled ∷ []) in
+    let h : SampledLines → Plan NoteCase (List SimulatedRun) = λ sampled. end (old ++ simulated c.args.vcd.now sampled ∷ []) in
     diagnosed_then f h c.in-Ok.ensures (diagnosed_put _ _ _ c.put_or_stop.ensures.done c.put_or_stop.ensures.want)
 
 pub returns-in-Err : goal.returns-in-Err
 returns-in-Err g c =
-    let old : List Recorded = map run_in c.args.runs.now.items in
-    let f : List (List Bool) → Plan Case (List Recorded) = λ lines. end (old ++ simulated c.args.vcd.now lines ∷ []) in
-    let h : List (List Bool) → Plan NoteCase (List Recorded) = λ lines. end (old ++ simulated c.args.vcd.now lines ∷ []) in
+    let old : List SimulatedRun = map run_in c.args.runs.now.items in
+    let f : SampledLines → Plan Case (List SimulatedRun) = λ sampled. end (old ++ simulated c.args.vcd.now sampled ∷ []) in
+    let h : SampledLines → Plan NoteCase (List SimulatedRun) = λ sampled. end (old ++ simulated c.args.vcd.now sampled ∷ []) in
     diagnosed_stop f h c.in-Err.ensures

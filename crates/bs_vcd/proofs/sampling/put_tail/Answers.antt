@@ -7,8 +7,8 @@ use Rattle.bs_vcd.specs.Watching.{tailed}
 use Rattle.bs_vcd.proofs.TakingLemmas.{tail_known}
 use Rattle.bs_vcd.proofs.sampling.put_tail.Goals as goal
 
-pub returns : goal.returns
-returns c =
+pub returns-clause-lines : goal.returns-clause-lines
+returns-clause-lines c =
     subst (λ (k : Known). Answers NoMemory (λ _. c.add_tail.new.lines) c.add_tail.result
     (tailed (asked_in c.args.asked.now) c.args.watch.now.time k c.args.watch.now.lines))
     (tail_known (known_in c.args.watch.now.known) (known_in c.apply.new.known) c.args.watch.now.changes.items c.as_slice.result.now

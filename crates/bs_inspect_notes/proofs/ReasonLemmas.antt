@@ -1,0 +1,103 @@
+-- The first word whose option takes another value, an option that is missing, and what is said by them.
+use Rattle.std.proofs.Common.{◌≡◌, ◌≤◌, ◌<◌, ◌+◌, ◌||◌, ℕ, zero, suc, arith, Bool, true, false, List, [], ◌∷◌, length, map, drop, get_or, Option, Some, None, Result, Vec, refl, ap, sym, ◌∙◌, subst, codes}
+use Rattle.std.specs.Prelude.{IfOk, slice_index_or, if◌then◌else◌, String, string_bytes}
+use Rattle.std.specs.List.{list_any}
+use Rattle.std.specs.Str.{bytes_eq}
+use Rattle.std.specs.declared.alloc.Global.{Global}
+use Rattle.std.proofs.lemmas.List.{drop_more, drop_all}
+use Rattle.bs_bits.specs.declared.memory.NoMemory.{NoMemory}
+use Rattle.bs_inspect_notes.specs.Usages.{bad_text, first_bad, gives, is_bad, number_text, option_name, reason_text, stand_sentence}
+
+abbrev Words : Type 0
+Words = List (String Global)
+
+-- ---- the word at a place
+
+pub word_there : (words : Words) (i : ℕ) (word : String Global) (bytes : List ℕ) → i < length words → word ≡ get_or words i word → bytes ≡ string_bytes word →
+    bytes ≡ slice_index_or (map string_bytes words) i []
+word_there [] i word bytes lt e is = absurd (omega (arith, lt))
+word_there (w ∷ ws) zero word bytes lt e is = is ∙ ap string_bytes e
+word_there (w ∷ ws) (suc i) word bytes lt e is = word_there ws i word bytes (omega (arith, lt)) e is
+
+pub word_past : (words : Words) (i : ℕ) → length words ≤ i → [] ≡ slice_index_or (map string_bytes words) i []
+word_past [] i le = refl
+word_past (w ∷ ws) zero le = absurd (omega (arith, le))
+word_past (w ∷ ws) (suc i) le = word_past ws i (omega (arith, le))
+
+-- ---- the first word whose option takes another value
+
+index_is : (ws : List (List ℕ)) (i : ℕ) → slice_index_or ws i [] ≡ get_or ws i []
+index_is [] i = refl
+index_is (w ∷ ws) zero = refl
+index_is (w ∷ ws) (suc i) = index_is ws i
+
+front_is : (ws : List (List ℕ)) (i : ℕ) → slice_index_or ws i [] ≡ slice_index_or (drop i ws) 0 []
+front_is [] zero = refl
+front_is [] (suc i) = refl
+front_is (w ∷ ws) zero = refl
+front_is (w ∷ ws) (suc i) = front_is ws i
+
+-- what is found from a word on, behind which another stands
+abbrev from_word : ℕ → (word next : List ℕ) → List (List ℕ) → Option ℕ
+from_word number w next ws = if bytes_eq w (codes "--") then None else (if is_bad w next then Some number else first_bad (number + 1) ws)
+
+word_step : (ws : List (List ℕ)) (at : ℕ) (w next : List ℕ) (goal : Option ℕ) → at < length ws → w ≡ slice_index_or ws at [] →
+    next ≡ slice_index_or ws (at + 1) [] → first_bad (at + 1) (drop at ws) ≡ goal → from_word (at + 1) w next (drop (at + 1) ws) ≡ goal
+word_step ws at w next goal lt is other e =
+    (λ i. from_word (at + 1) ((is ∙ index_is ws at) i) ((other ∙ front_is ws (at + 1)) i) (drop (at + 1) ws))
+    ∙ (sym (ap (first_bad (at + 1)) (drop_more ws at [] lt)) ∙ e)
+
+pub bad_stop : (ws : List (List ℕ)) (at : ℕ) (w next : List ℕ) (goal : Option ℕ) → at < length ws → w ≡ slice_index_or ws at [] →
+    next ≡ slice_index_or ws (at + 1) [] → first_bad (at + 1) (drop at ws) ≡ goal → bytes_eq w (codes "--") ≡ true → None ≡ goal
+bad_stop ws at w next goal lt is other e stops =
+    subst (λ (b : Bool). (if b then None else (if is_bad w next then Some (at + 1) else first_bad (at + 1 + 1) (drop (at + 1) ws))) ≡ goal) stops
+    (word_step ws at w next goal lt is other e)
+
+goes_on : (ws : List (List ℕ)) (at : ℕ) (w next : List ℕ) (goal : Option ℕ) → at < length ws → w ≡ slice_index_or ws at [] →
+    next ≡ slice_index_or ws (at + 1) [] → first_bad (at + 1) (drop at ws) ≡ goal → bytes_eq w (codes "--") ≡ false →
+    (if is_bad w next then Some (at + 1) else first_bad (at + 1 + 1) (drop (at + 1) ws)) ≡ goal
+goes_on ws at w next goal lt is other e goes =
+    subst (λ (b : Bool). (if b then None else (if is_bad w next then Some (at + 1) else first_bad (at + 1 + 1) (drop (at + 1) ws))) ≡ goal) goes
+    (word_step ws at w next goal lt is other e)
+
+pub bad_found : (ws : List (List ℕ)) (at : ℕ) (w next : List ℕ) (goal : Option ℕ) → at < length ws → w ≡ slice_index_or ws at [] →
+    next ≡ slice_index_or ws (at + 1) [] → first_bad (at + 1) (drop at ws) ≡ goal → bytes_eq w (codes "--") ≡ false → is_bad w next ≡ true →
+    Some (at + 1) ≡ goal
+bad_found ws at w next goal lt is other e goes bad =
+    subst (λ (b : Bool). (if b then Some (at + 1) else first_bad (at + 1 + 1) (drop (at + 1) ws)) ≡ goal) bad (goes_on ws at w next goal lt is other e goes)
+
+pub bad_next : (ws : List (List ℕ)) (at : ℕ) (w next : List ℕ) (goal : Option ℕ) → at < length ws → w ≡ slice_index_or ws at [] →
+    next ≡ slice_index_or ws (at + 1) [] → first_bad (at + 1) (drop at ws) ≡ goal → bytes_eq w (codes "--") ≡ false → is_bad w next ≡ false →
+    first_bad (at + 1 + 1) (drop (at + 1) ws) ≡ goal
+bad_next ws at w next goal lt is other e goes right =
+    subst (λ (b : Bool). (if b then Some (at + 1) else first_bad (at + 1 + 1) (drop (at + 1) ws)) ≡ goal) right (goes_on ws at w next goal lt is other e goes)
+
+pub bad_none : (ws : List (List ℕ)) (at : ℕ) (goal : Option ℕ) → length ws ≤ at → first_bad (at + 1) (drop at ws) ≡ goal → None ≡ goal
+bad_none ws at goal le e = sym (ap (first_bad (at + 1)) (drop_all at ws le)) ∙ e
+
+-- ---- an option that is missing
+
+pub gives_by : (option : List ℕ) (words : Words) (b : Bool) → b ≡ list_any (λ w. bytes_eq (option_name (string_bytes w)) option) words →
+    b ≡ gives option (map string_bytes words)
+gives_by option words b e = e ∙ each words
+  where
+    each : (words : Words) → list_any (λ w. bytes_eq (option_name (string_bytes w)) option) words ≡ gives option (map string_bytes words)
+    each [] = refl
+    each (w ∷ ws) = ap (λ (c : Bool). bytes_eq (option_name (string_bytes w)) option || c) (each ws)
+
+-- ---- the reason
+
+abbrev Said : Type 0
+Said = Result (Vec ℕ Global) NoMemory
+
+pub number_found : (words : List (List ℕ)) (number : ℕ) (found : Option ℕ) (r : Said) → Some number ≡ found → IfOk r (λ n. n.items ≡ bad_text words number) →
+    IfOk r (λ n. n.items ≡ number_text words found)
+number_found words number found r e says = subst (λ (o : Option ℕ). IfOk r (λ n. n.items ≡ number_text words o)) e says
+
+pub number_none : (words : List (List ℕ)) (found : Option ℕ) (r : Said) → None ≡ found → IfOk r (λ n. n.items ≡ stand_sentence) →
+    IfOk r (λ n. n.items ≡ number_text words found)
+number_none words found r e says = subst (λ (o : Option ℕ). IfOk r (λ n. n.items ≡ number_text words o)) e says
+
+pub reason_by : (words : List (List ℕ)) (one other : Option (List ℕ)) (r : Said) → one ≡ other → IfOk r (λ n. n.items ≡ reason_text words one) →
+    IfOk r (λ n. n.items ≡ reason_text words other)
+reason_by words one other r e says = subst (λ (o : Option (List ℕ)). IfOk r (λ n. n.items ≡ reason_text words o)) e says

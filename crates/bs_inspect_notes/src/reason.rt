@@ -1,0 +1,251 @@
+//! Why the words behind a command do not stand as it takes them: an option is missing, or a number is none or out of its bounds.
+ghost use Rattle.std.specs.Prelude.{◌≡◌, ◌<◌, ◌≤◌, [], drop, length, map, option_map, slice_index_or, string_bytes, IfOk, IfSome};
+ghost use Rattle.std.specs.List.{list_any};
+ghost use Rattle.std.specs.Str.{bytes_eq};
+ghost use Rattle.bs_bits.specs.Lines.{number_in};
+ghost use Rattle.bs_inspect_notes.specs.Usages.{bad_text, bound_text, bounds, bounds_of, bounds_or, first_bad, gives, is_bad, is_between, lack_if, lack_of, number_text, option_name, reason_of, stand_sentence, value_of};
+
+use crate::listing::push_name;
+use crate::usage::option_name;
+use bs_bits::{NoMemory, push_number, push_piece, read_number};
+use bs_net_names::first_split;
+use std::alloc::Global;
+
+/// The least and the greatest number behind an option.
+#[derive(Clone, Copy)]
+pub struct Bounds {
+    pub least: u64,
+    pub most: u64,
+}
+
+/// Whether two names are the same.
+fn is_name(name: &[u8], other: &[u8]) -> bool
+    ensures { result ≡ bytes_eq name.now other.now }
+{
+    name == other
+}
+
+/// The word at a place, and an empty one behind the last.
+#[tactic(auto, using(crate::proofs::ReasonLemmas::word_there, crate::proofs::ReasonLemmas::word_past))]
+fn word_or(words: &[String], at: usize) -> &[u8]
+    ensures { result.now ≡ slice_index_or (map string_bytes words.now) at [] }
+{
+    if at < words.len() {
+        words[at].as_bytes()
+    } else {
+        b""
+    }
+}
+
+// ---- a number
+
+/// Two bounds.
+fn bounds(least: u64, most: u64) -> Bounds
+    ensures { result ≡ bounds least most }
+{
+    Bounds { least, most }
+}
+
+/// The bounds of the number behind an option, where it takes one.
+fn bounds_of(name: &[u8]) -> Option<Bounds>
+    ensures { result ≡ bounds_of name.now }
+{
+    if is_name(name, b"--bits") {
+        return Some(bounds(1, 256));
+    }
+    if is_name(name, b"--cycle") || is_name(name, b"--from") {
+        return Some(bounds(0, 65_536));
+    }
+    if is_name(name, b"--step") || is_name(name, b"--most") {
+        return Some(bounds(1, 65_536));
+    }
+    if is_name(name, b"--time") {
+        return Some(bounds(0, 18_446_744_073_709_551_615));
+    }
+    None
+}
+
+/// The bounds of the number behind an option, or none at all.
+fn bounds_or(name: &[u8]) -> Bounds
+    ensures { result ≡ bounds_or name.now }
+{
+    match bounds_of(name) {
+        Some(bounds) => bounds,
+        None => bounds(0, 0),
+    }
+}
+
+/// The value that a word gives its option: what stands behind its first `=`, or else the next word.
+fn value_of<'a>(word: &'a [u8], next: &'a [u8]) -> &'a [u8]
+    ensures { result.now ≡ value_of word.now next.now }
+{
+    match first_split(b'=', word) {
+        Some((_, value)) => value,
+        None => next,
+    }
+}
+
+/// Whether there is a number, and it lies in bounds.
+fn is_between(bounds: Bounds, number: Option<u64>) -> bool
+    ensures { result ≡ is_between bounds number }
+{
+    match number {
+        Some(number) => bounds.least <= number && number <= bounds.most,
+        None => false,
+    }
+}
+
+/// Whether a word gives an option another value than a number in its bounds.
+fn is_bad(word: &[u8], next: &[u8]) -> bool
+    ensures { result ≡ is_bad word.now next.now }
+{
+    match bounds_of(option_name(word)) {
+        Some(bounds) => !is_between(bounds, read_number(value_of(word, next))),
+        None => false,
+    }
+}
+
+/// The number, from 1, of the first word behind the command that gives an option another value than a number in its bounds.
+#[tactic(auto, using(crate::proofs::ReasonLemmas::bad_stop, crate::proofs::ReasonLemmas::bad_found, crate::proofs::ReasonLemmas::bad_next, crate::proofs::ReasonLemmas::bad_none))]
+fn first_bad(words: &[String]) -> Option<usize>
+    ensures is { result ≡ first_bad 2 (drop 1 (map string_bytes words.now)) }
+    ensures there { IfSome result (λ number. (0 < number) × (number ≤ length words.now)) }
+{
+    'words: for at in 1..words.len() {
+        let word = word_or(words, at);
+        let next = word_or(words, at + 1);
+        if word == b"--".as_slice() {
+            return None;
+        }
+        if is_bad(word, next) {
+            return Some(at + 1);
+        }
+    }
+    None
+}
+
+/// What is said of a word with its number, whose option takes a number in these bounds.
+#[tactic(auto, unfolding(crate::specs::Usages::bound_text))]
+fn bound_sentence(
+    alloc: Global,
+    number: u64,
+    word: &[u8],
+    bounds: Bounds,
+) -> Result<Vec<u8>, NoMemory>
+    ensures { IfOk result (λ said. said.items ≡ bound_text number word.now bounds) }
+{
+    let mut said = b"word ".to_vec(alloc)?;
+    push_number(&mut said, number)?;
+    push_piece(&mut said, b", ")?;
+    push_name(&mut said, word)?;
+    push_piece(&mut said, b", wants a number in digits from ")?;
+    push_number(&mut said, bounds.least)?;
+    push_piece(&mut said, b" to ")?;
+    push_number(&mut said, bounds.most)?;
+    Ok(said)
+}
+
+/// What is said of the word with a number, from 1, whose option takes another value.
+fn bad_sentence(alloc: Global, words: &[String], number: usize) -> Result<Vec<u8>, NoMemory>
+    requires { 0 < number }
+    ensures { IfOk result (λ said. said.items ≡ bad_text (map string_bytes words.now) number) }
+{
+    let word = word_or(words, number - 1);
+    let bounds = bounds_or(option_name(word));
+    let said = bound_sentence(alloc, number as u64, word, bounds)?;
+    Ok(said)
+}
+
+// ---- an option that is missing
+
+/// Whether some word gives an option with this name.
+fn any_gives(words: &[String], option: &[u8]) -> bool
+    ensures { result ≡ list_any (λ word. bytes_eq (option_name (string_bytes word)) option.now) words.now }
+{
+    words
+        .iter()
+        .any(|word| is_name(option_name(word.as_bytes()), option))
+}
+
+/// Whether some word gives an option with this name.
+#[tactic(auto, using(crate::proofs::ReasonLemmas::gives_by))]
+fn gives(words: &[String], option: &[u8]) -> bool
+    ensures { result ≡ gives option.now (map string_bytes words.now) }
+{
+    any_gives(words, option)
+}
+
+/// What is said of an option, unless it is given.
+fn lack_if(given: bool, sentence: &'static str) -> Option<&'static str>
+    ensures { option_map (λ s. s.now) result ≡ lack_if given sentence.now }
+{
+    if given { None } else { Some(sentence) }
+}
+
+/// What is said of an option without which a command does not go, where the words lack it.
+fn lack_of(command: &[u8], words: &[String]) -> Option<&'static str>
+    ensures { option_map (λ s. s.now) result ≡ lack_of command.now (map string_bytes words.now) }
+{
+    if is_name(command, b"stimulus") {
+        return lack_if(
+            gives(words, b"--clock"),
+            "`--clock NAME` is missing: the name that the clock has in the simulation",
+        );
+    }
+    if is_name(command, b"signature") {
+        return lack_if(
+            gives(words, b"--bits"),
+            "`--bits N` is missing: how many bits the signature has",
+        );
+    }
+    if is_name(command, b"dump") {
+        let cycle = gives(words, b"--cycle");
+        let time = gives(words, b"--time");
+        return lack_if(
+            cycle || time,
+            "`--cycle N` or `--time T` is missing: the moment of the dump",
+        );
+    }
+    None
+}
+
+// ---- the reason
+
+/// What is said where nothing else is.
+fn stand_sentence(alloc: Global) -> Result<Vec<u8>, NoMemory>
+    ensures { IfOk result (λ said. said.items ≡ stand_sentence) }
+{
+    let said =
+        b"the words do not stand as this command takes them: its files in this order, and each option that it takes as often as it may stand; --only takes every word up to the next option".to_vec(
+            alloc,
+        )?;
+    Ok(said)
+}
+
+/// What is said by the first word whose option takes another value, where there is one.
+fn number_sentence(alloc: Global, words: &[String]) -> Result<Vec<u8>, NoMemory>
+    ensures { IfOk result (λ said. said.items ≡ number_text (map string_bytes words.now) (first_bad 2 (drop 1 (map string_bytes words.now)))) }
+{
+    match first_bad(words) {
+        Some(number) => bad_sentence(alloc, words, number),
+        None => stand_sentence(alloc),
+    }
+}
+
+/// A copy of a text.
+fn copy_of(alloc: Global, text: &str) -> Result<Vec<u8>, NoMemory>
+    ensures { IfOk result (λ said. said.items ≡ text.now) }
+{
+    let said = text.as_bytes().to_vec(alloc)?;
+    Ok(said)
+}
+
+/// Why the words of a command, which is the first, do not stand as it takes them.
+pub fn reason_sentence(alloc: Global, words: &[String]) -> Result<Vec<u8>, NoMemory>
+    ensures { IfOk result (λ said. said.items ≡ reason_of (map string_bytes words.now)) }
+{
+    match lack_of(word_or(words, 0), words) {
+        Some(sentence) => copy_of(alloc, sentence),
+        None => number_sentence(alloc, words),
+    }
+}

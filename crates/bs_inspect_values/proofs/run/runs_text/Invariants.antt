@@ -1,6 +1,0 @@
-use Rattle.std.proofs.Common.{◌≡◌, map, take}
-use Rattle.bs_inspect_values.specs.SimulatedRun.{run_in, runs_text}
-use Rattle.bs_inspect_values.proofs.run.runs_text.Given as goal
-
-abbrev pub invariant-runs : goal.invariant-runs
-invariant-runs l = l.text.items ≡ runs_text (map run_in (take l.run-index l.runs))
