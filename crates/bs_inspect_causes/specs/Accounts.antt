@@ -11,16 +11,19 @@ use Rattle.bs_inspect_causes.specs.declared.account.Account.{Account}
 
 -- ---- what is asked
 
--- each state of a trace but the first is the one to which the state and the input before it lead
-pub record LeadsOn (c : Circuit) (states inputs : List (List Bool)) : Type 0 where
-  pub each : (t : ℕ) → t < length inputs →
-      slice_index_or states (t + 1) [] ≡ next c (slice_index_or states t []) (slice_index_or inputs t [])
+-- each of the first states of a trace, with its input, leads to the state behind it
+pub record LeadsBefore (c : Circuit) (states inputs : List (List Bool)) (count : ℕ) : Type 0 where
+  pub each : (t : ℕ) → t < count → slice_index_or states (t + 1) [] ≡ next c (slice_index_or states t []) (slice_index_or inputs t [])
 
--- the first state of a trace that leads to another one than that behind it
+-- each state but the last one does
+abbrev pub LeadsOn : Circuit → List (List Bool) → List (List Bool) → Type 0
+LeadsOn c states inputs = LeadsBefore c states inputs (length inputs)
+
+-- the first state that does not
 pub record IsBreak (c : Circuit) (states inputs : List (List Bool)) (t : ℕ) : Type 0 where
   pub there : t < length inputs
   pub other : slice_index_or states (t + 1) [] ≢ next c (slice_index_or states t []) (slice_index_or inputs t [])
-  pub before : (u : ℕ) → u < t → slice_index_or states (u + 1) [] ≡ next c (slice_index_or states u []) (slice_index_or inputs u [])
+  pub before : LeadsBefore c states inputs t
 
 -- whether one of some nets is this one
 abbrev pub has_net : List NetId → NetId → Bool

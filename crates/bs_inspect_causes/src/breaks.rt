@@ -1,5 +1,5 @@
 //! Whether a trace leads on.
-ghost use Rattle.std.specs.Prelude.{◌≡◌, ◌≢◌, ◌<◌, ◌+◌, [], length, slice_index_or, IfOk, MatchOption};
+ghost use Rattle.std.specs.Prelude.{◌≡◌, ◌↔◌, length, IsTrue, IfOk, MatchOption};
 ghost use Rattle.bs_net.specs.Circuit.{next};
 ghost use Rattle.bs_net.specs.Netlist.{circuit};
 ghost use Rattle.bs_net_facts.specs.Facts.{IsWayOf};
@@ -15,7 +15,7 @@ fn leads(sim: &mut Sim<'_>, state: &Bits, input: &Bits, after: &Bits) -> bool
     requires state { length state.now ≡ length (circuit sim.old.net).flops }
     requires input { length input.now ≡ length (circuit sim.old.net).inputs }
     ensures net { sim.new.net ≡ sim.old.net }
-    ensures leads { result ≡ bits_eq (next (circuit sim.old.net) state.now input.now) after.now }
+    ensures same { IsTrue result ↔ (next (circuit sim.old.net) state.now input.now ≡ after.now) }
 {
     sim.load(state);
     sim.step(input);
@@ -24,6 +24,7 @@ fn leads(sim: &mut Sim<'_>, state: &Bits, input: &Bits, after: &Bits) -> bool
 
 /// The first state of a trace that does not lead to the one behind it, by its number from 0. It takes one pass over the gates for
 /// each moment.
+#[tactic(auto, using(crate::proofs::BreakLemmas::leads_none, crate::proofs::BreakLemmas::leads_more, crate::proofs::BreakLemmas::leads_on, crate::proofs::BreakLemmas::break_is))]
 pub fn first_break(
     alloc: Global,
     net: &Netlist,
