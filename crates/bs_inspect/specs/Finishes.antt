@@ -17,6 +17,11 @@ use Rattle.bs_inspect_report.specs.Remarks.{remarks}
 use Rattle.bs_inspect_report.specs.Steps.{steps_text}
 use Rattle.bs_inspect_report.specs.Table.{TellsTable, steps_table}
 use Rattle.bs_inspect_report.specs.Trace.{TellsTrace}
+use Rattle.bs_inspect_why.specs.Denials.{denial_text}
+use Rattle.bs_inspect_why.specs.Question.{Question}
+use Rattle.bs_inspect_why.specs.Why.{Answers}
+use Rattle.bs_inspect_why.specs.declared.denial.Why.{Why}
+use Rattle.bs_inspect_why.specs.declared.denial.Why.TheVariants as why
 use Rattle.bs_inspect.specs.Usage.{usage_text, version_text}
 use Rattle.bs_inspect.specs.Work.{Work, to_help, to_version, to_flops, to_inputs, to_stats, to_steps, to_trace, to_runs, to_dump, to_wave, to_signature}
 use Rattle.bs_net.specs.Netlist.{circuit_of}
@@ -25,8 +30,8 @@ use Rattle.bs_evidence.specs.declared.flaw.Evidence.{Evidence}
 use Rattle.bs_evidence.specs.declared.flaw.Evidence.TheVariants.{Text, Flawed}
 use Rattle.bs_evidence.specs.Evidence.{IsEvidence}
 use Rattle.bs_evidence.specs.Words.{flaw_text}
-use Rattle.bs_inspect_files.specs.Taken.{ReportFiles}
-use Rattle.bs_inspect.specs.Work.{to_table, to_steps_table, to_keys, to_state, to_evidence, to_page, to_novel}
+use Rattle.bs_inspect_files.specs.Taken.{ReportFiles, TraceFiles}
+use Rattle.bs_inspect.specs.Work.{to_table, to_steps_table, to_keys, to_state, to_evidence, to_page, to_novel, to_why}
 
 -- the status and the text of evidence: a flaw is answered as an audit answers a part that fails
 abbrev pub evidence_status : Evidence → Status
@@ -43,6 +48,22 @@ pub record TellsEvidence (kind : Format) (step : ℕ) (report_files : ReportFile
   pub right : IsEvidence kind (circuit_of report_files.raw) report_files.choice report_files.report step evidence
   pub answered : status ≡ evidence_status evidence
   pub written : text ≡ evidence_text evidence
+
+-- the status and the text of an answer to `why`: where there is no account, it is answered as an audit answers a part that fails
+abbrev pub why_status : Why → Status
+why_status (why.Text text) = Done
+why_status (why.Denied denial) = Rejected
+
+abbrev pub why_text : Why → List ℕ
+why_text (why.Text text) = text.items
+why_text (why.Denied denial) = denial_text denial
+
+-- what forces the bits of a name, or why it is not told
+pub record TellsReasons (q : Question) (trace_files : TraceFiles) (status : Status) (text : List ℕ) : Type 0 where
+  pub answer : Why
+  pub right : Answers trace_files.raw trace_files.report q answer
+  pub answered : status ≡ why_status answer
+  pub written : text ≡ why_text answer
 
 abbrev pub finishes : Work → Status → List ℕ → Type 0
 finishes to_help status text = (status ≡ Done) × (text ≡ usage_text)
@@ -65,3 +86,4 @@ finishes (to_state scanned) status text = (status ≡ Done) × (text ≡ state_l
 finishes (to_evidence kind step report_files) status text = TellsEvidence kind step report_files status text
 finishes (to_page asked trace_files) status text = (status ≡ Done) × ShowsReport trace_files.raw trace_files.report asked text
 finishes (to_novel most one_run) status text = (status ≡ Done) × TellsNovel one_run.run_files.raw one_run.run_files.runs one_run.moment.run most text
+finishes (to_why q trace_files) status text = TellsReasons q trace_files status text

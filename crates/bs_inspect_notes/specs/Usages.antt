@@ -34,6 +34,7 @@ usages =
     ∷ stands (codes "cnf") (codes "usage: backspace_inspect cnf NETLIST SIGNATURE REPORT --step K")
     ∷ stands (codes "lrat") (codes "usage: backspace_inspect lrat NETLIST SIGNATURE REPORT --step K")
     ∷ stands (codes "novel") (codes "usage: backspace_inspect novel NETLIST STIMULUS RUN [--most N]")
+    ∷ stands (codes "why") (codes "usage: backspace_inspect why NETLIST REPORT NAME [--at CYCLE] [--depth N] [--flops] [--all] [--csv]")
     ∷ stands (codes "help") (codes "usage: backspace_inspect help")
     ∷ stands (codes "version") (codes "usage: backspace_inspect version")
     ∷ []
@@ -54,7 +55,8 @@ commands = map (λ u. u.command) usages
 abbrev pub options : List (List ℕ)
 options =
     codes "--all" ∷ codes "--only" ∷ codes "--clock" ∷ codes "--scope" ∷ codes "--map" ∷ codes "--bits" ∷ codes "--csv" ∷ codes "--from" ∷ codes "--cycle"
-    ∷ codes "--time" ∷ codes "--signature" ∷ codes "--step" ∷ codes "--most" ∷ []
+    ∷ codes "--time" ∷ codes "--signature" ∷ codes "--step" ∷ codes "--most" ∷ codes "--at" ∷ codes "--depth"
+    ∷ codes "--flops" ∷ []
 
 -- ---- wrong words
 

@@ -14,7 +14,7 @@ use bs_note_files::pair_note;
 use std::alloc::Global;
 
 /// The commands, and how the words of each stand.
-const USAGES: [(&str, &str); 17] = [
+const USAGES: [(&str, &str); 18] = [
     ("flops", "usage: backspace_inspect flops NETLIST"),
     ("keys", "usage: backspace_inspect keys NETLIST NAME .."),
     ("inputs", "usage: backspace_inspect inputs NETLIST"),
@@ -60,12 +60,16 @@ const USAGES: [(&str, &str); 17] = [
         "novel",
         "usage: backspace_inspect novel NETLIST STIMULUS RUN [--most N]",
     ),
+    (
+        "why",
+        "usage: backspace_inspect why NETLIST REPORT NAME [--at CYCLE] [--depth N] [--flops] [--all] [--csv]",
+    ),
     ("help", "usage: backspace_inspect help"),
     ("version", "usage: backspace_inspect version"),
 ];
 
 /// The options of all commands.
-const OPTIONS: [&[u8]; 13] = [
+const OPTIONS: [&[u8]; 16] = [
     b"--all",
     b"--only",
     b"--clock",
@@ -79,10 +83,13 @@ const OPTIONS: [&[u8]; 13] = [
     b"--signature",
     b"--step",
     b"--most",
+    b"--at",
+    b"--depth",
+    b"--flops",
 ];
 
 /// The commands.
-const COMMANDS: [&[u8]; 17] = [
+const COMMANDS: [&[u8]; 18] = [
     b"flops",
     b"keys",
     b"inputs",
@@ -98,6 +105,7 @@ const COMMANDS: [&[u8]; 17] = [
     b"cnf",
     b"lrat",
     b"novel",
+    b"why",
     b"help",
     b"version",
 ];

@@ -10,7 +10,7 @@ use Rattle.bs_inspect_causes.specs.Accounts.{Explain}
 use Rattle.bs_inspect_causes.specs.declared.account.Account.{Account}
 use Rattle.bs_inspect_why_words.specs.Blocks.{TellsBlock, TellsParts}
 use Rattle.bs_inspect_why_words.specs.Heads.{Episode}
-use Rattle.bs_inspect_why_words.specs.Limits.{limits}
+use Rattle.bs_inspect_why_words.specs.Limits.{limits_of}
 use Rattle.bs_inspect_why_words.specs.declared.limits.Limits.{Limits}
 use Rattle.bs_inspect_why.specs.declared.chain.Chain.{Chain}
 use Rattle.bs_inspect_why.specs.declared.chain.Place.{Place}
@@ -67,7 +67,7 @@ TellsAccounts false m r few accounts text = TellsChains m r few accounts (chains
 pub record TellsFacts (m : Seen) (r : Report) (q : Question) (asked : List Fact) (text : List ℕ) : Type 0 where
   pub accounts : List Account
   pub explain : Explain (circuit m.net) m.states m.inputs asked q.depth accounts
-  pub tells : TellsAccounts q.csv m r (limits q.all) accounts text
+  pub tells : TellsAccounts q.csv m r (limits_of q.all) accounts text
 
 -- accounts of some nets at a moment
 pub record TellsNets (m : Seen) (r : Report) (q : Question) (nets : List NetId) (at : ℕ) (text : List ℕ) : Type 0 where

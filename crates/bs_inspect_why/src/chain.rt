@@ -1,5 +1,5 @@
 //! Accounts that step a vector on for the same reasons, as one.
-ghost use Rattle.std.specs.Prelude.{◌≡◌, ◌<◌, ◌+◌, ◌^◌, length, All, IfOk, IfSome, OnOk, None, Some};
+ghost use Rattle.std.specs.Prelude.{◌≡◌, ◌<◌, ◌+◌, ◌^◌, ◌∷◌, [], ◌++◌, not, length, filter, All, IfOk, IfSome, OnOk, None, Some, if◌then◌else◌};
 ghost use Rattle.std.specs.Bool.{beq};
 ghost use Rattle.std.specs.List.{position};
 ghost use Rattle.bs_inspect_why.specs.Chains.{are_among, chained, chained_at, chains_of, come_again, comes_again, extended, goes_on, has_fact, is_again, is_before, is_step, IsWithin, may_be_before, other_causes, same_nets};
@@ -46,19 +46,33 @@ fn same_nets(facts: &[Fact], others: &[Fact]) -> bool
     facts.len() == others.len() && are_among(facts, others)
 }
 
-/// The causes that are of other nets than the bits.
+/// Puts a fact at the end, where it is of another net than some bits.
+fn put_other(others: &mut Vec<Fact>, bits: &[Fact], fact: Fact) -> Result<(), NoMemory>
+    ensures { OnOk result (others.new.items ≡ others.old.items ++ (if not (has_fact bits.now fact) then fact ∷ [] else [])) }
+{
+    if !has_fact(bits, fact) {
+        others.push(fact)?;
+    }
+    Ok(())
+}
+
+/// The facts that are of other nets than some bits.
 #[tactic(auto, using(crate::proofs::ChainLemmas::others_more))]
+fn others_of(alloc: Global, bits: &[Fact], facts: &[Fact]) -> Result<Vec<Fact>, NoMemory>
+    ensures { IfOk result (λ others. others.items ≡ filter (λ f. not (has_fact bits.now f)) facts.now) }
+{
+    let mut others = Vec::new(alloc);
+    'facts: for i in 0..facts.len() {
+        put_other(&mut others, bits, facts[i])?;
+    }
+    Ok(others)
+}
+
+/// The causes that are of other nets than the bits.
 fn other_causes(alloc: Global, account: &Account) -> Result<Vec<Fact>, NoMemory>
     ensures { IfOk result (λ others. others.items ≡ other_causes account.now) }
 {
-    let bits = account.block.bits.slice();
-    let causes = account.causes.slice();
-    let mut others = Vec::new(alloc);
-    'causes: for fact in causes {
-        if !has_fact(bits, *fact) {
-            others.push(*fact)?;
-        }
-    }
+    let others = others_of(alloc, account.block.bits.slice(), account.causes.slice())?;
     Ok(others)
 }
 

@@ -5,7 +5,7 @@ ghost use Rattle.bs_net_facts.specs.Facts.{IsWayOf};
 ghost use Rattle.bs_inspect_causes.specs.Accounts.{IsAccount};
 ghost use Rattle.bs_inspect_why_words.specs.Blocks.{Appends, TellsBlock};
 ghost use Rattle.bs_inspect_why_words.specs.Heads.{episode_in};
-ghost use Rattle.bs_inspect_why_words.specs.Limits.{limits as limits_of};
+ghost use Rattle.bs_inspect_why_words.specs.Limits.{limits_of as all_limits};
 ghost use Rattle.bs_inspect_why.specs.Chains.{ArePlaces, chain_at, chains_of as all_chains, IsWithin};
 ghost use Rattle.bs_inspect_why.specs.Why.{episode_of, TellsAccounts, TellsChain, TellsChains, TellsPlaces};
 
@@ -14,7 +14,7 @@ use crate::order::ordered_chains;
 use crate::table::accounts_table;
 use bs_bits::NoMemory;
 use bs_inspect_causes::Account;
-use bs_inspect_why_words::{Episode, Limits, limits, push_block};
+use bs_inspect_why_words::{Episode, Limits, limits_of, push_block};
 use bs_net_facts::Moments;
 use bs_report::Report;
 use std::alloc::Global;
@@ -172,12 +172,12 @@ pub(crate) fn accounts_text(
 ) -> Result<Vec<u8>, NoMemory>
     requires way { IsWayOf (circuit moments.now.net) moments.now.states moments.now.inputs }
     requires accounts { All (IsAccount (circuit moments.now.net) moments.now.states moments.now.inputs) accounts.now }
-    ensures { IfOk result (λ text. TellsAccounts csv moments.now report.now (limits_of all) accounts.now text.items) }
+    ensures { IfOk result (λ text. TellsAccounts csv moments.now report.now (all_limits all) accounts.now text.items) }
 {
     if csv {
         let text = accounts_table(alloc, moments.net().raw(), accounts)?;
         return Ok(text);
     }
-    let text = chains_text(alloc, moments, report, limits(all), accounts)?;
+    let text = chains_text(alloc, moments, report, limits_of(all), accounts)?;
     Ok(text)
 }

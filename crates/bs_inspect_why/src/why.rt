@@ -195,7 +195,7 @@ fn answer_of(
 }
 
 /// The moment that is asked for, if it is one of the trace's. More than can be numbered are answered as out of memory.
-#[tactic(auto, using(crate::proofs::WhyLemmas::moment_is, crate::proofs::WhyLemmas::moment_past))]
+#[tactic(auto, using(crate::proofs::WhyLemmas::moment_is))]
 fn moment_of(count: usize, at: Option<u64>) -> Result<Option<u32>, NoMemory>
     requires { 0 < count }
     ensures { IfOk result (λ moment. MatchOption moment (count ≤ moment_in count at) (λ t. (t ≡ moment_in count at) × (t < count))) }

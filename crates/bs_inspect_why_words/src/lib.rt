@@ -23,4 +23,4 @@ mod words;
 pub use block::push_block;
 pub use episode::Episode;
 pub use key::key_of;
-pub use limits::{Limits, MAX_APART, RECENT, limits};
+pub use limits::{Limits, MAX_APART, RECENT, limits_of};

@@ -1,6 +1,6 @@
 //! How much is told.
 ghost use Rattle.std.specs.Prelude.{◌≡◌};
-ghost use Rattle.bs_inspect_why_words.specs.Limits.{limits};
+ghost use Rattle.bs_inspect_why_words.specs.Limits.{limits_of};
 
 /// A cause is older where it has not changed in so many cycles.
 pub const RECENT: u32 = 3;
@@ -26,8 +26,8 @@ pub struct Limits {
 }
 
 /// How much is told, by whether all is.
-pub fn limits(all: bool) -> Limits
-    ensures { result ≡ limits all }
+pub fn limits_of(all: bool) -> Limits
+    ensures { result ≡ limits_of all }
 {
     if all {
         return Limits {

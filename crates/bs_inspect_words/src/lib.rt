@@ -1,13 +1,14 @@
 //! The words of a command line of the companion: which are a request, and which one they are.
 //!
 //! Modules: `settings` (options and their values), `request` and `proposed` (`Request`), `named`, `report`, `simulation`,
-//! `signature`, `novel`, `evidence`, `page` (the commands; what `page` asks: `paged`), `reading` (`read_request`). Words by position and
+//! `signature`, `novel`, `evidence`, `page`, `why` (the commands; what the last two ask: `paged`, `causes`), `reading` (`read_request`). Words by position and
 //! options are parted by bs_top_words. Used above:
 //! `read_request` answers `request_of` (`specs/Request`). A command: a record and a variant of `Request` in code and
 //! specs, its words in a module, and a line in `command_request` or its kin; an option: a variant of `Flag` (bs_top_words), and a
 //! place in `all_flags`.
 #![tactic(auto)]
 
+mod causes;
 mod evidence;
 mod named;
 mod novel;
@@ -20,7 +21,9 @@ mod request;
 mod settings;
 mod signature;
 mod simulation;
+mod why;
 
+pub use causes::{DEFAULT_DEPTH, MAX_DEPTH, WhyRequest};
 pub use novel::MAX_LINES;
 pub use paged::{DEFAULT_DRAWN, MAX_DRAWN, PageRequest};
 pub use proposed::{NovelRequest, SignatureRequest};

@@ -1,4 +1,5 @@
 //! The requests: a command, its files and its options.
+use crate::causes::WhyRequest;
 use crate::paged::PageRequest;
 use crate::proposed::{NovelRequest, SignatureRequest};
 use bs_vcd::When;
@@ -113,4 +114,6 @@ pub enum Request<'a> {
     Page(PageRequest<'a>),
     /// The values that one recorded run alone has.
     Novel(NovelRequest<'a>),
+    /// What forces the bits of a name in a trace.
+    Why(WhyRequest<'a>),
 }

@@ -64,3 +64,6 @@ returns-in-Lrat g c = noted_asked _ _ _ (ap request_in c.in-Lrat.is) c.lrat.ensu
 
 pub returns-in-Novel : goal.returns-in-Novel
 returns-in-Novel g c = noted_asked _ _ _ (ap request_in c.in-Novel.is) c.novel.ensures
+
+pub returns-in-Why : goal.returns-in-Why
+returns-in-Why g c = noted_asked _ _ _ (ap request_in c.in-Why.is) c.why.ensures
