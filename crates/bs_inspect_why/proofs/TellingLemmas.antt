@@ -28,7 +28,7 @@ use Rattle.bs_inspect_why.specs.Why.{TellsChain, TellsChains, TellsPlaces, episo
 
 pub causes_real : (c : Circuit) (states inputs : List (List Bool)) (a : Account) → IsAccount c states inputs a → All (IsReal c states inputs) a.causes
 causes_real c states inputs a is =
-    subst (All (IsReal c states inputs)) (sym is.causes) (All-filter (IsReal c states inputs) (is_cause a.block) a.block.given is.block.real)
+    subst (All (IsReal c states inputs)) (sym is.causes) (All-filter (is_cause a.block) (IsReal c states inputs) a.block.given is.block.real)
 
 -- the bits at the first cycle are among those that last
 front_real : (P : Fact → Type 0) (bits : List Fact) (since n : ℕ) (k : ℕ) (d : Fact) → All P (stretch bits since (suc n)) → k < length bits →
