@@ -367,11 +367,7 @@ fn novel<S: Shelf>(
 }
 
 /// The answer to `why`.
-fn why<S: Shelf>(
-    alloc: Global,
-    shelf: &mut S,
-    asked: &WhyRequest<'_>,
-) -> Result<Response, NoMemory>
+fn why<S: Shelf>(alloc: Global, shelf: &mut S, asked: &WhyRequest<'_>) -> Result<Response, NoMemory>
     ensures { PreparedNoted CheckSays finishes (RequestSaid (WhyOf (why_in asked.now))) S.held S.faults S.leads shelf.old shelf.new (Some (plan_of (WhyOf (why_in asked.now)))) result }
 {
     match load_charted(alloc, shelf, asked.netlist, asked.report, &[asked.name]) {

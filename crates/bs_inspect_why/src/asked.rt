@@ -35,11 +35,7 @@ pub(crate) fn net_keys<'a>(alloc: Global, net: &'a Netlist) -> Result<Vec<&'a st
 
 /// The nets with a name.
 #[tactic(auto, using(crate::proofs::AskedLemmas::members_are))]
-fn named<'a>(
-    alloc: Global,
-    net: &'a Netlist,
-    name: &str,
-) -> Result<Vec<Member<'a>>, NoMemory>
+fn named<'a>(alloc: Global, net: &'a Netlist, name: &str) -> Result<Vec<Member<'a>>, NoMemory>
     ensures { IfOk result (λ members. map member_in members.items ≡ members_of (name.now ∷ []) net.now.raw.names) }
 {
     let keys = net_keys(alloc, net)?;
@@ -67,11 +63,7 @@ fn put_asked(nets: &mut Vec<NetId>, net: &Netlist, member: &Member<'_>) -> Resul
 
 /// Those of some nets that are no data inputs.
 #[tactic(auto, using(crate::proofs::AskedLemmas::nets_more))]
-fn driven(
-    alloc: Global,
-    net: &Netlist,
-    members: &[Member<'_>],
-) -> Result<Vec<NetId>, NoMemory>
+fn driven(alloc: Global, net: &Netlist, members: &[Member<'_>]) -> Result<Vec<NetId>, NoMemory>
     ensures { IfOk result (λ nets. nets.items ≡ flat_map (asked_net (circuit net.now)) (map member_in members.now)) }
 {
     let mut nets = Vec::new(alloc);
@@ -83,11 +75,7 @@ fn driven(
 
 /// The nets with a name that are no data inputs.
 #[tactic(auto, using(crate::proofs::AskedLemmas::nets_are, crate::proofs::AskedLemmas::nets_placed, crate::proofs::AskedLemmas::nets_driven))]
-pub(crate) fn asked_nets(
-    alloc: Global,
-    net: &Netlist,
-    name: &str,
-) -> Result<Vec<NetId>, NoMemory>
+pub(crate) fn asked_nets(alloc: Global, net: &Netlist, name: &str) -> Result<Vec<NetId>, NoMemory>
     ensures placed { IfOk result (λ nets. All (λ n. n.0 < (circuit net.now).nets) nets.items) }
     ensures driven { IfOk result (λ nets. All (λ n. has_net (circuit net.now).inputs n ≡ false) nets.items) }
     ensures are { IfOk result (λ nets. nets.items ≡ asked_nets net.now.raw name.now) }

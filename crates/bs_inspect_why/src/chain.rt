@@ -221,11 +221,7 @@ fn push_alone(chains: &mut Vec<Chain>, number: usize) -> Result<(), NoMemory>
 }
 
 /// Puts an account on a chain, or at the end as one of its own.
-fn put_account(
-    chains: &mut Vec<Chain>,
-    found: Option<usize>,
-    number: usize,
-) -> Result<(), NoMemory>
+fn put_account(chains: &mut Vec<Chain>, found: Option<usize>, number: usize) -> Result<(), NoMemory>
     requires place { IfSome found (λ place. place < length chains.old.items) }
     requires number { number < 2 ^ 63 }
     requires within { All (IsWithin number) chains.old.items }

@@ -118,7 +118,15 @@ fn push_places(
     ensures { OnOk result (Appends (TellsPlaces moments.now report.now few accounts.now chains.now ordered.now (length ordered.now)) text.old.items text.new.items) }
 {
     'places: for i in 0..ordered.len() {
-        push_place(text, moments, report, few, accounts, chains, ordered[i].place)?;
+        push_place(
+            text,
+            moments,
+            report,
+            few,
+            accounts,
+            chains,
+            ordered[i].place,
+        )?;
     }
     Ok(())
 }
@@ -139,7 +147,15 @@ fn push_chains(
     ensures { OnOk result (Appends (TellsChains moments.now report.now few accounts.now chains.now) text.old.items text.new.items) }
 {
     let ordered = ordered_chains(*text.allocator(), accounts, chains)?;
-    push_places(text, moments, report, few, accounts, chains, ordered.as_slice())
+    push_places(
+        text,
+        moments,
+        report,
+        few,
+        accounts,
+        chains,
+        ordered.as_slice(),
+    )
 }
 
 /// The text of accounts as blocks.

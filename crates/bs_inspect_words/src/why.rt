@@ -86,9 +86,7 @@ fn why_at<'a>(
     ensures { shown_request result ≡ why_of (map (λ s. s.now) positions.now) at depth flops all csv }
 {
     match positions {
-        [netlist, report, name] => {
-            why_for(netlist, report, name, at, depth, flops, all, csv)
-        }
+        [netlist, report, name] => { why_for(netlist, report, name, at, depth, flops, all, csv) }
         _ => None,
     }
 }

@@ -147,8 +147,7 @@ const LATE: Question<'static> = Question {
 const ENABLED: &str =
     "2 q = 1, since 1, before 0 (dump)\n    by 0 a = 1, since 0\n    by 0 b = 1, since 0\n    kept by b = 0  1\n";
 
-const CLEARED: &str =
-    "1 q = 0, before 1 (dump)\n    by 0 r = 1, since 0\n    whatever a = 1  0\n";
+const CLEARED: &str = "1 q = 0, before 1 (dump)\n    by 0 r = 1, since 0\n    whatever a = 1  0\n";
 
 const LOADED: &str = "1 q = 0, before 1 (dump)\n    by 0 a = 0, since 0\n";
 
