@@ -169,8 +169,7 @@ module _ (m : Seen) (d : Drivers) (at : ℕ) (flop : Bool) (facts : List Fact) (
         subst (λ (s : List Bool). Fits c s some_fit.input w) state some_fit.fits in
         let there : FitsMoment c m.states m.inputs (t + 1) w =
         record { input = some_fit.input; same = λ lt. absurd (omega (arith, lt, last)); fits = fits } in
-        subst (λ (k : ℕ). FitsMoment c m.states m.inputs k (valuation_at vs k) → bit_at (valuation_at vs k) f.net.0 ≡ f.bit) same
-        (λ fit. real.each (valuation_at vs f.cycle) fit) there
+        real.each (valuation_at vs f.cycle) (subst (λ (k : ℕ). FitsMoment c m.states m.inputs k (valuation_at vs k)) (sym same) there)
 
     -- and before it each flip-flop
     flop_holds : (vs : List (List Bool)) → length vs ≡ length m.states → Follow c vs → All (HoldsIn vs) by_sources → t + 1 < length m.inputs →

@@ -10,7 +10,7 @@ use Rattle.bs_net.specs.declared.net.Const.{Const}
 use Rattle.bs_net.specs.declared.raw.Raw.{Raw}
 use Rattle.bs_net.specs.Circuit.{Circuit, number, state_nets}
 use Rattle.bs_net.specs.Netlist.{Checked, circuit, parts_of}
-use Rattle.bs_net.specs.Order.{IsChecked, no_gate}
+use Rattle.bs_net.specs.Order.{IsChecked}
 use Rattle.bs_net.specs.Parts.{Parts}
 use Rattle.bs_net_facts.proofs.PassLemmas.{all_left, all_right}
 use Rattle.bs_inspect_causes.specs.Accounts.{has_net}
@@ -76,15 +76,6 @@ flops_below c h =
     unmap P number (state_nets c)
     (all_left P (map number (state_nets c)) last (all_right P (map number c.inputs) (map number (state_nets c) ++ last) h.in_range))
 
-pub gates_below : (c : Circuit) → IsChecked c → All (λ (g : Gate). g.out.0 < c.nets) c.gates
-gates_below c h =
-    let P : ℕ → Type 0 = λ k. k < c.nets in
-    let consts : List ℕ = map (λ (k : Const). k.net.0) c.constants in
-    let outs : List ℕ = map (λ (g : Gate). g.out.0) c.gates in
-    unmap P (λ (g : Gate). g.out.0) c.gates
-    (all_right P consts outs
-    (all_right P (map number (state_nets c)) (consts ++ outs) (all_right P (map number c.inputs) (map number (state_nets c) ++ (consts ++ outs)) h.in_range)))
-
 -- the number of nets, as the parts say it
 count_is : (n : Checked) (r : Raw) (count : ℕ) → parts_of r ≡ n.raw → count ≡ length r.names → (circuit n).nets ≡ count
 count_is n r count same e = sym (e ∙ ap (λ (p : Parts). length p.names) same)
@@ -101,27 +92,12 @@ flops_placed n r nets count checked same e are =
     subst (λ (ns : List NetId). All (λ (m : NetId). m.0 < count) ns) (sym are)
     (subst (λ (k : ℕ). All (λ (m : NetId). m.0 < k) (state_nets (circuit n))) (count_is n r count same e) (flops_below (circuit n) checked))
 
--- of the outputs of gates
-outs_below : (k : ℕ) (gates : List Gate) → All (λ (g : Gate). g.out.0 < k) gates → All (λ (m : NetId). m.0 < k) (map (λ (g : Gate). g.out) gates)
-outs_below k gates h = λ i d lt.
-    let below : i < length gates = omega (arith, lt, length-map gates (λ (g : Gate). g.out)) in
-    let g : Gate = no_gate in
-    subst (λ (m : NetId). m.0 < k) (sym (get_or-map (λ (x : Gate). x.out) gates i g d below)) (h i g below)
-
-pub gates_placed : (n : Checked) (r : Raw) (gates : List Gate) (nets : List NetId) (count : ℕ) → IsChecked (circuit n) → parts_of r ≡ n.raw →
-    count ≡ length r.names → gates ≡ (circuit n).gates → nets ≡ map (λ (g : Gate). g.out) gates → All (λ (m : NetId). m.0 < count) nets
-gates_placed n r gates nets count checked same e are outs =
-    let here : All (λ (m : NetId). m.0 < count) (map (λ (g : Gate). g.out) (circuit n).gates) =
-    subst (λ (k : ℕ). All (λ (m : NetId). m.0 < k) (map (λ (g : Gate). g.out) (circuit n).gates)) (count_is n r count same e)
-    (outs_below (circuit n).nets (circuit n).gates (gates_below (circuit n) checked)) in
-    subst (λ (ns : List NetId). All (λ (m : NetId). m.0 < count) ns) (sym (outs ∙ ap (λ (gs : List Gate). map (λ (g : Gate). g.out) gs) are)) here
-
 -- ---- all together
 
-pub drivers_are : (c : Circuit) (flops nets : List NetId) (by_flop by_input by_gate : List Bool) → IsChecked c → flops ≡ state_nets c → nets ≡ flops →
+pub drivers_are : (c : Circuit) (flops nets : List NetId) (by_flop by_input : List Bool) → IsChecked c → flops ≡ state_nets c → nets ≡ flops →
     MarksThese nets by_flop → MarksThese c.inputs by_input →
-    AreDrivers c (record { flops = flops; by_flop = by_flop; by_input = by_input; by_gate = by_gate })
-drivers_are c flops nets by_flop by_input by_gate checked are e flop input = record {
+    AreDrivers c (record { flops = flops; by_flop = by_flop; by_input = by_input })
+drivers_are c flops nets by_flop by_input checked are e flop input = record {
   checked = checked;
   flops = are;
   by_flop = subst (λ (ns : List NetId). MarksThese ns by_flop) (e ∙ are) flop;

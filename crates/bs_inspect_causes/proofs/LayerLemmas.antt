@@ -105,19 +105,19 @@ tells_whole m layer facts from old new le h = subst (λ (fs : List Fact). Tells 
 -- ---- the unit at a place
 
 pub unit_here : (m : Seen) (d : Drivers) (facts : List Fact) (from : ℕ) (u : CodeUnit) → All (IsRealIn m) facts →
-    All (λ (f : Fact). marks_net d.by_input f.net ≡ false) facts → IsUnitAt d facts from u → IsUnit m d u.at u.flop (slice_range facts from u.end)
+    All (λ (f : Fact). marks_net d.by_input f.net ≡ false) facts → IsUnitAt d facts from u → IsUnit m d u.at u.flop (slice_range facts from u.stop)
 unit_here m d facts from u real driven is =
-    let n : ℕ = u.end - from in
+    let n : ℕ = u.stop - from in
     let rest : n ≤ length (drop from facts) = omega (arith, is.more, is.within, length-drop from facts) in
     let size : length (take n (drop from facts)) ≡ n = length-take-le n (drop from facts) rest in
-    let some : 0 < n = omega (arith, is.more) in
+    let positive : 0 < n = omega (arith, is.more) in
     let like : All (IsLike d u.at u.flop) (take n (drop from facts)) = λ k x lt.
     let below : k < n = omega (arith, lt, size) in
     let low : from ≤ from + k = omega arith in
-    let high : from + k < u.end = omega (arith, below) in
+    let high : from + k < u.stop = omega (arith, below) in
     subst (IsLike d u.at u.flop) (sym (get_or-take n (drop from facts) k x below ∙ get_or-drop from facts k x)) (is.alike (from + k) x low high) in
     record {
-      some = subst (λ (k : ℕ). 0 < k) (sym size) some;
+      some = subst (λ (k : ℕ). 0 < k) (sym size) positive;
       real = All-take (IsRealIn m) n (drop from facts) (All-drop (IsRealIn m) from facts real);
       at_cycle = λ k x lt. (like k x lt).cycle_is;
       driven =

@@ -1,5 +1,5 @@
 -- Facts in order, each once, and units of them.
-use Rattle.std.proofs.Common.{◌≡◌, ℕ, ◌<◌, ◌≤◌, ◌+◌, ◌-◌, ◌==◌, Bool, true, List, [], ◌∷◌, ◌++◌, length, get_or, take, IsPermutation, subst, ap, sym, ◌∙◌, le_refl, arith}
+use Rattle.std.proofs.Common.{◌≡◌, ℕ, ◌<◌, ◌≤◌, ◌+◌, ◌-◌, ◌==◌, Bool, true, List, [], ◌∷◌, ◌++◌, length, get_or, take, IsPermutation, refl, subst, ap, sym, ◌∙◌, le_refl, arith}
 use Rattle.std.specs.Prelude.{Contains}
 use Rattle.std.specs.List.{All, AllWithin}
 use Rattle.std.proofs.lemmas.List.{get_or-take, get_or_default, length-take-le, take_all}
@@ -34,8 +34,8 @@ keeps_more facts kept after i d lt h e =
 
 pub keeps_same : (facts kept : List Fact) (i : ℕ) (d e : Fact) → 0 < i → i < length facts → get_or facts (i - 1) d ≡ get_or facts i e → KeepsFirst facts i kept →
     KeepsFirst facts (i + 1) kept
-keeps_same facts kept i d e some lt same h =
-    let before : i - 1 < i = omega (arith, some) in
+keeps_same facts kept i d e positive lt same h =
+    let before : i - 1 < i = omega (arith, positive) in
     let le : i ≤ length facts = omega (arith, lt) in
     let there : i - 1 < length (take i facts) = omega (arith, before, length-take-le i facts le) in
     let kept_before : Contains kept (get_or facts (i - 1) d) = subst (Contains kept) (get_or-take i facts (i - 1) d before) (h.all (i - 1) d there) in
@@ -79,8 +79,8 @@ pub like_first : (d : Drivers) (flop : Bool) (facts : List Fact) (from : ℕ) (e
 like_first d flop facts from e lt mark =
     let at : ℕ = (get_or facts from e).cycle in
     like_more d at flop facts from from e lt (AllWithin-none (IsLike d at flop) facts from)
-    (record { cycle_is = λ i. at; kind_is = sym mark })
+    (record { cycle_is = refl; kind_is = sym mark })
 
 pub unit_is : (d : Drivers) (facts : List Fact) (from stop at : ℕ) (flop : Bool) → from < stop → stop ≤ length facts →
-    AllWithin (IsLike d at flop) facts from stop → IsUnitAt d facts from (record { end = stop; at = at; flop = flop })
+    AllWithin (IsLike d at flop) facts from stop → IsUnitAt d facts from (record { stop = stop; at = at; flop = flop })
 unit_is d facts from stop at flop more within alike = record { more = more; within = within; alike = alike }

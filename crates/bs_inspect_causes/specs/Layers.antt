@@ -69,9 +69,9 @@ pub record IsLike (d : Drivers) (at : ℕ) (flop : Bool) (f : Fact) : Type 0 whe
 
 -- facts from a place on that are alike
 pub record IsUnitAt (d : Drivers) (facts : List Fact) (from : ℕ) (u : CodeUnit) : Type 0 where
-  pub more : from < u.end
-  pub within : u.end ≤ length facts
-  pub alike : AllWithin (IsLike d u.at u.flop) facts from u.end
+  pub more : from < u.stop
+  pub within : u.stop ≤ length facts
+  pub alike : AllWithin (IsLike d u.at u.flop) facts from u.stop
 
 -- Whether the flip-flops and data inputs of a cycle force what is told at another: nets of the same cycle that no flip-flop drives, and of
 -- the next cycle flip-flops, and at the last moment all nets that the state alone decides.

@@ -138,7 +138,7 @@ pub fn accounts_of(
     ensures { IfOk result (λ accounts. Explain (circuit scene.now.moments.now.net) scene.now.moments.now.states scene.now.moments.now.inputs asked.now depth accounts) }
 {
     let drivers = Drivers::of(alloc, scene.moments.net())?;
-    let mut memory = Memory::new(alloc, scene.groups)?;
+    let mut memory = Memory::new(alloc, scene.nets())?;
     let accounts = accounts_with(alloc, scene, &drivers, &mut memory, asked, depth, all)?;
     Ok(accounts)
 }

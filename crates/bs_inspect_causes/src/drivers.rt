@@ -1,21 +1,20 @@
-//! Which nets flip-flops, data inputs and gates drive.
+//! Which nets flip-flops and data inputs drive.
 ghost use Rattle.std.specs.Prelude.{◌≡◌, ◌<◌, [], false, length, map, replicate, All, IfOk};
 ghost use Rattle.bs_net.specs.Circuit.{state_nets};
 ghost use Rattle.bs_net.specs.Netlist.{circuit};
 ghost use Rattle.bs_inspect_causes.specs.Layers.{AreDrivers, MarksThese, marks_net};
 
 use bs_bits::{List, NoMemory};
-use bs_net::{Flop, Gate, NetId, Netlist};
+use bs_net::{Flop, NetId, Netlist};
 use std::alloc::Global;
 
-/// Which nets flip-flops, data inputs and gates drive, with a mark for each net.
+/// Which nets flip-flops and data inputs drive, with a mark for each net.
 #[derive(Drop)]
 pub(crate) struct Drivers {
     /// The nets that flip-flops drive, in the order of a state's bits.
     pub(crate) flops: List<NetId>,
     pub(crate) by_flop: List<bool>,
     pub(crate) by_input: List<bool>,
-    pub(crate) by_gate: List<bool>,
 }
 
 /// So many nets, none of them marked.
@@ -60,25 +59,6 @@ fn flop_nets(alloc: Global, flops: &[Flop]) -> Result<List<NetId>, NoMemory>
     Ok(nets)
 }
 
-/// The outputs of gates.
-fn gate_nets(alloc: Global, gates: &[Gate]) -> Result<List<NetId>, NoMemory>
-    ensures { IfOk result (λ nets. nets ≡ map (λ g. g.out) gates.now) }
-{
-    let mut nets = List::new(alloc);
-    for gate in gates {
-        nets.push(gate.out)?;
-    }
-    Ok(nets)
-}
-
-/// For each net whether a gate drives it.
-#[tactic(auto, using(crate::proofs::DriverLemmas::gates_placed))]
-fn gate_marks(alloc: Global, net: &Netlist) -> Result<List<bool>, NoMemory> {
-    let raw = net.raw();
-    let nets = gate_nets(alloc, raw.gates.slice())?;
-    marks_of(alloc, raw.names.len() as usize, nets.slice())
-}
-
 /// For each net whether a data input drives it.
 #[tactic(auto, using(crate::proofs::DriverLemmas::inputs_placed))]
 fn input_marks(alloc: Global, net: &Netlist) -> Result<List<bool>, NoMemory>
@@ -118,12 +98,10 @@ impl Drivers {
         let flops = state_nets(alloc, net)?;
         let by_flop = flop_marks(alloc, net, flops.slice())?;
         let by_input = input_marks(alloc, net)?;
-        let by_gate = gate_marks(alloc, net)?;
         Ok(Drivers {
             flops,
             by_flop,
             by_input,
-            by_gate,
         })
     }
 }

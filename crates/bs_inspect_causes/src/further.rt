@@ -9,7 +9,8 @@ use crate::drivers::{Drivers, is_marked};
 use crate::facts::is_real;
 use crate::memory::Memory;
 use bs_bits::NoMemory;
-use bs_inspect_cones::Scene;
+use bs_inspect_cones::{Driver, Scene};
+use bs_net::NetId;
 use bs_net_facts::{Fact, Moments};
 use std::alloc::Global;
 
@@ -38,14 +39,24 @@ fn is_old(moments: &Moments<'_>, fact: Fact) -> bool {
 }
 
 /// Whether a cause of an account is left out where not all are asked.
-fn is_left_out(scene: &Scene<'_>, memory: &Memory, account: &Account, fact: Fact) -> bool {
+fn is_left_out(scene: &Scene<'_>, account: &Account, fact: Fact) -> bool {
     if account.causes.len() <= MANY_CAUSES {
         return false;
     }
-    if !memory.is_single(scene.groups, fact.net) {
+    if !scene.is_single(fact.net.0) {
         return false;
     }
     is_old(scene.moments, fact)
+}
+
+/// Whether a gate or a flip-flop drives a net.
+fn is_driven(scene: &Scene<'_>, net: NetId) -> bool {
+    match scene.driver(net) {
+        Driver::Gate(_) => true,
+        Driver::Flop(_) => true,
+        Driver::Constant => false,
+        Driver::Outside => false,
+    }
 }
 
 /// Whether a fact of a flip-flop or a gate is asked further: a cause, or what has kept the bits all through.
@@ -56,7 +67,7 @@ fn is_chosen(scene: &Scene<'_>, memory: &Memory, account: &Account, fact: Fact, 
     if !is_cause(&account.block, fact) {
         return memory.is_steady(&account.block, fact);
     }
-    all || !is_left_out(scene, memory, account, fact)
+    all || !is_left_out(scene, account, fact)
 }
 
 /// Whether a given fact of an account is asked further: not of data inputs, constants and nets without a driver.
@@ -73,9 +84,7 @@ fn is_asked(
     if is_marked(drivers.by_input.slice(), fact.net) {
         return false;
     }
-    let flop = is_marked(drivers.by_flop.slice(), fact.net);
-    let gate = is_marked(drivers.by_gate.slice(), fact.net);
-    if !flop && !gate {
+    if !is_driven(scene, fact.net) {
         return false;
     }
     is_chosen(scene, memory, account, fact, all)

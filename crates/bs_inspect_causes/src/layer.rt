@@ -88,9 +88,9 @@ fn tell_unit_at(
     requires real { All (IsRealIn scene.now.moments.now) facts.now }
     requires driven { All (λ f. marks_net drivers.now.by_input f.net ≡ false) facts.now }
     requires unit { IsUnitAt drivers.now facts.now from unit }
-    ensures { OnOk result (Tells scene.now.moments.now layer (slice_range facts.now from unit.end) accounts.old accounts.new) }
+    ensures { OnOk result (Tells scene.now.moments.now layer (slice_range facts.now from unit.stop) accounts.old accounts.new) }
 {
-    let part = &facts[from..unit.end];
+    let part = &facts[from..unit.stop];
     tell_unit(
         alloc, scene, drivers, memory, accounts, part, unit.at, unit.flop, layer,
     )?;
@@ -115,11 +115,11 @@ fn tell_units(
 {
     let mut from = 0;
     'units: while from < facts.len() {
-        let unit = unit_at(scene.groups, drivers, facts, from);
+        let unit = unit_at(scene, drivers, facts, from);
         tell_unit_at(
             alloc, scene, drivers, memory, accounts, facts, from, unit, layer,
         )?;
-        from = unit.end;
+        from = unit.stop;
     }
     Ok(())
 }
@@ -140,7 +140,7 @@ pub(crate) fn tell_facts(
     requires driven { All (λ f. marks_net drivers.now.by_input f.net ≡ false) facts.items }
     ensures { OnOk result (Tells scene.now.moments.now layer facts.items accounts.old accounts.new) }
 {
-    let kept = ordered(alloc, scene.groups, drivers, facts)?;
+    let kept = ordered(alloc, scene, drivers, facts)?;
     tell_units(alloc, scene, drivers, memory, accounts, kept.slice(), layer)?;
     Ok(())
 }

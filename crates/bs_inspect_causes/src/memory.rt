@@ -1,16 +1,12 @@
 //! What is told so far, and what the choice of further facts counts. Nothing is promised of it.
 
-use crate::units::group_of;
 use bs_bits::NoMemory;
-use bs_net::NetId;
 use bs_net_facts::{Block, Fact};
 use std::alloc::Global;
 
 /// What is told so far, and counts by nets.
 #[derive(Drop)]
 pub(crate) struct Memory {
-    /// How many nets each vector has.
-    sizes: Vec<u32>,
     /// The cycles of the block that told a net last.
     since: Vec<u32>,
     until: Vec<u32>,
@@ -32,7 +28,7 @@ fn put(numbers: &mut Vec<u32>, place: u32, number: u32) {
 }
 
 /// The number at a place, and 0 where there is none.
-fn number_at(numbers: &Vec<u32>, place: u32) -> u32 {
+fn number_at(numbers: &[u32], place: u32) -> u32 {
     if (place as usize) < numbers.len() {
         numbers[place as usize]
     } else {
@@ -42,28 +38,17 @@ fn number_at(numbers: &Vec<u32>, place: u32) -> u32 {
 
 /// One more at a place.
 fn count_at(numbers: &mut Vec<u32>, place: u32) {
-    let count = number_at(numbers, place).saturating_add(1);
+    let count = number_at(numbers.as_slice(), place).saturating_add(1);
     put(numbers, place, count);
 }
 
-/// How many nets each vector has.
-fn sizes_of(alloc: Global, groups: &[u32]) -> Result<Vec<u32>, NoMemory> {
-    let mut sizes = numbers(alloc, groups.len(), 0)?;
-    for group in groups {
-        count_at(&mut sizes, *group);
-    }
-    Ok(sizes)
-}
-
 impl Memory {
-    /// Nothing is told.
-    pub(crate) fn new(alloc: Global, groups: &[u32]) -> Result<Memory, NoMemory> {
-        let sizes = sizes_of(alloc, groups)?;
-        let since = numbers(alloc, groups.len(), 1)?;
-        let until = numbers(alloc, groups.len(), 0)?;
-        let holds = numbers(alloc, groups.len(), 0)?;
+    /// Of so many nets nothing is told.
+    pub(crate) fn new(alloc: Global, nets: usize) -> Result<Memory, NoMemory> {
+        let since = numbers(alloc, nets, 1)?;
+        let until = numbers(alloc, nets, 0)?;
+        let holds = numbers(alloc, nets, 0)?;
         Ok(Memory {
-            sizes,
             since,
             until,
             holds,
@@ -80,8 +65,8 @@ impl Memory {
 
     /// Whether the block that told a fact's net last tells it in the fact's cycle.
     pub(crate) fn tells(&self, fact: Fact) -> bool {
-        let begun = number_at(&self.since, fact.net.0) <= fact.cycle;
-        let lasts = fact.cycle <= number_at(&self.until, fact.net.0);
+        let begun = number_at(self.since.as_slice(), fact.net.0) <= fact.cycle;
+        let lasts = fact.cycle <= number_at(self.until.as_slice(), fact.net.0);
         begun && lasts
     }
 
@@ -113,12 +98,7 @@ impl Memory {
     pub(crate) fn is_steady(&self, block: &Block, fact: Fact) -> bool {
         let cycles = block.at.saturating_sub(block.since);
         let last = block.at.saturating_sub(fact.cycle) == 1;
-        let all = number_at(&self.holds, fact.net.0) == cycles;
+        let all = number_at(self.holds.as_slice(), fact.net.0) == cycles;
         last && all && cycles > 1
-    }
-
-    /// Whether a net is a vector by itself.
-    pub(crate) fn is_single(&self, groups: &[u32], net: NetId) -> bool {
-        number_at(&self.sizes, group_of(groups, net)) == 1
     }
 }

@@ -10,7 +10,8 @@ use crate::drivers::Drivers;
 use crate::facts::{copied, nets_of};
 use crate::sourced::sourced_block;
 use bs_bits::{List, NoMemory};
-use bs_inspect_cones::{Proposal, Scene, propose};
+use bs_inspect_cones::Scene;
+use bs_inspect_holds::{Proposal, propose};
 use bs_net_facts::{Fact, is_block};
 use std::alloc::Global;
 

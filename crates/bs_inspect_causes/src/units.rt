@@ -6,33 +6,23 @@ ghost use Rattle.bs_inspect_causes.specs.Layers.{IsLike, IsUnitAt, KeepsFirst};
 
 use crate::drivers::{Drivers, is_marked};
 use bs_bits::{List, NoMemory};
-use bs_net::NetId;
+use bs_inspect_cones::Scene;
 use bs_net_facts::Fact;
 use std::alloc::Global;
 
-/// The number of the vector that a net is a bit of.
-pub(crate) fn group_of(groups: &[u32], net: NetId) -> u32 {
-    let place = net.0 as usize;
-    if place < groups.len() {
-        groups[place]
-    } else {
-        net.0
-    }
-}
-
 /// What facts are ordered by: the latest cycle first, and in it by vectors.
-fn order_of(groups: &[u32], by_flop: &[bool], fact: &Fact) -> (u32, u32, u32, u32) {
-    let group = group_of(groups, fact.net);
+fn order_of(scene: &Scene<'_>, by_flop: &[bool], fact: &Fact) -> (u32, u32, u32, u32) {
+    let group = scene.group(fact.net.0);
     let kind = if is_marked(by_flop, fact.net) { 0 } else { 1 };
     (u32::MAX - fact.cycle, group, kind, fact.net.0)
 }
 
 /// Facts in the order of their units.
-fn in_order(groups: &[u32], by_flop: &[bool], facts: Vec<Fact>) -> Result<Vec<Fact>, NoMemory>
+fn in_order(scene: &Scene<'_>, by_flop: &[bool], facts: Vec<Fact>) -> Result<Vec<Fact>, NoMemory>
     ensures { IfOk result (λ ordered. IsPermutation facts.items ordered.items) }
 {
     let mut facts = facts;
-    facts.sort_by_key(|fact| order_of(groups, by_flop, fact))?;
+    facts.sort_by_key(|fact| order_of(scene, by_flop, fact))?;
     Ok(facts)
 }
 
@@ -79,24 +69,24 @@ fn distinct(alloc: Global, facts: &[Fact]) -> Result<List<Fact>, NoMemory>
 #[tactic(auto, using(crate::proofs::UnitLemmas::ordered_keeps))]
 pub(crate) fn ordered(
     alloc: Global,
-    groups: &[u32],
+    scene: &Scene<'_>,
     drivers: &Drivers,
     facts: Vec<Fact>,
 ) -> Result<List<Fact>, NoMemory>
     ensures { IfOk result (λ kept. KeepsFirst facts.items (length facts.items) kept) }
 {
-    let sorted = in_order(groups, drivers.by_flop.slice(), facts)?;
+    let sorted = in_order(scene, drivers.by_flop.slice(), facts)?;
     let kept = distinct(alloc, sorted.as_slice())?;
     Ok(kept)
 }
 
 /// Whether a fact is of the unit that another begins.
 #[tactic(auto, using(crate::proofs::UnitLemmas::like_of))]
-fn is_like(groups: &[u32], drivers: &Drivers, first: Fact, flop: bool, fact: Fact) -> bool
+fn is_like(scene: &Scene<'_>, drivers: &Drivers, first: Fact, flop: bool, fact: Fact) -> bool
     ensures { result ≡ true → IsLike drivers.now first.cycle flop fact }
 {
     let cycle = fact.cycle == first.cycle;
-    let group = group_of(groups, fact.net) == group_of(groups, first.net);
+    let group = scene.group(fact.net.0) == scene.group(first.net.0);
     let kind = is_marked(drivers.by_flop.slice(), fact.net) == flop;
     cycle && group && kind
 }
@@ -104,7 +94,7 @@ fn is_like(groups: &[u32], drivers: &Drivers, first: Fact, flop: bool, fact: Fac
 /// The place behind the unit that a fact begins.
 #[tactic(auto, using(crate::proofs::UnitLemmas::like_more))]
 fn unit_end(
-    groups: &[u32],
+    scene: &Scene<'_>,
     drivers: &Drivers,
     facts: &[Fact],
     from: usize,
@@ -118,7 +108,7 @@ fn unit_end(
     ensures alike { AllWithin (IsLike drivers.now first.cycle flop) facts.now from result }
 {
     'facts: for i in from + 1..facts.len() {
-        if !is_like(groups, drivers, first, flop, facts[i]) {
+        if !is_like(scene, drivers, first, flop, facts[i]) {
             return i;
         }
     }
@@ -128,22 +118,22 @@ fn unit_end(
 /// Where a unit ends, its cycle, and whether flip-flops drive it.
 #[derive(Clone, Copy)]
 pub(crate) struct Unit {
-    pub(crate) end: usize,
+    pub(crate) stop: usize,
     pub(crate) at: u32,
     pub(crate) flop: bool,
 }
 
 /// The unit that begins at a place of ordered facts.
 #[tactic(auto, using(crate::proofs::UnitLemmas::like_first, crate::proofs::UnitLemmas::unit_is))]
-pub(crate) fn unit_at(groups: &[u32], drivers: &Drivers, facts: &[Fact], from: usize) -> Unit
+pub(crate) fn unit_at(scene: &Scene<'_>, drivers: &Drivers, facts: &[Fact], from: usize) -> Unit
     requires { from < length facts.now }
     ensures { IsUnitAt drivers.now facts.now from result }
 {
     let first = facts[from];
     let flop = is_marked(drivers.by_flop.slice(), first.net);
-    let end = unit_end(groups, drivers, facts, from, first, flop);
+    let stop = unit_end(scene, drivers, facts, from, first, flop);
     Unit {
-        end,
+        stop,
         at: first.cycle,
         flop,
     }
