@@ -17,18 +17,21 @@ use Rattle.bs_report.specs.declared.report.Report.{Report}
 use Rattle.bs_inspect_causes.specs.Accounts.{IsAccount, is_cause}
 use Rattle.bs_inspect_causes.specs.declared.account.Account.{Account}
 use Rattle.bs_inspect_why_words.specs.Blocks.{Appends, TellsBlock}
+use Rattle.bs_inspect_why_words.specs.Heads.{Episode}
 use Rattle.bs_inspect_why_words.specs.declared.limits.Limits.{Limits}
 use Rattle.bs_inspect_why_words.proofs.BlockLemmas.{parts_begin, parts_more}
 use Rattle.bs_inspect_why.specs.declared.chain.Chain.{Chain}
 use Rattle.bs_inspect_why.specs.declared.chain.Place.{Place}
 use Rattle.bs_inspect_why.specs.Chains.{ArePlaces, IsWithin, account_at, alone, chain_at, chains_of, no_account, place_of, places_of}
-use Rattle.bs_inspect_why.specs.Why.{TellsChain, TellsChains, TellsPlaces, episode_of, ordered_at}
+use Rattle.bs_inspect_why.specs.Why.{TellsAccounts, TellsChain, TellsChains, TellsPlaces, episode_of, ordered_at}
+use Rattle.bs_inspect_why.specs.Table.{accounts_table}
 
 -- ---- an account's facts
 
-pub causes_real : (c : Circuit) (states inputs : List (List Bool)) (a : Account) → IsAccount c states inputs a → All (IsReal c states inputs) a.causes
-causes_real c states inputs a is =
-    subst (All (IsReal c states inputs)) (sym is.causes) (All-filter (is_cause a.block) (IsReal c states inputs) a.block.given is.block.real)
+pub causes_real : (c : Circuit) (states inputs : List (List Bool)) (a : Account) (e : Episode) → e ≡ episode_of a → IsAccount c states inputs a →
+    All (IsReal c states inputs) e.causes
+causes_real c states inputs a e same is =
+    subst (All (IsReal c states inputs)) (sym (ap (λ (x : Episode). x.causes) same ∙ is.causes)) (All-filter (is_cause a.block) (IsReal c states inputs) a.block.given is.block.real)
 
 -- the bits at the first cycle are among those that last
 front_real : (P : Fact → Type 0) (bits : List Fact) (since n : ℕ) (k : ℕ) (d : Fact) → All P (stretch bits since (suc n)) → k < length bits →
@@ -55,15 +58,28 @@ bit_real c states inputs b is k d lt = by (b.at + 1 - b.since) refl
         front_real (IsReal c states inputs) b.bits b.since n k d
         (subst (λ (m : ℕ). All (IsReal c states inputs) (stretch b.bits b.since m)) e is.shown) lt
 
-pub bits_placed : (c : Circuit) (states inputs : List (List Bool)) (a : Account) → IsAccount c states inputs a →
-    All (λ f. f.net.0 < c.nets) a.block.bits
-bits_placed c states inputs a is = λ k d lt. (bit_real c states inputs a.block is.block k d lt).placed
+bits_there : (c : Circuit) (states inputs : List (List Bool)) (a : Account) → IsAccount c states inputs a → All (λ f. f.net.0 < c.nets) a.block.bits
+bits_there c states inputs a is = λ k d lt. (bit_real c states inputs a.block is.block k d lt).placed
 
-pub since_in_time : (c : Circuit) (states inputs : List (List Bool)) (a : Account) → IsWayOf c states inputs → IsAccount c states inputs a →
-    a.block.since ≤ length inputs
-since_in_time c states inputs a way is =
+pub bits_placed : (c : Circuit) (states inputs : List (List Bool)) (a : Account) (e : Episode) → e ≡ episode_of a → IsAccount c states inputs a →
+    All (λ f. f.net.0 < c.nets) e.bits
+bits_placed c states inputs a e same is =
+    subst (All (λ (f : Fact). f.net.0 < c.nets)) (sym (ap (λ (x : Episode). x.bits) same)) (bits_there c states inputs a is)
+
+pub since_in_time : (c : Circuit) (states inputs : List (List Bool)) (a : Account) (e : Episode) → e ≡ episode_of a → IsWayOf c states inputs →
+    IsAccount c states inputs a → e.since ≤ length inputs
+since_in_time c states inputs a e same way is =
     let d : Fact = record { net = record { 0 = 0 }; cycle = 0; bit = false } in
-    omega (arith, way.one_more, (bit_real c states inputs a.block is.block 0 d is.block.some).in_time)
+    let since : e.since ≡ a.block.since = ap (λ (x : Episode). x.since) same in
+    let there : a.block.since < length states = (bit_real c states inputs a.block is.block 0 d is.block.some).in_time in
+    omega (arith, way.one_more, there, since)
+
+pub block_of : (m : Seen) (r : Report) (few : Limits) (steps : ℕ) (first last : Account) (e z : Episode) (old new : List ℕ) → e ≡ episode_of first →
+    z ≡ episode_of last → Appends (TellsBlock m r few steps e z) old new →
+    Appends (TellsBlock m r few steps (episode_of first) (episode_of last)) old new
+block_of m r few steps first last e z old new is_first is_last told =
+    subst (λ (y : Episode). Appends (TellsBlock m r few steps (episode_of first) y) old new) is_last
+    (subst (λ (x : Episode). Appends (TellsBlock m r few steps x z) old new) is_first told)
 
 -- ---- chains
 
@@ -133,3 +149,13 @@ pub whole_text : (m : Seen) (r : Report) (few : Limits) (accounts : List Account
 whole_text m r few accounts chains old text none e told =
     let same : told.words ≡ text = sym (told.appended ∙ ap (λ (t : List ℕ). t ++ told.words) none) in
     subst (λ (cs : List Chain). TellsChains m r few accounts cs text) e (subst (TellsChains m r few accounts chains) same told.says)
+
+-- ---- blocks, or a table
+
+pub table_told : (csv : Bool) (m : Seen) (r : Report) (few : Limits) (accounts : List Account) (text : List ℕ) → csv ≡ true →
+    text ≡ accounts_table m.net.raw accounts → TellsAccounts csv m r few accounts text
+table_told csv m r few accounts text is says = subst (λ (b : Bool). TellsAccounts b m r few accounts text) (sym is) says
+
+pub blocks_told : (csv : Bool) (m : Seen) (r : Report) (few : Limits) (accounts : List Account) (text : List ℕ) → csv ≡ false →
+    TellsChains m r few accounts (chains_of accounts (length accounts)) text → TellsAccounts csv m r few accounts text
+blocks_told csv m r few accounts text is told = subst (λ (b : Bool). TellsAccounts b m r few accounts text) (sym is) told

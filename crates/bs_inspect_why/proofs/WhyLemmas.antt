@@ -1,5 +1,5 @@
 -- The answer, part by part.
-use Rattle.std.proofs.Common.{◌≡◌, ℕ, ◌<◌, ◌≤◌, ◌+◌, ◌-◌, Bool, true, false, List, [], ◌∷◌, length, get_or, refl, ap, sym, subst, ◌∙◌, arith, zero, suc, Option, Some, None}
+use Rattle.std.proofs.Common.{◌≡◌, ℕ, ◌<◌, ◌≤◌, ◌+◌, ◌-◌, Bool, true, false, List, [], ◌∷◌, length, get_or, refl, ap, sym, subst, ◌∙◌, arith, Option, Some, None}
 use Rattle.std.specs.Prelude.{Result, IfOk, ◌==◌}
 use Rattle.std.specs.List.{All}
 use Rattle.std.proofs.lemmas.Bool.{eqb-false, eqb-true}
@@ -89,7 +89,8 @@ answers_by net r q nets at (Text text) moment there are tells = record {
       (subst (λ (ns : List NetId). TellsNets (seen_of net r) r q ns at text.items) are tells);
 }
 answers_by net r q nets at (Denied denial) moment there are denied =
-    subst (λ (d : Denial). Answers net.raw r q (Denied d)) (sym denied.0) (omega (arith, denied.1, moment))
+    let over : length r.inputs ≤ moment_in (length r.states) q.at = omega (arith, denied.1, moment) in
+    subst (λ (d : Denial). Answers net.raw r q (Denied d)) (sym denied.0) over
 
 pub text_answers : (net : Checked) (r : Report) (q : Question) (nets : List NetId) (at : ℕ) (result : Result Why NoMemory) →
     at ≡ moment_in (length r.states) q.at → at < length r.states → nets ≡ asked_nets net.raw q.name →
@@ -101,8 +102,24 @@ pub break_answers : (net : Checked) (r : Report) (q : Question) (t : ℕ) → Is
     Answers net.raw r q (Denied (Trace t))
 break_answers net r q t is = is
 
-pub moment_is : (count : ℕ) (at : Option ℕ) (t : ℕ) → t ≡ moment_in count at → t < count → (t ≡ moment_in count at) × (t < count)
-moment_is count at t e lt = (e, lt)
+-- the bits at a moment are open
+pub open_told : (inputs : List (List Bool)) (at : ℕ) → length inputs ≤ at → (Open ≡ Open) × (length inputs ≤ at)
+open_told inputs at le = (refl, le)
+
+pub moment_given : (count t at : ℕ) (asked : Option ℕ) → asked ≡ Some at → t ≡ at → at < count → (t ≡ moment_in count asked) × (t < count)
+moment_given count t at asked is e lt = (e ∙ ap (moment_in count) (sym is), omega (arith, e, lt))
+
+pub moment_over : (count at : ℕ) (asked : Option ℕ) → asked ≡ Some at → count ≤ at → count ≤ moment_in count asked
+moment_over count at asked is le = subst (λ (o : Option ℕ). count ≤ moment_in count o) (sym is) le
+
+pub moment_last : (count t : ℕ) (asked : Option ℕ) → asked ≡ None → t ≡ count - 1 → 0 < count → (t ≡ moment_in count asked) × (t < count)
+moment_last count t asked is e some = (e ∙ ap (moment_in count) (sym is), omega (arith, e, some))
+
+pub moment_at : (count t : ℕ) (asked : Option ℕ) → (t ≡ moment_in count asked) × (t < count) → t ≡ moment_in count asked
+moment_at count t asked both = both.0
+
+pub moment_there : (count t : ℕ) (asked : Option ℕ) → (t ≡ moment_in count asked) × (t < count) → t < count
+moment_there count t asked both = both.1
 
 pub none_asked : (net : Checked) (r : Report) (q : Question) (nets : List NetId) (empty : Bool) → nets ≡ asked_nets net.raw q.name →
     empty ≡ (length nets == 0) → empty ≡ true → Answers net.raw r q (Denied Input)

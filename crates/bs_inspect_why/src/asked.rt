@@ -114,10 +114,10 @@ pub(crate) fn asked_facts(
 {
     let mut facts = List::new(alloc);
     'nets: for i in 0..nets.len() {
-        match fact_of(moments, nets[i], at) {
-            Some(fact) => facts.push(fact)?,
-            None => return Ok(None),
-        }
+        let Some(fact) = fact_of(moments, nets[i], at) else {
+            return Ok(None);
+        };
+        facts.push(fact)?;
     }
     Ok(Some(facts))
 }

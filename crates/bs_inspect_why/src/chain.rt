@@ -181,7 +181,7 @@ fn chain_of(
 
 /// A chain with a step more.
 fn extended(chain: Chain, number: usize) -> Chain
-    requires number { number < 2 ^ 63 }
+    requires number { number + 1 < 2 ^ 64 }
     requires within { IsWithin number chain }
     ensures is { result ≡ extended chain number }
 {
@@ -196,7 +196,7 @@ fn extended(chain: Chain, number: usize) -> Chain
 #[tactic(auto, using(crate::proofs::ChainLemmas::chain_within, crate::proofs::ChainLemmas::set_is, crate::proofs::ChainLemmas::set_within))]
 fn extend(chains: &mut Vec<Chain>, place: usize, number: usize)
     requires place { place < length chains.old.items }
-    requires number { number < 2 ^ 63 }
+    requires number { number + 1 < 2 ^ 64 }
     requires within { All (IsWithin number) chains.old.items }
     ensures chains { chains.new.items ≡ chained_at (Some place) chains.old.items number }
     ensures within { All (IsWithin (number + 1)) chains.new.items }
@@ -223,7 +223,7 @@ fn push_alone(chains: &mut Vec<Chain>, number: usize) -> Result<(), NoMemory>
 /// Puts an account on a chain, or at the end as one of its own.
 fn put_account(chains: &mut Vec<Chain>, found: Option<usize>, number: usize) -> Result<(), NoMemory>
     requires place { IfSome found (λ place. place < length chains.old.items) }
-    requires number { number < 2 ^ 63 }
+    requires number { number + 1 < 2 ^ 64 }
     requires within { All (IsWithin number) chains.old.items }
     ensures chains { OnOk result (chains.new.items ≡ chained_at found chains.old.items number) }
     ensures within { OnOk result (All (IsWithin (number + 1)) chains.new.items) }
@@ -246,7 +246,7 @@ fn add_account(
     number: usize,
 ) -> Result<(), NoMemory>
     requires number { number < length accounts.now }
-    requires small { number < 2 ^ 63 }
+    requires small { number + 1 < 2 ^ 64 }
     requires within { All (IsWithin number) chains.old.items }
     ensures chains { OnOk result (chains.new.items ≡ chained accounts.now chains.old.items number) }
     ensures within { OnOk result (All (IsWithin (number + 1)) chains.new.items) }

@@ -16,7 +16,8 @@ fn place_of(accounts: &[Account], chains: &[Chain], place: usize) -> Place
     requires within { All (IsWithin (length accounts.now)) chains.now }
     ensures { result ≡ place_of accounts.now chains.now place }
 {
-    let account = &accounts[chains[place].first];
+    let chain = chains[place];
+    let account = &accounts[chain.first];
     Place {
         at: account.block.at,
         layer: account.layer,

@@ -3,7 +3,7 @@
 use crate::asked::net_keys;
 use bs_bits::NoMemory;
 use bs_inspect_view::is_nameless;
-use bs_net::Netlist;
+use bs_net::{Gate, Kind, Netlist};
 use bs_net_names::{Signal, key_parts, signals};
 use std::alloc::Global;
 
@@ -21,10 +21,25 @@ fn stops_by(alloc: Global, keys: &[&str], flops: bool) -> Result<Vec<bool>, NoMe
     Ok(stops)
 }
 
+/// Whether a gate shows its one input.
+fn is_buf(gate: &Gate) -> bool {
+    matches!(gate.kind, Kind::Buf)
+}
+
+/// Lets cones go on through gates that show their one input.
+fn pass_bufs(stops: &mut [bool], gates: &[Gate]) {
+    for gate in gates {
+        if is_buf(gate) && (gate.out.0 as usize) < stops.len() {
+            stops[gate.out.0 as usize] = false;
+        }
+    }
+}
+
 /// Whether a cone ends at each net.
 pub(crate) fn stops(alloc: Global, net: &Netlist, flops: bool) -> Result<Vec<bool>, NoMemory> {
     let keys = net_keys(alloc, net)?;
-    let stops = stops_by(alloc, keys.as_slice(), flops)?;
+    let mut stops = stops_by(alloc, keys.as_slice(), flops)?;
+    pass_bufs(stops.as_mut_slice(), net.raw().gates.slice());
     Ok(stops)
 }
 

@@ -35,7 +35,7 @@ fn episode_of(account: &Account) -> Episode<'_>
 }
 
 /// Appends the text of the accounts of a chain.
-#[tactic(auto, using(crate::proofs::TellingLemmas::causes_real, crate::proofs::TellingLemmas::bits_placed, crate::proofs::TellingLemmas::since_in_time))]
+#[tactic(auto, using(crate::proofs::TellingLemmas::causes_real, crate::proofs::TellingLemmas::bits_placed, crate::proofs::TellingLemmas::since_in_time, crate::proofs::TellingLemmas::block_of))]
 fn push_accounts(
     text: &mut Vec<u8>,
     moments: &Moments<'_>,
@@ -49,15 +49,9 @@ fn push_accounts(
     requires account { IsAccount (circuit moments.now.net) moments.now.states moments.now.inputs last.now }
     ensures { OnOk result (Appends (TellsBlock moments.now report.now few steps (episode_of first.now) (episode_of last.now)) text.old.items text.new.items) }
 {
-    push_block(
-        text,
-        moments,
-        report,
-        few,
-        steps,
-        &episode_of(first),
-        &episode_of(last),
-    )
+    let first = episode_of(first);
+    let last = episode_of(last);
+    push_block(text, moments, report, few, steps, &first, &last)
 }
 
 /// Appends the text of a chain.
@@ -178,6 +172,7 @@ fn chains_text(
 }
 
 /// The text of accounts, as blocks or as a table.
+#[tactic(auto, using(crate::proofs::TellingLemmas::table_told, crate::proofs::TellingLemmas::blocks_told))]
 pub(crate) fn accounts_text(
     alloc: Global,
     moments: &Moments<'_>,

@@ -96,7 +96,7 @@ fn facts_text(
 }
 
 /// The answer by the facts of nets.
-#[tactic(auto, using(crate::proofs::WhyLemmas::facts_real, crate::proofs::WhyLemmas::facts_driven, crate::proofs::WhyLemmas::nets_told))]
+#[tactic(auto, using(crate::proofs::WhyLemmas::facts_real, crate::proofs::WhyLemmas::facts_driven, crate::proofs::WhyLemmas::nets_told, crate::proofs::WhyLemmas::open_told))]
 fn answer_by(
     alloc: Global,
     moments: &Moments<'_>,
@@ -195,7 +195,7 @@ fn answer_of(
 }
 
 /// The moment that is asked for, if it is one of the trace's. More than can be numbered are answered as out of memory.
-#[tactic(auto, using(crate::proofs::WhyLemmas::moment_is))]
+#[tactic(auto, using(crate::proofs::WhyLemmas::moment_given, crate::proofs::WhyLemmas::moment_over, crate::proofs::WhyLemmas::moment_last))]
 fn moment_of(count: usize, at: Option<u64>) -> Result<Option<u32>, NoMemory>
     requires { 0 < count }
     ensures { IfOk result (λ moment. MatchOption moment (count ≤ moment_in count at) (λ t. (t ≡ moment_in count at) × (t < count))) }
@@ -241,7 +241,7 @@ fn answer_then(
 /// What forces the bits of a name at a moment of a report's trace: accounts, layer by layer back to the cause, as a text or as a table; or
 /// why there is none. It takes one pass over the gates for each moment and a byte for each net and moment, and each account a few passes
 /// over the gates below its bits.
-#[tactic(auto, using(crate::proofs::WhyLemmas::some_states))]
+#[tactic(auto, using(crate::proofs::WhyLemmas::some_states, crate::proofs::WhyLemmas::moment_at, crate::proofs::WhyLemmas::moment_there))]
 pub fn why_text(
     alloc: Global,
     net: &Netlist,

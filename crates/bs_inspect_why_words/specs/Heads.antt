@@ -1,5 +1,5 @@
 -- The first line of a block (docs/FORMATS.md, "Causes").
-use Rattle.std.specs.Prelude.{◌≡◌, ℕ, ◌<◌, ◌+◌, ◌-◌, ◌==◌, nat_lt, nat_le, Bool, List, [], ◌++◌, length, codes, decimal, slice_get, slice_index_or, Option, Some, None, if◌then◌else◌}
+use Rattle.std.specs.Prelude.{◌≡◌, ℕ, ◌<◌, ◌+◌, ◌-◌, ◌==◌, nat_lt, nat_le, Bool, false, List, [], ◌++◌, length, codes, decimal, slice_get, slice_index_or, Option, Some, None, if◌then◌else◌}
 use Rattle.std.specs.List.{flat_map}
 use Rattle.bs_bits.specs.Bits.{bits_eq}
 use Rattle.bs_bits.specs.Lines.{line}
