@@ -1001,6 +1001,30 @@ STAND = (
     "--only takes every word up to the next option"
 )
 # by hand: the lane's own flip-flop stands before those of its counter, whose nets are joined to those of the top
+# what forces bits in the trace of examples/yosys
+WHY_COUNT = """8 count[1:0] = 0x0, since 6, before 0x1 (dump)
+    by 5 put = 1, new
+    by 5 take = 1, new
+    by 5 count[1:0] = 0x1, since 0
+    kept by pop = 0, put = 0  6..7
+7 pop = 0, as before (run 1 cycle 84)
+    by 7 ready = 0, since 6
+    whatever take = 1  7
+7 put = 0, as before (run 1 cycle 84)
+    by 7 phase[1] = 0, since 6
+5 count[1:0] = 0x1, since 0 (run 1 cycle 82)
+    kept by pop = 0, put = 0  0..4
+5 put = 1, before 0 (run 1 cycle 82)
+    by 5 tick[1:0] = 0x1, new
+    by 5 phase[1:0] = 0x3, since 2
+    by 5 count[1] = 0, since 0
+    by 5 seen[1] = 1, since 0
+"""
+WHY_READY = """layer,since,at,kind,cycle,name,value
+0,7,7,bit,7,ready,0
+0,7,7,cause,7,count[0],0
+0,7,7,cause,7,count[1],0
+"""
 HIERARCHY = """0 \\l0.seen 0 \\full[0]
 1 \\at0[0] 0
 2 \\at0[1] 0
@@ -1093,6 +1117,9 @@ def companion(it):
     row = lambda name, bits: "xor" + "".join(f" {name}[{bit}]" for bit in bits) + "\n"
     wanted = row("count", range(2)) + "xor head\n" + row("first", range(4, 8)) + row("place", [1]) + "xor tail\n"
     tell(["keys", net, "count", "head", "first[7:4]", "place[1]", "tail", "--", "count", "head", "first[7:4]", "place[1]", "tail"], 0, wanted * 2)
+    tell(["why", net, report, "count"], 0, WHY_COUNT)
+    tell(["why", net, report, "count", "--at=8", "--depth", "1"], 0, "".join(WHY_COUNT.splitlines(True)[:5]))
+    tell(["why", "--csv", net, report, "ready", "--at", "7", "--depth", "1"], 0, WHY_READY)
     stored = text["ex/yosys/stimulus.txt"]
     tell(["stimulus", net, vcd, *SIMULATED], 0, stored)
     tell(["stimulus", net, *[vcd] * 256, *SIMULATED], 0, stored * 256)
@@ -1152,6 +1179,17 @@ def companion_refusals(it):
     tell(["keys", net, "cuont"], 18, "refused name NoNet cuont\n", said(
         "no net or vector of nets has the name `cuont`; the nearest: `count[1]` `count[0]`",
         "`flops` and `inputs` tell keys; the name of a vector without an index names its bits"))
+    tell(["why", net, report, "cuont"], 18, "refused name NoNet cuont\n", said(
+        "no net or vector of nets has the name `cuont`; the nearest: `count[1]` `count[0]`",
+        "`flops` and `inputs` tell keys; the name of a vector without an index names its bits"))
+    tell(["why", net, report, "take"], 11, "rejected input\n")
+    tell(["why", net, report, "count", "--at", "9"], 11, "rejected moment\n")
+    tell(["why", net, report, "put"], 11, "rejected open\n")
+    state = "state 1011011011100110001101011000000000001\ninput 10"
+    it.write("changed.txt", text[report].replace(state, state.replace("01\n", "00\n"), 1))
+    tell(["why", net, "changed.txt", "count"], 11, "rejected trace 0\n")
+    for given in (["why", net, report], ["why", net, report, "count", "--depth", "257"], ["why", net, report, "count", "--at", "x"], ["why", net, report, "count", "--flops", "--flops"]):
+        tell(given, 2, "refused words\n", said(STAND, f"usage: backspace_inspect {COMPANION['why']}"))
     scopes = "the scopes: `tb` `tb.dut` `tb.send` `tb.take_after`"
     variables = "the variables there: `ck` `got` `line` `pop` `put` `take` `ready` `data` `at_middle` `count` `first` `head` `phase` `place` `second` `seen` .."
     clock = f"{vcd}: no variable of one bit in the scope `tb.dut` is the clock `clk`; the nearest: `ck`"

@@ -40,9 +40,14 @@ use Rattle.bs_inspect.specs.Said.{late_doubt, RequestSaid, runs_doubt, silent, W
 use Rattle.bs_inspect.specs.Sources.{Sources, behind_piece, joined, named_values, source_of}
 use Rattle.bs_evidence.specs.declared.flaw.Evidence.{Evidence}
 use Rattle.bs_evidence.specs.declared.flaw.Evidence.TheVariants.{Text, Flawed}
-use Rattle.bs_inspect.specs.Work.{to_table, to_steps_table, to_keys, to_state, to_evidence, to_page, to_novel, to_length}
+use Rattle.bs_inspect.specs.Work.{to_table, to_steps_table, to_keys, to_state, to_evidence, to_page, to_novel, to_length, to_why}
 use Rattle.bs_inspect.specs.Work.{Work, plan_of, to_help, to_version, to_flops, to_inputs, to_stats, to_steps, to_trace, to_runs, to_dump, to_wave, to_signature}
-use Rattle.bs_inspect.specs.Finishes.{evidence_status, finishes}
+use Rattle.bs_inspect_why.specs.Question.{Question}
+use Rattle.bs_inspect_why.specs.Why.{Answers}
+use Rattle.bs_inspect_files.specs.Taken.{TraceFiles}
+use Rattle.bs_inspect_why.specs.declared.denial.Why.{Why}
+use Rattle.bs_inspect_why.specs.declared.denial.Why.TheVariants as why
+use Rattle.bs_inspect.specs.Finishes.{TellsReasons, evidence_status, finishes, why_status, why_text}
 
 work_status : (work : Work) (status : Status) (text : List ℕ) → finishes work status text → is_work_status status ≡ true
 work_status to_help status text done = ap is_work_status done.0 ∙ refl
@@ -72,6 +77,20 @@ work_status (to_length kind step answered) status text done = ap is_work_status 
     by : (e : Evidence) → is_work_status (evidence_status e) ≡ true
     by (Text t) = refl
     by (Flawed flaw) = refl
+work_status (to_why q trace_files) status text done = ap is_work_status done.answered ∙ by done.answer
+  where
+    by : (w : Why) → is_work_status (why_status w) ≡ true
+    by (why.Text t) = refl
+    by (why.Denied denial) = refl
+
+-- an answer to `why`
+pub reasons_told : (q : Question) (t : TraceFiles) (answer : Why) (status : Status) (text : List ℕ) → Answers t.raw t.report q answer →
+    status ≡ why_status answer → text ≡ why_text answer → TellsReasons q t status text
+reasons_told q t answer status text right answered written = record { answer = answer; right = right; answered = answered; written = written }
+
+pub question_told : (given q : Question) (t : TraceFiles) (status : Status) (text : List ℕ) → given ≡ q → TellsReasons given t status text →
+    TellsReasons q t status text
+question_told given q t status text e h = subst (λ (x : Question). TellsReasons x t status text) e h
 
 pub is_work : IsWork finishes
 is_work = record { status = work_status }

@@ -2,7 +2,8 @@
 use Rattle.std.specs.Prelude.{ℕ, Bool, List}
 use Rattle.bs_inspect_view.specs.Drawn.{ViewRequest}
 use Rattle.bs_inspect_page.specs.Page.{PageOptions}
-use Rattle.bs_inspect_words.specs.Request.{DumpRequest, PageRequest, StimulusRequest}
+use Rattle.bs_inspect_why.specs.Question.{Question}
+use Rattle.bs_inspect_words.specs.Request.{DumpRequest, PageRequest, StimulusRequest, WhyRequest}
 use Rattle.bs_inspect_values.specs.Dumped.{DumpFiles}
 use Rattle.bs_inspect_values.specs.Simulated.{Clocked}
 
@@ -30,3 +31,7 @@ page_for netlist report only most = record { netlist = netlist; report = report;
 
 abbrev pub page_options : PageRequest → PageOptions
 page_options t = page_for t.netlist t.report t.only t.most
+
+-- what is asked of a trace
+abbrev pub question_of : WhyRequest → Question
+question_of t = record { name = t.name; at = t.at; depth = t.depth; flops = t.flops; all = t.all; csv = t.csv }

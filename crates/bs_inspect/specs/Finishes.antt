@@ -17,6 +17,11 @@ use Rattle.bs_inspect_report.specs.Remarks.{remarks}
 use Rattle.bs_inspect_report.specs.Steps.{steps_text}
 use Rattle.bs_inspect_report.specs.Table.{TellsTable, steps_table}
 use Rattle.bs_inspect_report.specs.Trace.{TellsTrace}
+use Rattle.bs_inspect_why.specs.Denials.{denial_text}
+use Rattle.bs_inspect_why.specs.Question.{Question}
+use Rattle.bs_inspect_why.specs.Why.{Answers}
+use Rattle.bs_inspect_why.specs.declared.denial.Why.{Why}
+use Rattle.bs_inspect_why.specs.declared.denial.Why.TheVariants as why
 use Rattle.bs_inspect.specs.Usage.{usage_text, version_text}
 use Rattle.bs_inspect.specs.Work.{Work, to_help, to_version, to_flops, to_inputs, to_stats, to_steps, to_trace, to_runs, to_dump, to_wave, to_signature}
 use Rattle.bs_net.specs.Netlist.{circuit_of}
@@ -26,9 +31,9 @@ use Rattle.bs_evidence.specs.declared.flaw.Evidence.TheVariants.{Text, Flawed}
 use Rattle.bs_evidence.specs.Evidence.{IsEvidence}
 use Rattle.bs_evidence.specs.Words.{flaw_text}
 use Rattle.bs_inspect_answers.specs.Taken.{Answered}
-use Rattle.bs_inspect_files.specs.Taken.{ReportFiles}
+use Rattle.bs_inspect_files.specs.Taken.{ReportFiles, TraceFiles}
 use Rattle.bs_reach_evidence.specs.Evidence.{IsEvidence as IsLengthEvidence}
-use Rattle.bs_inspect.specs.Work.{to_table, to_steps_table, to_keys, to_state, to_evidence, to_page, to_novel, to_length}
+use Rattle.bs_inspect.specs.Work.{to_table, to_steps_table, to_keys, to_state, to_evidence, to_page, to_novel, to_length, to_why}
 
 -- the status and the text of evidence: a flaw is answered as an audit answers a part that fails
 abbrev pub evidence_status : Evidence → Status
@@ -53,6 +58,22 @@ pub record TellsLength (kind : Format) (step : Option ℕ) (answered : Answered)
   pub told : status ≡ evidence_status evidence
   pub written : text ≡ evidence_text evidence
 
+-- the status and the text of an answer to `why`: where there is no account, it is answered as an audit answers a part that fails
+abbrev pub why_status : Why → Status
+why_status (why.Text text) = Done
+why_status (why.Denied denial) = Rejected
+
+abbrev pub why_text : Why → List ℕ
+why_text (why.Text text) = text.items
+why_text (why.Denied denial) = denial_text denial
+
+-- what forces the bits of a name, or why it is not told
+pub record TellsReasons (q : Question) (trace_files : TraceFiles) (status : Status) (text : List ℕ) : Type 0 where
+  pub answer : Why
+  pub right : Answers trace_files.raw trace_files.report q answer
+  pub answered : status ≡ why_status answer
+  pub written : text ≡ why_text answer
+
 abbrev pub finishes : Work → Status → List ℕ → Type 0
 finishes to_help status text = (status ≡ Done) × (text ≡ usage_text)
 finishes to_version status text = (status ≡ Done) × (text ≡ version_text)
@@ -75,3 +96,4 @@ finishes (to_evidence kind step report_files) status text = TellsEvidence kind s
 finishes (to_page asked trace_files) status text = (status ≡ Done) × ShowsReport trace_files.raw trace_files.report asked text
 finishes (to_novel most one_run) status text = (status ≡ Done) × TellsNovel one_run.run_files.raw one_run.run_files.runs one_run.moment.run most text
 finishes (to_length kind step answered) status text = TellsLength kind step answered status text
+finishes (to_why q trace_files) status text = TellsReasons q trace_files status text

@@ -3,8 +3,8 @@ ghost use Rattle.std.specs.Prelude.{◌≡◌, find, map, Some, IfOk};
 ghost use Rattle.bs_top_answer.specs.Note.{Due, DueText};
 ghost use Rattle.bs_top_answer.specs.Prepared.{PreparedNoted};
 ghost use Rattle.bs_top_files.specs.Refusals.{CheckSays};
-ghost use Rattle.bs_inspect_words.specs.Request.{ReachCnf as ReachCnfOf, ReachLrat as ReachLratOf, Cnf as CnfOf, Dump as DumpOf, Lrat as LratOf, Flops as FlopsOf, Inputs as InputsOf, Keys as KeysOf, Page as PageOf, Novel as NovelOf, Signature as SignatureOf, Stats as StatsOf, Steps as StepsOf, StepsTable as StepsTableOf, Stimulus as StimulusOf, Trace as TraceOf, TraceTable as TraceTableOf, Unscan as UnscanOf, Wave as WaveOf};
-ghost use Rattle.bs_inspect_words.specs.Asked.{dump_in, evidence_in, keys_in, length_in, page_in, novel_in, request_in, signature_in, stimulus_in, trace_in, unscan_in, wave_in};
+ghost use Rattle.bs_inspect_words.specs.Request.{ReachCnf as ReachCnfOf, ReachLrat as ReachLratOf, Cnf as CnfOf, Dump as DumpOf, Lrat as LratOf, Flops as FlopsOf, Inputs as InputsOf, Keys as KeysOf, Page as PageOf, Novel as NovelOf, Signature as SignatureOf, Stats as StatsOf, Steps as StepsOf, StepsTable as StepsTableOf, Stimulus as StimulusOf, Trace as TraceOf, TraceTable as TraceTableOf, Unscan as UnscanOf, Wave as WaveOf, Why as WhyOf};
+ghost use Rattle.bs_inspect_words.specs.Asked.{dump_in, evidence_in, keys_in, length_in, page_in, novel_in, request_in, signature_in, stimulus_in, trace_in, unscan_in, wave_in, why_in};
 ghost use Rattle.bs_inspect.specs.Finishes.{finishes};
 ghost use Rattle.bs_inspect.specs.Said.{late_doubt, RequestSaid, runs_doubt, silent};
 ghost use Rattle.bs_inspect.specs.Work.{plan_of, to_runs};
@@ -18,8 +18,8 @@ use crate::sources::{
 };
 use crate::telling::{
     tell_dump, tell_evidence, tell_flops, tell_inputs, tell_keys, tell_length, tell_novel,
-    tell_page, tell_runs, tell_signature, tell_state, tell_stats, tell_steps, tell_steps_table, tell_table, tell_trace,
-    tell_usage, tell_version, tell_wave,
+    tell_page, tell_runs, tell_signature, tell_state, tell_stats, tell_steps, tell_steps_table,
+    tell_table, tell_trace, tell_usage, tell_version, tell_wave, tell_why,
 };
 use bs_evidence::Format;
 use bs_inspect_answers::load_answered;
@@ -33,7 +33,7 @@ use bs_inspect_values::{
 };
 use bs_inspect_words::{
     DumpRequest, EvidenceRequest, KeysRequest, LengthRequest, NovelRequest, PageRequest, Request,
-    SignatureRequest, StimulusRequest, TraceRequest, UnscanRequest, WaveRequest,
+    SignatureRequest, StimulusRequest, TraceRequest, UnscanRequest, WaveRequest, WhyRequest,
 };
 use bs_outside::{NoMemory, Shelf};
 use bs_top_answer::{Note, Response, note_made};
@@ -416,6 +416,21 @@ fn reach_lrat<S: Shelf>(
     }
 }
 
+/// The answer to `why`.
+fn why<S: Shelf>(alloc: Global, shelf: &mut S, asked: &WhyRequest<'_>) -> Result<Response, NoMemory>
+    ensures { PreparedNoted CheckSays finishes (RequestSaid (WhyOf (why_in asked.now))) S.held S.faults S.leads shelf.old shelf.new (Some (plan_of (WhyOf (why_in asked.now)))) result }
+{
+    match load_charted(alloc, shelf, asked.netlist, asked.report, &[asked.name]) {
+        Ok(trace_files) => silent(tell_why(alloc, &trace_files, asked)),
+        Err(stop) => stop_at(
+            alloc,
+            trace_sources(asked.netlist, asked.report),
+            shelf.reason(),
+            stop,
+        ),
+    }
+}
+
 /// What is to be answered and written for a request, and what is to be said.
 pub(crate) fn request_answer<S: Shelf>(
     alloc: Global,
@@ -447,5 +462,6 @@ pub(crate) fn request_answer<S: Shelf>(
         Request::Novel(asked) => novel(alloc, shelf, asked),
         Request::ReachCnf(asked) => reach_cnf(alloc, shelf, asked),
         Request::ReachLrat(asked) => reach_lrat(alloc, shelf, asked),
+        Request::Why(asked) => why(alloc, shelf, asked),
     }
 }

@@ -1,5 +1,5 @@
 //! What is told, as an answer.
-ghost use Rattle.std.specs.Prelude.{◌≡◌, ◌<◌, map, IfOk};
+ghost use Rattle.std.specs.Prelude.{◌≡◌, ◌<◌, ◌≤◌, map, IfOk};
 ghost use Rattle.bs_stim.specs.Runs.{inputs_of};
 ghost use Rattle.bs_scan.specs.Moments.{IsMoment};
 ghost use Rattle.bs_inspect_novel.specs.Novel.{TellsNovel};
@@ -13,10 +13,14 @@ ghost use Rattle.bs_inspect_view.specs.View.{IsDrawing};
 ghost use Rattle.bs_net.specs.Netlist.{circuit_of};
 ghost use Rattle.bs_evidence.specs.Evidence.{IsEvidence};
 ghost use Rattle.bs_evidence.specs.Words.{flaw_text};
-ghost use Rattle.bs_inspect.specs.Asked.{drawing_of, page_for};
-ghost use Rattle.bs_inspect.specs.Finishes.{evidence_status, evidence_text, finishes};
+ghost use Rattle.bs_inspect.specs.Asked.{drawing_of, page_for, question_of};
+ghost use Rattle.bs_inspect.specs.Finishes.{evidence_status, evidence_text, finishes, TellsReasons, why_status, why_text as text_of_why};
 ghost use Rattle.bs_inspect_answers.specs.Taken.{answered_in};
-ghost use Rattle.bs_inspect.specs.Work.{to_dump, to_evidence, to_flops, to_help, to_inputs, to_keys, to_length, to_page, to_novel, to_runs, to_signature, to_state, to_stats, to_steps, to_steps_table, to_table, to_trace, to_version, to_wave};
+ghost use Rattle.bs_inspect.specs.Work.{to_dump, to_evidence, to_flops, to_help, to_inputs, to_keys, to_length, to_page, to_novel, to_runs, to_signature, to_state, to_stats, to_steps, to_steps_table, to_table, to_trace, to_version, to_wave, to_why};
+ghost use Rattle.bs_inspect_words.specs.Asked.{why_in};
+ghost use Rattle.bs_inspect_why.specs.Denials.{denial_text};
+ghost use Rattle.bs_inspect_why.specs.Question.{question_in};
+ghost use Rattle.bs_inspect_why.specs.Why.{Answers};
 
 use crate::usage::{usage_text, version_text};
 use bs_evidence::{Evidence, Flaw, Format, evidence_for, evidence_of, flaw_text};
@@ -31,6 +35,8 @@ use bs_inspect_page::{PageOptions, page_text};
 use bs_inspect_report::{remarks_text, steps_table, steps_text, trace_table, trace_text};
 use bs_inspect_values::{Dumped, Simulated, runs_text};
 use bs_inspect_view::{ViewRequest, drawing};
+use bs_inspect_why::{Denial, Question, Why, denial_text, why_text};
+use bs_inspect_words::WhyRequest;
 use bs_net::Netlist;
 use bs_outside::NoMemory;
 use bs_reach_evidence::evidence_of as length_evidence;
@@ -411,4 +417,87 @@ pub(crate) fn tell_novel(alloc: Global, one_run: &OneRun, most: u64) -> Result<R
         status: Status::Done,
         text,
     })
+}
+
+/// What is asked of a trace.
+fn question_of<'a>(asked: &WhyRequest<'a>) -> Question<'a>
+    ensures is { question_in result ≡ question_of (why_in asked.now) }
+    ensures some { 1 ≤ result.depth }
+{
+    Question {
+        name: asked.name,
+        at: asked.at,
+        depth: asked.depth as u32,
+        flops: asked.flops,
+        all: asked.all,
+        csv: asked.csv,
+    }
+}
+
+/// The line of a denial, as a reply.
+fn tell_denial(alloc: Global, denial: Denial) -> Result<Reply, NoMemory>
+    ensures status { IfOk result (λ answer. answer.status ≡ Status.Rejected) }
+    ensures text { IfOk result (λ answer. answer.text.items ≡ denial_text denial) }
+{
+    let text = denial_text(alloc, denial)?;
+    Ok(Reply {
+        status: Status::Rejected,
+        text,
+    })
+}
+
+/// What forces bits, as a reply.
+fn tell_reasons(alloc: Global, why: Why) -> Result<Reply, NoMemory>
+    ensures status { IfOk result (λ answer. answer.status ≡ why_status why) }
+    ensures text { IfOk result (λ answer. answer.text.items ≡ text_of_why why) }
+{
+    match why {
+        Why::Text(text) => Ok(Reply {
+            status: Status::Done,
+            text,
+        }),
+        Why::Denied(denial) => tell_denial(alloc, denial),
+    }
+}
+
+/// What forces the bits of a name in the trace of a report.
+fn reasons_of(
+    alloc: Global,
+    trace_files: &TraceFiles,
+    question: &Question<'_>,
+) -> Result<Why, NoMemory>
+    requires { 1 ≤ question.now.depth }
+    ensures { IfOk result (Answers trace_files.now.net.raw trace_files.now.report (question_in question.now)) }
+{
+    let why = why_text(alloc, &trace_files.net, &trace_files.report, question)?;
+    Ok(why)
+}
+
+/// What forces the bits of a name in the trace of a report, or why it is not told.
+#[tactic(auto, using(crate::proofs::WorkLemmas::reasons_told))]
+fn tell_question(
+    alloc: Global,
+    trace_files: &TraceFiles,
+    question: &Question<'_>,
+) -> Result<Reply, NoMemory>
+    requires { 1 ≤ question.now.depth }
+    ensures { IfOk result (λ answer. TellsReasons (question_in question.now) (trace_files_in trace_files.now) answer.status answer.text.items) }
+{
+    let why = reasons_of(alloc, trace_files, question)?;
+    let reply = tell_reasons(alloc, why)?;
+    Ok(reply)
+}
+
+/// What forces the bits of the name that is asked for, or why it is not told.
+#[tactic(auto, using(crate::proofs::WorkLemmas::question_told))]
+pub(crate) fn tell_why(
+    alloc: Global,
+    trace_files: &TraceFiles,
+    asked: &WhyRequest<'_>,
+) -> Result<Reply, NoMemory>
+    ensures { IfOk result (λ answer. finishes (to_why (question_of (why_in asked.now)) (trace_files_in trace_files.now)) answer.status answer.text.items) }
+{
+    let question = question_of(asked);
+    let reply = tell_question(alloc, trace_files, &question)?;
+    Ok(reply)
 }

@@ -39,6 +39,7 @@ usages =
     ∷ stands (codes "novel") (codes "usage: backspace_inspect novel NETLIST STIMULUS RUN [--most N]")
     ∷ stands (codes "reach-cnf") (codes "usage: backspace_inspect reach-cnf NETLIST STATE ANSWER [--step J]")
     ∷ stands (codes "reach-lrat") (codes "usage: backspace_inspect reach-lrat NETLIST STATE ANSWER [--step J]")
+    ∷ stands (codes "why") (codes "usage: backspace_inspect why NETLIST REPORT NAME [--at CYCLE] [--depth N] [--flops] [--all] [--csv]")
     ∷ stands (codes "help") (codes "usage: backspace_inspect help")
     ∷ stands (codes "version") (codes "usage: backspace_inspect version")
     ∷ []
@@ -59,7 +60,8 @@ commands = map (λ u. u.command) usages
 abbrev pub options : List (List ℕ)
 options =
     codes "--all" ∷ codes "--only" ∷ codes "--clock" ∷ codes "--scope" ∷ codes "--map" ∷ codes "--bits" ∷ codes "--csv" ∷ codes "--from" ∷ codes "--cycle"
-    ∷ codes "--time" ∷ codes "--signature" ∷ codes "--step" ∷ codes "--most" ∷ []
+    ∷ codes "--time" ∷ codes "--signature" ∷ codes "--step" ∷ codes "--most" ∷ codes "--at" ∷ codes "--depth"
+    ∷ codes "--flops" ∷ []
 
 -- ---- wrong words
 

@@ -15,7 +15,7 @@ use bs_note_files::pair_note;
 use std::alloc::Global;
 
 /// The commands, and how the words of each stand.
-const USAGES: [(&str, &str); 19] = [
+const USAGES: [(&str, &str); 20] = [
     ("flops", "usage: backspace_inspect flops NETLIST"),
     ("keys", "usage: backspace_inspect keys NETLIST NAME .."),
     ("inputs", "usage: backspace_inspect inputs NETLIST"),
@@ -69,12 +69,16 @@ const USAGES: [(&str, &str); 19] = [
         "reach-lrat",
         "usage: backspace_inspect reach-lrat NETLIST STATE ANSWER [--step J]",
     ),
+    (
+        "why",
+        "usage: backspace_inspect why NETLIST REPORT NAME [--at CYCLE] [--depth N] [--flops] [--all] [--csv]",
+    ),
     ("help", "usage: backspace_inspect help"),
     ("version", "usage: backspace_inspect version"),
 ];
 
 /// The options of all commands.
-const OPTIONS: [&[u8]; 13] = [
+const OPTIONS: [&[u8]; 16] = [
     b"--all",
     b"--only",
     b"--clock",
@@ -88,10 +92,13 @@ const OPTIONS: [&[u8]; 13] = [
     b"--signature",
     b"--step",
     b"--most",
+    b"--at",
+    b"--depth",
+    b"--flops",
 ];
 
 /// The commands.
-const COMMANDS: [&[u8]; 19] = [
+const COMMANDS: [&[u8]; 20] = [
     b"flops",
     b"keys",
     b"inputs",
@@ -109,6 +116,7 @@ const COMMANDS: [&[u8]; 19] = [
     b"novel",
     b"reach-cnf",
     b"reach-lrat",
+    b"why",
     b"help",
     b"version",
 ];

@@ -10,12 +10,14 @@ use Rattle.bs_inspect_words.specs.declared.request.UnscanRequest.{UnscanRequest 
 use Rattle.bs_inspect_words.specs.declared.paged.PageRequest.{PageRequest as CodePageRequest}
 use Rattle.bs_inspect_words.specs.declared.proposed.NovelRequest.{NovelRequest as CodeNovelRequest}
 use Rattle.bs_inspect_words.specs.declared.proposed.SignatureRequest.{SignatureRequest as CodeSignatureRequest}
+use Rattle.bs_inspect_words.specs.declared.causes.WhyRequest.{WhyRequest as CodeWhyRequest}
 use Rattle.bs_inspect_words.specs.declared.request.EvidenceRequest.{EvidenceRequest as CodeEvidenceRequest}
 use Rattle.bs_inspect_words.specs.declared.answered.LengthRequest.{LengthRequest as CodeLengthRequest}
 use Rattle.bs_inspect_words.specs.declared.request.Request.{Request as CodeRequest}
 use Rattle.bs_inspect_words.specs.declared.request.Request.TheVariants as R
-use Rattle.bs_inspect_words.specs.Request.{KeysRequest, TraceRequest, WaveRequest, StimulusRequest, DumpRequest, SignatureRequest, UnscanRequest, EvidenceRequest, PageRequest, NovelRequest, LengthRequest, Request}
+use Rattle.bs_inspect_words.specs.Request.{KeysRequest, TraceRequest, WaveRequest, StimulusRequest, DumpRequest, SignatureRequest, UnscanRequest, EvidenceRequest, PageRequest, NovelRequest, LengthRequest, Request, WhyRequest}
 use Rattle.bs_inspect_words.specs.Request.{Help, Version, Flops, Inputs, Stats, Keys, Trace, TraceTable, Steps, StepsTable, Wave, Stimulus, Dump, Signature, Unscan, Cnf, Lrat, Page, Novel, ReachCnf, ReachLrat}
+use Rattle.bs_inspect_words.specs.Request.{Help, Version, Flops, Inputs, Stats, Keys, Trace, TraceTable, Steps, StepsTable, Wave, Stimulus, Dump, Signature, Unscan, Cnf, Lrat, Page, Novel, Why}
 
 abbrev pub keys_in : CodeKeysRequest → KeysRequest
 keys_in t = record { netlist = t.netlist.now; names = map (λ s. s.now) t.names.items }
@@ -64,6 +66,18 @@ novel_in t = record { netlist = t.netlist.now; runs = t.runs.now; run = t.run; m
 abbrev pub length_in : CodeLengthRequest → LengthRequest
 length_in t = record { netlist = t.netlist.now; state = t.state.now; answer = t.answer.now; step = t.step }
 
+abbrev pub why_in : CodeWhyRequest → WhyRequest
+why_in t = record {
+  netlist = t.netlist.now;
+  report = t.report.now;
+  name = t.name.now;
+  at = t.at;
+  depth = t.depth;
+  flops = t.flops;
+  all = t.all;
+  csv = t.csv;
+}
+
 abbrev pub request_in : CodeRequest → Request
 request_in R.Help = Help
 request_in R.Version = Version
@@ -86,6 +100,7 @@ request_in (R.Page t) = Page (page_in t)
 request_in (R.Novel t) = Novel (novel_in t)
 request_in (R.ReachCnf t) = ReachCnf (length_in t)
 request_in (R.ReachLrat t) = ReachLrat (length_in t)
+request_in (R.Why t) = Why (why_in t)
 
 abbrev pub shown_request : Option CodeRequest → Option Request
 shown_request None = None

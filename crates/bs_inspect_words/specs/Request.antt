@@ -14,6 +14,7 @@ use Rattle.bs_vcd.specs.declared.cycles.When.{When}
 use Rattle.bs_vcd.specs.declared.cycles.When.TheVariants as W
 use Rattle.bs_inspect_words.specs.declared.evidence.TheConstants.{MAX_STEP}
 use Rattle.bs_inspect_words.specs.declared.novel.TheConstants.{MAX_LINES}
+use Rattle.bs_inspect_words.specs.declared.causes.TheConstants.{DEFAULT_DEPTH, MAX_DEPTH}
 use Rattle.bs_inspect_words.specs.Settings.{fit, is_given, value_of, values_of}
 
 -- the file of `keys`, and one name or more
@@ -95,6 +96,18 @@ pub record NovelRequest : Type 0 where
   pub run : ℕ
   pub most : ℕ
 
+-- the files of `why`, a name, a cycle of the trace where one is given, how many layers, whether these end at flip-flops and inputs alone,
+-- whether all is told, and whether as a table
+pub record WhyRequest : Type 0 where
+  pub netlist : List ℕ
+  pub report : List ℕ
+  pub name : List ℕ
+  pub at : Option ℕ
+  pub depth : ℕ
+  pub flops : Bool
+  pub all : Bool
+  pub csv : Bool
+
 pub data Request : Type 0 where
   Help : Request
   Version : Request
@@ -117,6 +130,7 @@ pub data Request : Type 0 where
   Novel : NovelRequest → Request
   ReachCnf : LengthRequest → Request
   ReachLrat : LengthRequest → Request
+  Why : WhyRequest → Request
 
 -- ---- commands without options
 
@@ -432,12 +446,52 @@ reach_cnf_request given = option_map (λ (t : LengthRequest). ReachCnf t) (lengt
 abbrev pub reach_lrat_request : Given → Option Request
 reach_lrat_request given = option_map (λ (t : LengthRequest). ReachLrat t) (length_words given.positions given.settings)
 
+-- ---- what forces the bits of a name
+
+abbrev pub why_flags : List Flag
+why_flags = F.At ∷ F.Depth ∷ F.Flops ∷ F.All ∷ F.Csv ∷ []
+
+abbrev pub some_cycle : Option ℕ → Option (Option ℕ)
+some_cycle None = None
+some_cycle (Some cycle) = Some (Some cycle)
+
+-- the cycle that a word is: the last one where there is none
+abbrev pub cycle_at : Option (List ℕ) → Option (Option ℕ)
+cycle_at None = Some None
+cycle_at (Some word) = some_cycle (number_between 0 MAX_CYCLES word)
+
+-- the number of layers that a word is
+abbrev pub layers : Option (List ℕ) → Option ℕ
+layers None = Some DEFAULT_DEPTH
+layers (Some word) = number_between 1 MAX_DEPTH word
+
+abbrev pub why_for : (netlist report name : List ℕ) → Option (Option ℕ) → Option ℕ → (flops all csv : Bool) → Option Request
+why_for netlist report name (Some at) (Some depth) flops all csv =
+    Some (Why record { netlist = netlist; report = report; name = name; at = at; depth = depth; flops = flops; all = all; csv = csv })
+why_for netlist report name at depth flops all csv = None
+
+-- `why` has two file names, and a name of the netlist
+abbrev pub why_of : List (List ℕ) → Option (Option ℕ) → Option ℕ → (flops all csv : Bool) → Option Request
+why_of (netlist ∷ report ∷ name ∷ []) at depth flops all csv = why_for netlist report name at depth flops all csv
+why_of _ at depth flops all csv = None
+
+abbrev pub why_words : List (List ℕ) → List Setting → Option Request
+why_words positions settings =
+    if fit why_flags settings
+    then why_of positions (cycle_at (value_of F.At settings)) (layers (value_of F.Depth settings)) (is_given F.Flops settings) (is_given F.All settings)
+    (is_given F.Csv settings)
+    else None
+
+abbrev pub why_request : Given → Option Request
+why_request given = why_words given.positions given.settings
+
 -- ---- the command
 
 -- what the commands take
 abbrev pub all_flags : List Flag
 all_flags =
-    F.All ∷ F.Only ∷ F.Clock ∷ F.Scope ∷ F.Map ∷ F.Bits ∷ F.From ∷ F.Time ∷ F.Cycle ∷ F.Signature ∷ F.Csv ∷ F.Step ∷ F.Most ∷ []
+    F.All ∷ F.Only ∷ F.Clock ∷ F.Scope ∷ F.Map ∷ F.Bits ∷ F.From ∷ F.Time ∷ F.Cycle ∷ F.Signature ∷ F.Csv ∷ F.Step ∷ F.Most ∷ F.At ∷ F.Depth ∷ F.Flops
+    ∷ []
 
 abbrev pub is_help : List ℕ → Bool
 is_help command = bytes_eq command (codes "help") || (bytes_eq command (codes "-h") || bytes_eq command (codes "--help"))
@@ -471,7 +525,8 @@ other_request command given =
     else (if bytes_eq command (codes "cnf") then cnf_request given
     else (if bytes_eq command (codes "lrat") then lrat_request given
     else (if bytes_eq command (codes "novel") then novel_request given
-    else answer_request command given))))))
+    else (if bytes_eq command (codes "why") then why_request given
+    else answer_request command given)))))))
 
 abbrev pub command_request : List ℕ → Given → Option Request
 command_request command given =

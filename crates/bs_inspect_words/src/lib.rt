@@ -1,7 +1,8 @@
 //! The words of a command line of the companion: which are a request, and which one they are.
 //!
 //! Modules: `settings` (options and their values), `request` and `proposed` (`Request`), `named`, `report`, `simulation`,
-//! `signature`, `novel`, `evidence`, `lengths`, `page` (the commands; what the last two ask: `answered`, `paged`), `reading` (`read_request`). Words by position and
+//! `signature`, `novel`, `evidence`, `lengths`, `page`, `why` (the commands; what the last three ask: `answered`, `paged`, `causes`),
+//! `reading` (`read_request`). Words by position and
 //! options are parted by bs_top_words. Used above:
 //! `read_request` answers `request_of` (`specs/Request`). A command: a record and a variant of `Request` in code and
 //! specs, its words in a module, and a line in `command_request` or its kin; an option: a variant of `Flag` (bs_top_words), and a
@@ -9,6 +10,7 @@
 #![tactic(auto)]
 
 mod answered;
+mod causes;
 mod evidence;
 mod lengths;
 mod named;
@@ -22,8 +24,10 @@ mod request;
 mod settings;
 mod signature;
 mod simulation;
+mod why;
 
 pub use answered::LengthRequest;
+pub use causes::{DEFAULT_DEPTH, MAX_DEPTH, WhyRequest};
 pub use novel::MAX_LINES;
 pub use paged::{DEFAULT_DRAWN, MAX_DRAWN, PageRequest};
 pub use proposed::{NovelRequest, SignatureRequest};

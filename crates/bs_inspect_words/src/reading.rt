@@ -17,6 +17,7 @@ use crate::report::{steps_request, trace_request, wave_request};
 use crate::request::Request;
 use crate::signature::signature_request;
 use crate::simulation::{dump_request, stimulus_request};
+use crate::why::why_request;
 use bs_bits::NoMemory;
 use bs_top_words::{Flag, Given, read_given};
 use std::alloc::Global;
@@ -95,6 +96,9 @@ fn other_request<'a>(command: &str, given: &Given<'a>) -> Option<Request<'a>>
     if command == "novel" {
         return novel_request(given);
     }
+    if command == "why" {
+        return why_request(given);
+    }
     answer_request(command, given)
 }
 
@@ -142,6 +146,9 @@ fn read_shown<'a>(alloc: Global, words: &'a [String]) -> Result<Option<Given<'a>
         Flag::Csv,
         Flag::Step,
         Flag::Most,
+        Flag::At,
+        Flag::Depth,
+        Flag::Flops,
     ];
     let given = read_given(alloc, &flags, words)?;
     Ok(given)

@@ -1,5 +1,6 @@
 //! The requests: a command, its files and its options.
 use crate::answered::LengthRequest;
+use crate::causes::WhyRequest;
 use crate::paged::PageRequest;
 use crate::proposed::{NovelRequest, SignatureRequest};
 use bs_vcd::When;
@@ -118,4 +119,6 @@ pub enum Request<'a> {
     ReachCnf(LengthRequest<'a>),
     /// The proof that it is not.
     ReachLrat(LengthRequest<'a>),
+    /// What forces the bits of a name in a trace.
+    Why(WhyRequest<'a>),
 }

@@ -1,4 +1,4 @@
-//! Worked rows on designs of several modules, value changes, waveforms and proposals, each with ample memory: tests alone.
+//! Worked rows on designs of several modules, value changes, waveforms, proposals and what forces bits, each with ample memory: tests alone.
 #![tactic(auto)]
 
 #[cfg(test)]
@@ -25,3 +25,7 @@ mod view_rows;
 mod wave_rows;
 #[cfg(test)]
 mod waves;
+#[cfg(test)]
+mod why_rows;
+#[cfg(test)]
+mod whys;

@@ -70,3 +70,6 @@ returns-in-ReachCnf g c = noted_asked _ _ _ (ap request_in c.in-ReachCnf.is) c.r
 
 pub returns-in-ReachLrat : goal.returns-in-ReachLrat
 returns-in-ReachLrat g c = noted_asked _ _ _ (ap request_in c.in-ReachLrat.is) c.reach_lrat.ensures
+
+pub returns-in-Why : goal.returns-in-Why
+returns-in-Why g c = noted_asked _ _ _ (ap request_in c.in-Why.is) c.why.ensures

@@ -1,0 +1,24 @@
+-- The account of a block.
+use Rattle.std.proofs.Common.{◌≡◌, ℕ, Bool, not, List, map, filter, subst, ap, ◌∙◌}
+use Rattle.std.specs.List.{All}
+use Rattle.bs_net.specs.Netlist.{circuit}
+use Rattle.bs_net_facts.specs.declared.fact.Fact.{Fact}
+use Rattle.bs_net_facts.specs.declared.block.Block.{Block}
+use Rattle.bs_net_facts.specs.Blocks.{IsBlock, moved}
+use Rattle.bs_net_facts.specs.Seen.{Seen}
+use Rattle.bs_inspect_causes.specs.declared.account.Account.{Account}
+use Rattle.bs_inspect_causes.specs.declared.drivers.Drivers.{Drivers}
+use Rattle.bs_inspect_causes.specs.Accounts.{IsAccount, is_cause, last_bits}
+use Rattle.bs_inspect_causes.specs.Layers.{IsRealIn, IsUnit}
+use Rattle.bs_inspect_causes.proofs.BlockLemmas.{moved_same}
+
+pub account_is : (m : Seen) (block : Block) (causes holds idle : List Fact) (layer : ℕ) → IsBlock (circuit m.net) m.states m.inputs block →
+    causes ≡ filter (is_cause block) block.given → holds ≡ filter (λ (f : Fact). not (is_cause block f)) block.given → All (IsRealIn m) idle →
+    IsAccount (circuit m.net) m.states m.inputs (record { block = block; causes = causes; holds = holds; idle = idle; layer = layer })
+account_is m block causes holds idle layer is by_cause by_hold real = record { block = is; causes = by_cause; holds = by_hold; idle = real }
+
+pub bits_last : (m : Seen) (d : Drivers) (at : ℕ) (flop : Bool) (facts : List Fact) (a : Account) (block : Block) → IsUnit m d at flop facts →
+    a.block ≡ block → block.bits ≡ facts → block.at ≡ at → last_bits a ≡ facts
+bits_last m d at flop facts a block unit e bits ends =
+    ap (λ (b : Block). map (moved b.at) b.bits) e
+    ∙ (ap (λ (t : ℕ). map (moved t) block.bits) ends ∙ (ap (λ (bs : List Fact). map (moved at) bs) bits ∙ moved_same at facts unit.at_cycle))

@@ -1,0 +1,10 @@
+pub mod BreakLemmas
+pub mod DriverLemmas
+pub mod FactLemmas
+pub mod SourceLemmas
+pub mod BlockLemmas
+pub mod AccountLemmas
+pub mod UnitLemmas
+pub mod LayerLemmas
+pub mod FurtherLemmas
+pub mod ExplainLemmas

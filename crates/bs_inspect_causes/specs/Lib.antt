@@ -1,0 +1,4 @@
+-- what public contracts rest on
+pub mod Accounts
+-- what inner functions promise each other
+pub mod Layers

@@ -1,0 +1,115 @@
+//! An account: a block with its facts by kind.
+ghost use Rattle.std.specs.Prelude.{◌≡◌, not, filter, All, IfOk};
+ghost use Rattle.bs_net.specs.Netlist.{circuit};
+ghost use Rattle.bs_net_facts.specs.Blocks.{IsBlock};
+ghost use Rattle.bs_inspect_causes.specs.Accounts.{IsAccount, is_cause};
+ghost use Rattle.bs_inspect_causes.specs.Layers.{IsRealIn};
+
+use crate::facts::real_facts;
+use bs_bits::{List, NoMemory};
+use bs_net_facts::{Block, Fact, Moments};
+use std::alloc::Global;
+
+/// A block with its facts by kind.
+#[derive(Drop)]
+pub struct Account {
+    pub block: Block,
+    /// The given facts that set the bits.
+    pub causes: List<Fact>,
+    /// The given facts that keep them.
+    pub holds: List<Fact>,
+    /// Facts to tell beside it, which do not matter.
+    pub idle: List<Fact>,
+    /// 0 for what was asked, 1 for what is given in those accounts, and so on.
+    pub layer: u32,
+}
+
+/// Whether a given fact sets a block's bits, and does not keep them.
+pub(crate) fn is_cause(block: &Block, fact: Fact) -> bool
+    ensures { result ≡ is_cause block.now fact }
+{
+    let before = fact.cycle < block.since;
+    let once = block.since == block.at;
+    before || once
+}
+
+/// The given facts that set a block's bits.
+fn causes_of(alloc: Global, block: &Block) -> Result<List<Fact>, NoMemory>
+    ensures { IfOk result (λ facts. facts ≡ filter (is_cause block.now) block.now.given) }
+{
+    let mut facts = List::new(alloc);
+    for fact in block.given.slice() {
+        if is_cause(block, *fact) {
+            facts.push(*fact)?;
+        }
+    }
+    Ok(facts)
+}
+
+/// The given facts that keep them.
+fn holds_of(alloc: Global, block: &Block) -> Result<List<Fact>, NoMemory>
+    ensures { IfOk result (λ facts. facts ≡ filter (λ f. not (is_cause block.now f)) block.now.given) }
+{
+    let mut facts = List::new(alloc);
+    for fact in block.given.slice() {
+        if !is_cause(block, *fact) {
+            facts.push(*fact)?;
+        }
+    }
+    Ok(facts)
+}
+
+/// The facts of a block by kind.
+#[derive(Drop)]
+struct Kinds {
+    causes: List<Fact>,
+    holds: List<Fact>,
+    idle: List<Fact>,
+}
+
+/// The facts of a block by kind, with those of some others that are the trace's.
+fn kinds_of(
+    alloc: Global,
+    moments: &Moments<'_>,
+    block: &Block,
+    idle: &[Fact],
+) -> Result<Kinds, NoMemory>
+    ensures causes { IfOk result (λ k. k.causes ≡ filter (is_cause block.now) block.now.given) }
+    ensures holds { IfOk result (λ k. k.holds ≡ filter (λ f. not (is_cause block.now f)) block.now.given) }
+    ensures idle { IfOk result (λ k. All (IsRealIn moments.now) k.idle) }
+{
+    let causes = causes_of(alloc, block)?;
+    let holds = holds_of(alloc, block)?;
+    let idle = real_facts(alloc, moments, idle)?;
+    Ok(Kinds {
+        causes,
+        holds,
+        idle,
+    })
+}
+
+/// The account of a block, with those of some other facts that are the trace's.
+#[tactic(auto, using(crate::proofs::AccountLemmas::account_is))]
+pub(crate) fn account_by(
+    alloc: Global,
+    moments: &Moments<'_>,
+    block: Block,
+    idle: List<Fact>,
+    layer: u32,
+) -> Result<Account, NoMemory>
+    requires { IsBlock (circuit moments.now.net) moments.now.states moments.now.inputs block }
+    ensures account { IfOk result (λ a. IsAccount (circuit moments.now.net) moments.now.states moments.now.inputs a) }
+    ensures block { IfOk result (λ a. a.block ≡ block) }
+    ensures layer { IfOk result (λ a. a.layer ≡ layer) }
+{
+    match kinds_of(alloc, moments, &block, idle.slice()) {
+        Ok(kinds) => Ok(Account {
+            block,
+            causes: kinds.causes,
+            holds: kinds.holds,
+            idle: kinds.idle,
+            layer,
+        }),
+        Err(refused) => Err(refused),
+    }
+}

@@ -1,0 +1,144 @@
+//! Accounts of facts, layer by layer.
+ghost use Rattle.std.specs.Prelude.{◌≡◌, ◌≤◌, ◌+◌, false, All, IfOk, OnOk};
+ghost use Rattle.bs_net.specs.Netlist.{circuit};
+ghost use Rattle.bs_net_facts.specs.Facts.{IsWayOf, IsReal};
+ghost use Rattle.bs_inspect_causes.specs.Accounts.{Explain, LeadsOn, has_net};
+ghost use Rattle.bs_inspect_causes.specs.Layers.{AreDue, AreDrivers, ExplainSoFar, IsReady};
+
+use crate::account::Account;
+use crate::drivers::Drivers;
+use crate::further::further_facts;
+use crate::layer::tell_facts;
+use crate::memory::Memory;
+use bs_bits::{List, NoMemory};
+use bs_inspect_cones::Scene;
+use bs_net_facts::Fact;
+use std::alloc::Global;
+
+/// Tells due facts in a layer, and gives those that are due in the next one.
+#[tactic(auto, using(crate::proofs::ExplainLemmas::explain_more, crate::proofs::ExplainLemmas::each_account, crate::proofs::ExplainLemmas::next_due))]
+fn tell_layer(
+    alloc: Global,
+    scene: &Scene<'_>,
+    drivers: &Drivers,
+    memory: &mut Memory,
+    asked: &[Fact],
+    accounts: &mut List<Account>,
+    facts: Vec<Fact>,
+    layer: u32,
+    all: bool,
+) -> Result<Vec<Fact>, NoMemory>
+    requires ready { IsReady scene.now.moments.now drivers.now }
+    requires so_far { ExplainSoFar scene.now.moments.now asked.now layer accounts.old }
+    requires due { AreDue scene.now.moments.now drivers.now asked.now layer accounts.old facts.items }
+    ensures so_far { OnOk result (ExplainSoFar scene.now.moments.now asked.now (layer + 1) accounts.new) }
+    ensures due { IfOk result (λ next. AreDue scene.now.moments.now drivers.now asked.now (layer + 1) accounts.new next.items) }
+{
+    let _ = asked;
+    let from = accounts.len();
+    tell_facts(alloc, scene, drivers, memory, accounts, facts, layer)?;
+    further_facts(
+        alloc,
+        scene,
+        drivers,
+        memory,
+        accounts.slice(),
+        from,
+        layer,
+        all,
+    )
+}
+
+/// Tells due facts in so many layers.
+#[tactic(auto, using(crate::proofs::ExplainLemmas::explain_from))]
+fn tell_layers(
+    alloc: Global,
+    scene: &Scene<'_>,
+    drivers: &Drivers,
+    memory: &mut Memory,
+    asked: &[Fact],
+    accounts: &mut List<Account>,
+    first: Vec<Fact>,
+    depth: u32,
+    all: bool,
+) -> Result<(), NoMemory>
+    requires ready { IsReady scene.now.moments.now drivers.now }
+    requires so_far { ExplainSoFar scene.now.moments.now asked.now 0 accounts.old }
+    requires due { AreDue scene.now.moments.now drivers.now asked.now 0 accounts.old first.items }
+    requires some_layer { 1 ≤ depth }
+    ensures { OnOk result (Explain (circuit scene.now.moments.now.net) scene.now.moments.now.states scene.now.moments.now.inputs asked.now depth accounts.new) }
+{
+    let mut facts = first;
+    'layers: for layer in 0..depth {
+        facts = tell_layer(
+            alloc, scene, drivers, memory, asked, accounts, facts, layer, all,
+        )?;
+        if facts.len() == 0 {
+            return Ok(());
+        }
+    }
+    Ok(())
+}
+
+/// The accounts of asked facts, with the drivers of the nets.
+#[tactic(auto, using(crate::proofs::ExplainLemmas::none_so_far, crate::proofs::ExplainLemmas::asked_due))]
+fn accounts_with(
+    alloc: Global,
+    scene: &Scene<'_>,
+    drivers: &Drivers,
+    memory: &mut Memory,
+    asked: &[Fact],
+    depth: u32,
+    all: bool,
+) -> Result<List<Account>, NoMemory>
+    requires ready { IsReady scene.now.moments.now drivers.now }
+    requires real { All (IsReal (circuit scene.now.moments.now.net) scene.now.moments.now.states scene.now.moments.now.inputs) asked.now }
+    requires driven { All (λ f. has_net (circuit scene.now.moments.now.net).inputs f.net ≡ false) asked.now }
+    requires some_layer { 1 ≤ depth }
+    ensures { IfOk result (λ accounts. Explain (circuit scene.now.moments.now.net) scene.now.moments.now.states scene.now.moments.now.inputs asked.now depth accounts) }
+{
+    let first = Vec::from_slice(alloc, asked)?;
+    let mut accounts = List::new(alloc);
+    match tell_layers(
+        alloc,
+        scene,
+        drivers,
+        memory,
+        asked,
+        &mut accounts,
+        first,
+        depth,
+        all,
+    ) {
+        Ok(()) => Ok(accounts),
+        Err(refused) => {
+            drop(accounts);
+            Err(refused)
+        }
+    }
+}
+
+/// Accounts of some facts of a trace, in at most `depth` layers: of the asked facts, then of facts that are given in those accounts, and
+/// so on: causes, and what has kept the bits all through. Facts of one vector and cycle are told by one account; what is told already,
+/// data inputs, constants and nets without a driver are asked no further. With `all` a layer asks for each cause; else, where an
+/// account has more than eight, not for single bits that have stood for long. Layers stand in order, and in each the latest cycle first.
+#[tactic(auto, using(crate::proofs::ExplainLemmas::ready))]
+pub fn accounts_of(
+    alloc: Global,
+    scene: &Scene<'_>,
+    asked: &[Fact],
+    depth: u32,
+    all: bool,
+) -> Result<List<Account>, NoMemory>
+    requires way { IsWayOf (circuit scene.now.moments.now.net) scene.now.moments.now.states scene.now.moments.now.inputs }
+    requires leads { LeadsOn (circuit scene.now.moments.now.net) scene.now.moments.now.states scene.now.moments.now.inputs }
+    requires real { All (IsReal (circuit scene.now.moments.now.net) scene.now.moments.now.states scene.now.moments.now.inputs) asked.now }
+    requires driven { All (λ f. has_net (circuit scene.now.moments.now.net).inputs f.net ≡ false) asked.now }
+    requires some_layer { 1 ≤ depth }
+    ensures { IfOk result (λ accounts. Explain (circuit scene.now.moments.now.net) scene.now.moments.now.states scene.now.moments.now.inputs asked.now depth accounts) }
+{
+    let drivers = Drivers::of(alloc, scene.moments.net())?;
+    let mut memory = Memory::new(alloc, scene.nets())?;
+    let accounts = accounts_with(alloc, scene, &drivers, &mut memory, asked, depth, all)?;
+    Ok(accounts)
+}

@@ -1,0 +1,193 @@
+//! Which given facts of accounts are asked further.
+ghost use Rattle.std.specs.Prelude.{◌≡◌, ◌<◌, true, false, length, All, Contains, IfOk, OnOk};
+ghost use Rattle.bs_net.specs.Netlist.{circuit};
+ghost use Rattle.bs_inspect_causes.specs.Accounts.{IsAccount};
+ghost use Rattle.bs_inspect_causes.specs.Layers.{AsksMore, IsNext, marks_net};
+
+use crate::account::{Account, is_cause};
+use crate::drivers::{Drivers, is_marked};
+use crate::facts::is_real;
+use crate::memory::Memory;
+use bs_bits::NoMemory;
+use bs_inspect_cones::{Driver, Scene};
+use bs_net::NetId;
+use bs_net_facts::{Fact, Moments};
+use std::alloc::Global;
+
+/// Behind an account with more causes, old single bits are asked only where all are.
+const MANY_CAUSES: usize = 8;
+
+/// So many cycles before a cause has an old one the same bit.
+const OLD_CYCLES: u32 = 4;
+
+/// Whether a fact's net has the bit in the cycles before it too.
+fn is_old(moments: &Moments<'_>, fact: Fact) -> bool {
+    if fact.cycle < OLD_CYCLES {
+        return false;
+    }
+    for back in 1..OLD_CYCLES + 1 {
+        let before = Fact {
+            net: fact.net,
+            cycle: fact.cycle.saturating_sub(back),
+            bit: fact.bit,
+        };
+        if !is_real(moments, before) {
+            return false;
+        }
+    }
+    true
+}
+
+/// Whether a cause of an account is left out where not all are asked.
+fn is_left_out(scene: &Scene<'_>, account: &Account, fact: Fact) -> bool {
+    if account.causes.len() <= MANY_CAUSES {
+        return false;
+    }
+    if !scene.is_single(fact.net.0) {
+        return false;
+    }
+    is_old(scene.moments, fact)
+}
+
+/// Whether a gate or a flip-flop drives a net.
+fn is_driven(scene: &Scene<'_>, net: NetId) -> bool {
+    match scene.driver(net) {
+        Driver::Gate(_) => true,
+        Driver::Flop(_) => true,
+        Driver::Constant => false,
+        Driver::Outside => false,
+    }
+}
+
+/// Whether a fact of a flip-flop or a gate is asked further: a cause, or what has kept the bits all through.
+fn is_chosen(scene: &Scene<'_>, memory: &Memory, account: &Account, fact: Fact, all: bool) -> bool {
+    if memory.tells(fact) {
+        return false;
+    }
+    if !is_cause(&account.block, fact) {
+        return memory.is_steady(&account.block, fact);
+    }
+    all || !is_left_out(scene, account, fact)
+}
+
+/// Whether a given fact of an account is asked further: not of data inputs, constants and nets without a driver.
+fn is_asked(
+    scene: &Scene<'_>,
+    drivers: &Drivers,
+    memory: &Memory,
+    account: &Account,
+    fact: Fact,
+    all: bool,
+) -> bool
+    ensures { result ≡ true → marks_net drivers.now.by_input fact.net ≡ false }
+{
+    if is_marked(drivers.by_input.slice(), fact.net) {
+        return false;
+    }
+    if !is_driven(scene, fact.net) {
+        return false;
+    }
+    is_chosen(scene, memory, account, fact, all)
+}
+
+/// Puts a given fact of an account at the end, if it is asked further.
+#[tactic(auto, using(crate::proofs::FurtherLemmas::asks_none, crate::proofs::FurtherLemmas::asks_one))]
+fn push_fact(
+    facts: &mut Vec<Fact>,
+    scene: &Scene<'_>,
+    drivers: &Drivers,
+    memory: &Memory,
+    account: &Account,
+    fact: Fact,
+    all: bool,
+) -> Result<(), NoMemory>
+    requires { Contains account.now.block.given fact }
+    ensures { OnOk result (AsksMore drivers.now account.now facts.old.items facts.new.items) }
+{
+    if is_asked(scene, drivers, memory, account, fact, all) {
+        facts.push(fact)?;
+    }
+    Ok(())
+}
+
+/// Puts the facts that an account asks further at the end.
+#[tactic(auto, using(crate::proofs::FurtherLemmas::asks_none, crate::proofs::FurtherLemmas::asks_more, crate::proofs::FurtherLemmas::given_there))]
+fn push_given(
+    facts: &mut Vec<Fact>,
+    scene: &Scene<'_>,
+    drivers: &Drivers,
+    memory: &Memory,
+    account: &Account,
+    all: bool,
+) -> Result<(), NoMemory>
+    ensures { OnOk result (AsksMore drivers.now account.now facts.old.items facts.new.items) }
+{
+    'given: for fact in account.block.given.slice() {
+        push_fact(facts, scene, drivers, memory, account, *fact, all)?;
+    }
+    Ok(())
+}
+
+/// The same, with what has kept its bits counted.
+fn push_account(
+    facts: &mut Vec<Fact>,
+    scene: &Scene<'_>,
+    drivers: &Drivers,
+    memory: &mut Memory,
+    account: &Account,
+    all: bool,
+) -> Result<(), NoMemory>
+    ensures { OnOk result (AsksMore drivers.now account.now facts.old.items facts.new.items) }
+{
+    memory.count(account.holds.slice());
+    push_given(facts, scene, drivers, memory, account, all)?;
+    memory.clear(account.holds.slice());
+    Ok(())
+}
+
+/// The same of an account of a layer, and of another one nothing.
+#[tactic(auto, using(crate::proofs::FurtherLemmas::next_more))]
+fn push_layer(
+    facts: &mut Vec<Fact>,
+    scene: &Scene<'_>,
+    drivers: &Drivers,
+    memory: &mut Memory,
+    accounts: &[Account],
+    place: usize,
+    layer: u32,
+    all: bool,
+) -> Result<(), NoMemory>
+    requires there { place < length accounts.now }
+    requires each { All (IsAccount (circuit scene.now.moments.now.net) scene.now.moments.now.states scene.now.moments.now.inputs) accounts.now }
+    requires before { All (IsNext scene.now.moments.now drivers.now accounts.now layer) facts.old.items }
+    ensures { OnOk result (All (IsNext scene.now.moments.now drivers.now accounts.now layer) facts.new.items) }
+{
+    let account = &accounts[place];
+    if account.layer != layer {
+        return Ok(());
+    }
+    push_account(facts, scene, drivers, memory, account, all)?;
+    Ok(())
+}
+
+/// The facts that accounts of a layer ask further, which stand from a place on.
+#[tactic(auto, using(crate::proofs::FurtherLemmas::next_none))]
+pub(crate) fn further_facts(
+    alloc: Global,
+    scene: &Scene<'_>,
+    drivers: &Drivers,
+    memory: &mut Memory,
+    accounts: &[Account],
+    from: usize,
+    layer: u32,
+    all: bool,
+) -> Result<Vec<Fact>, NoMemory>
+    requires { All (IsAccount (circuit scene.now.moments.now.net) scene.now.moments.now.states scene.now.moments.now.inputs) accounts.now }
+    ensures { IfOk result (λ facts. All (IsNext scene.now.moments.now drivers.now accounts.now layer) facts.items) }
+{
+    let mut facts = Vec::new(alloc);
+    'accounts: for i in from..accounts.len() {
+        push_layer(&mut facts, scene, drivers, memory, accounts, i, layer, all)?;
+    }
+    Ok(facts)
+}

@@ -1,0 +1,146 @@
+//! The accounts of one layer.
+ghost use Rattle.std.specs.Prelude.{◌≡◌, ◌<◌, ◌≤◌, false, length, All, OnOk, slice_range};
+ghost use Rattle.bs_inspect_causes.specs.Layers.{IsReady, IsRealIn, IsUnit, IsUnitAt, Tells, marks_net};
+
+use crate::account::Account;
+use crate::drivers::Drivers;
+use crate::memory::Memory;
+use crate::telling::account_of;
+use crate::units::{Unit, ordered, unit_at};
+use bs_bits::{List, NoMemory};
+use bs_inspect_cones::Scene;
+use bs_net_facts::Fact;
+use std::alloc::Global;
+
+/// Puts the account of a unit at the end.
+#[tactic(auto, using(crate::proofs::LayerLemmas::tells_account))]
+fn push_account(
+    alloc: Global,
+    scene: &Scene<'_>,
+    drivers: &Drivers,
+    memory: &mut Memory,
+    accounts: &mut List<Account>,
+    facts: &[Fact],
+    at: u32,
+    flop: bool,
+    layer: u32,
+) -> Result<(), NoMemory>
+    requires ready { IsReady scene.now.moments.now drivers.now }
+    requires unit { IsUnit scene.now.moments.now drivers.now at flop facts.now }
+    ensures { OnOk result (Tells scene.now.moments.now layer facts.now accounts.old accounts.new) }
+{
+    let account = account_of(alloc, scene, drivers, facts, at, flop, layer)?;
+    memory.note(&account.block);
+    accounts.push(account)?;
+    Ok(())
+}
+
+/// Whether the facts of a later layer than the first are told already.
+fn is_told(memory: &Memory, facts: &[Fact], layer: u32) -> bool
+    ensures { layer ≡ 0 → result ≡ false }
+{
+    if layer == 0 {
+        return false;
+    }
+    memory.tells_all(facts)
+}
+
+/// Tells a unit, unless it is told already.
+#[tactic(auto, using(crate::proofs::LayerLemmas::tells_none))]
+fn tell_unit(
+    alloc: Global,
+    scene: &Scene<'_>,
+    drivers: &Drivers,
+    memory: &mut Memory,
+    accounts: &mut List<Account>,
+    facts: &[Fact],
+    at: u32,
+    flop: bool,
+    layer: u32,
+) -> Result<(), NoMemory>
+    requires ready { IsReady scene.now.moments.now drivers.now }
+    requires unit { IsUnit scene.now.moments.now drivers.now at flop facts.now }
+    ensures { OnOk result (Tells scene.now.moments.now layer facts.now accounts.old accounts.new) }
+{
+    if is_told(memory, facts, layer) {
+        return Ok(());
+    }
+    push_account(
+        alloc, scene, drivers, memory, accounts, facts, at, flop, layer,
+    )?;
+    Ok(())
+}
+
+/// Tells the unit at a place of ordered facts.
+#[tactic(auto, using(crate::proofs::LayerLemmas::unit_here))]
+fn tell_unit_at(
+    alloc: Global,
+    scene: &Scene<'_>,
+    drivers: &Drivers,
+    memory: &mut Memory,
+    accounts: &mut List<Account>,
+    facts: &[Fact],
+    from: usize,
+    unit: Unit,
+    layer: u32,
+) -> Result<(), NoMemory>
+    requires ready { IsReady scene.now.moments.now drivers.now }
+    requires real { All (IsRealIn scene.now.moments.now) facts.now }
+    requires driven { All (λ f. marks_net drivers.now.by_input f.net ≡ false) facts.now }
+    requires unit { IsUnitAt drivers.now facts.now from unit }
+    ensures { OnOk result (Tells scene.now.moments.now layer (slice_range facts.now from unit.stop) accounts.old accounts.new) }
+{
+    let part = &facts[from..unit.stop];
+    tell_unit(
+        alloc, scene, drivers, memory, accounts, part, unit.at, unit.flop, layer,
+    )?;
+    Ok(())
+}
+
+/// Tells ordered facts, unit by unit.
+#[tactic(auto, using(crate::proofs::LayerLemmas::tells_begin, crate::proofs::LayerLemmas::tells_more, crate::proofs::LayerLemmas::tells_whole))]
+fn tell_units(
+    alloc: Global,
+    scene: &Scene<'_>,
+    drivers: &Drivers,
+    memory: &mut Memory,
+    accounts: &mut List<Account>,
+    facts: &[Fact],
+    layer: u32,
+) -> Result<(), NoMemory>
+    requires ready { IsReady scene.now.moments.now drivers.now }
+    requires real { All (IsRealIn scene.now.moments.now) facts.now }
+    requires driven { All (λ f. marks_net drivers.now.by_input f.net ≡ false) facts.now }
+    ensures { OnOk result (Tells scene.now.moments.now layer facts.now accounts.old accounts.new) }
+{
+    let mut from = 0;
+    'units: while from < facts.len() {
+        let unit = unit_at(scene, drivers, facts, from);
+        tell_unit_at(
+            alloc, scene, drivers, memory, accounts, facts, from, unit, layer,
+        )?;
+        from = unit.stop;
+    }
+    Ok(())
+}
+
+/// Tells facts in a layer, the latest cycle first and in it by vectors.
+#[tactic(auto, using(crate::proofs::LayerLemmas::kept_real, crate::proofs::LayerLemmas::kept_driven, crate::proofs::LayerLemmas::tells_kept))]
+pub(crate) fn tell_facts(
+    alloc: Global,
+    scene: &Scene<'_>,
+    drivers: &Drivers,
+    memory: &mut Memory,
+    accounts: &mut List<Account>,
+    facts: Vec<Fact>,
+    layer: u32,
+) -> Result<(), NoMemory>
+    requires ready { IsReady scene.now.moments.now drivers.now }
+    requires real { All (IsRealIn scene.now.moments.now) facts.items }
+    requires driven { All (λ f. marks_net drivers.now.by_input f.net ≡ false) facts.items }
+    ensures { OnOk result (Tells scene.now.moments.now layer facts.items accounts.old accounts.new) }
+{
+    let kept = ordered(alloc, scene, drivers, facts)?;
+    tell_units(alloc, scene, drivers, memory, accounts, kept.slice(), layer)?;
+    Ok(())
+}

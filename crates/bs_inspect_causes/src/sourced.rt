@@ -1,0 +1,119 @@
+//! A block by all flip-flops and data inputs of a cycle, which always force it.
+ghost use Rattle.std.specs.Prelude.{◌≡◌, ◌<◌, ◌+◌, ◌^◌, length, IfOk, MatchOption};
+ghost use Rattle.bs_net.specs.Netlist.{circuit};
+ghost use Rattle.bs_net_facts.specs.Blocks.{IsBlock};
+ghost use Rattle.bs_inspect_causes.specs.Layers.{ForcesAt, IsReady, IsUnit};
+
+use crate::drivers::Drivers;
+use crate::facts::{copied, sources_at};
+use bs_bits::{List, NoMemory};
+use bs_net_facts::{Block, Fact, Moments};
+use std::alloc::Global;
+
+/// The cycle before.
+fn cycle_before(at: u32) -> Option<u32>
+    ensures { MatchOption result (at ≡ 0) (λ t. t + 1 ≡ at) }
+{
+    if at == 0 {
+        return None;
+    }
+    Some(at - 1)
+}
+
+/// The cycle of the flip-flops and data inputs that force bits at a cycle, of flip-flops or not; `None` where they stand since the first
+/// moment.
+#[tactic(auto, using(crate::proofs::BlockLemmas::forces_flop, crate::proofs::BlockLemmas::forces_last, crate::proofs::BlockLemmas::forces_now))]
+fn source_cycle(moments: &Moments<'_>, flop: bool, at: u32) -> Option<u32>
+    requires one_more { length moments.now.states ≡ length moments.now.inputs + 1 }
+    requires there { at < length moments.now.states }
+    ensures { MatchOption result (at ≡ 0) (ForcesAt moments.now at flop) }
+{
+    if flop {
+        return cycle_before(at);
+    }
+    if (at as usize) + 1 < moments.len() {
+        return Some(at);
+    }
+    cycle_before(at)
+}
+
+/// The block of a unit by the flip-flops and data inputs of a cycle.
+#[tactic(auto, using(crate::proofs::BlockLemmas::forces_early, crate::proofs::BlockLemmas::sourced_block))]
+fn block_from(
+    alloc: Global,
+    moments: &Moments<'_>,
+    drivers: &Drivers,
+    facts: &[Fact],
+    at: u32,
+    flop: bool,
+    cycle: u32,
+) -> Result<Block, NoMemory>
+    requires ready { IsReady moments.now drivers.now }
+    requires unit { IsUnit moments.now drivers.now at flop facts.now }
+    requires forces { ForcesAt moments.now at flop cycle }
+    ensures block { IfOk result (λ b. IsBlock (circuit moments.now.net) moments.now.states moments.now.inputs b) }
+    ensures bits { IfOk result (λ b. b.bits ≡ facts.now) }
+    ensures at { IfOk result (λ b. b.at ≡ at) }
+{
+    let _ = flop;
+    let given = sources_at(alloc, moments, drivers, cycle)?;
+    let bits = copied(alloc, facts)?;
+    Ok(Block {
+        bits,
+        since: at,
+        at,
+        given,
+        begun: false,
+    })
+}
+
+/// The block of a unit of the first moment.
+#[tactic(auto, using(crate::proofs::BlockLemmas::begun_block))]
+fn first_block(
+    alloc: Global,
+    moments: &Moments<'_>,
+    drivers: &Drivers,
+    facts: &[Fact],
+    at: u32,
+    flop: bool,
+) -> Result<Block, NoMemory>
+    requires unit { IsUnit moments.now drivers.now at flop facts.now }
+    requires first { at ≡ 0 }
+    ensures block { IfOk result (λ b. IsBlock (circuit moments.now.net) moments.now.states moments.now.inputs b) }
+    ensures bits { IfOk result (λ b. b.bits ≡ facts.now) }
+    ensures at { IfOk result (λ b. b.at ≡ at) }
+{
+    let _ = moments;
+    let _ = drivers;
+    let _ = flop;
+    let bits = copied(alloc, facts)?;
+    Ok(Block {
+        bits,
+        since: at,
+        at,
+        given: List::new(alloc),
+        begun: true,
+    })
+}
+
+/// The block of a unit by all flip-flops and data inputs: of the cycle before for flip-flops, else of the cycle itself.
+#[tactic(auto, using(crate::proofs::BlockLemmas::unit_there, crate::proofs::BlockLemmas::one_more))]
+pub(crate) fn sourced_block(
+    alloc: Global,
+    moments: &Moments<'_>,
+    drivers: &Drivers,
+    facts: &[Fact],
+    at: u32,
+    flop: bool,
+) -> Result<Block, NoMemory>
+    requires ready { IsReady moments.now drivers.now }
+    requires unit { IsUnit moments.now drivers.now at flop facts.now }
+    ensures block { IfOk result (λ b. IsBlock (circuit moments.now.net) moments.now.states moments.now.inputs b) }
+    ensures bits { IfOk result (λ b. b.bits ≡ facts.now) }
+    ensures at { IfOk result (λ b. b.at ≡ at) }
+{
+    match source_cycle(moments, flop, at) {
+        Some(cycle) => block_from(alloc, moments, drivers, facts, at, flop, cycle),
+        None => first_block(alloc, moments, drivers, facts, at, flop),
+    }
+}

@@ -1,0 +1,259 @@
+//! What forces a name's bits in a trace.
+ghost use Rattle.std.specs.Prelude.{◌≡◌, ◌<◌, ◌≤◌, ◌^◌, false, length, All, IfOk, MatchOption};
+ghost use Rattle.bs_net.specs.Netlist.{circuit};
+ghost use Rattle.bs_net_facts.specs.Facts.{IsReal, IsWayOf};
+ghost use Rattle.bs_inspect_causes.specs.Accounts.{Explain, has_net, LeadsOn};
+ghost use Rattle.bs_inspect_why.specs.Question.{AreAsked, asked_nets as nets_asked, moment_in, question_in};
+ghost use Rattle.bs_inspect_why.specs.Why.{Answers, AnswersAt, AnswersOn, TellsFacts};
+
+use crate::asked::{asked_facts, asked_nets};
+use crate::denial::{Denial, Why};
+use crate::question::Question;
+use crate::setting::{groups, stops};
+use crate::telling::accounts_text;
+use bs_bits::{List, NoMemory};
+use bs_inspect_causes::{Account, accounts_of, first_break};
+use bs_inspect_cones::Scene;
+use bs_net::{NetId, Netlist};
+use bs_net_facts::{Fact, Moments};
+use bs_report::Report;
+use std::alloc::Global;
+
+/// Accounts of facts, where cones end at these nets.
+fn accounts_by(
+    alloc: Global,
+    moments: &Moments<'_>,
+    stops: &[bool],
+    groups: &[u32],
+    question: &Question<'_>,
+    facts: &[Fact],
+) -> Result<List<Account>, NoMemory>
+    requires way { IsWayOf (circuit moments.now.net) moments.now.states moments.now.inputs }
+    requires leads { LeadsOn (circuit moments.now.net) moments.now.states moments.now.inputs }
+    requires real { All (IsReal (circuit moments.now.net) moments.now.states moments.now.inputs) facts.now }
+    requires driven { All (λ f. has_net (circuit moments.now.net).inputs f.net ≡ false) facts.now }
+    requires some_layer { 1 ≤ question.now.depth }
+    ensures { IfOk result (λ accounts. Explain (circuit moments.now.net) moments.now.states moments.now.inputs facts.now question.now.depth accounts) }
+{
+    let scene = Scene::new(alloc, moments, stops, groups)?;
+    let accounts = accounts_of(alloc, &scene, facts, question.depth, question.all)?;
+    Ok(accounts)
+}
+
+/// Accounts of facts.
+fn accounts_told(
+    alloc: Global,
+    moments: &Moments<'_>,
+    question: &Question<'_>,
+    facts: &[Fact],
+) -> Result<List<Account>, NoMemory>
+    requires way { IsWayOf (circuit moments.now.net) moments.now.states moments.now.inputs }
+    requires leads { LeadsOn (circuit moments.now.net) moments.now.states moments.now.inputs }
+    requires real { All (IsReal (circuit moments.now.net) moments.now.states moments.now.inputs) facts.now }
+    requires driven { All (λ f. has_net (circuit moments.now.net).inputs f.net ≡ false) facts.now }
+    requires some_layer { 1 ≤ question.now.depth }
+    ensures { IfOk result (λ accounts. Explain (circuit moments.now.net) moments.now.states moments.now.inputs facts.now question.now.depth accounts) }
+{
+    let stops = stops(alloc, moments.net(), question.flops)?;
+    let groups = groups(alloc, moments.net())?;
+    let accounts = accounts_by(
+        alloc,
+        moments,
+        stops.as_slice(),
+        groups.as_slice(),
+        question,
+        facts,
+    )?;
+    Ok(accounts)
+}
+
+/// The text of accounts of facts.
+#[tactic(auto, using(crate::proofs::WhyLemmas::facts_told))]
+fn facts_text(
+    alloc: Global,
+    moments: &Moments<'_>,
+    report: &Report,
+    question: &Question<'_>,
+    facts: &[Fact],
+) -> Result<Vec<u8>, NoMemory>
+    requires way { IsWayOf (circuit moments.now.net) moments.now.states moments.now.inputs }
+    requires leads { LeadsOn (circuit moments.now.net) moments.now.states moments.now.inputs }
+    requires real { All (IsReal (circuit moments.now.net) moments.now.states moments.now.inputs) facts.now }
+    requires driven { All (λ f. has_net (circuit moments.now.net).inputs f.net ≡ false) facts.now }
+    requires some_layer { 1 ≤ question.now.depth }
+    ensures { IfOk result (λ text. TellsFacts moments.now report.now (question_in question.now) facts.now text.items) }
+{
+    let accounts = accounts_told(alloc, moments, question, facts)?;
+    let text = accounts_text(
+        alloc,
+        moments,
+        report,
+        question.csv,
+        question.all,
+        accounts.slice(),
+    )?;
+    Ok(text)
+}
+
+/// The answer by the facts of nets.
+#[tactic(auto, using(crate::proofs::WhyLemmas::facts_real, crate::proofs::WhyLemmas::facts_driven, crate::proofs::WhyLemmas::nets_told, crate::proofs::WhyLemmas::open_told))]
+fn answer_by(
+    alloc: Global,
+    moments: &Moments<'_>,
+    report: &Report,
+    question: &Question<'_>,
+    at: u32,
+    nets: &[NetId],
+    facts: Option<List<Fact>>,
+) -> Result<Why, NoMemory>
+    requires way { IsWayOf (circuit moments.now.net) moments.now.states moments.now.inputs }
+    requires leads { LeadsOn (circuit moments.now.net) moments.now.states moments.now.inputs }
+    requires some { 0 < length nets.now }
+    requires driven { All (λ n. has_net (circuit moments.now.net).inputs n ≡ false) nets.now }
+    requires facts { MatchOption facts (length moments.now.inputs ≤ at) (AreAsked moments.now nets.now at (length nets.now)) }
+    requires some_layer { 1 ≤ question.now.depth }
+    ensures { IfOk result (AnswersAt moments.now report.now (question_in question.now) nets.now at) }
+{
+    let _nets = nets;
+    match facts {
+        Some(facts) => {
+            let text = facts_text(alloc, moments, report, question, facts.slice())?;
+            Ok(Why::Text(text))
+        }
+        None => Ok(Why::Denied(Denial::Open)),
+    }
+}
+
+/// The answer by a trace.
+fn answer_at(
+    alloc: Global,
+    moments: &Moments<'_>,
+    report: &Report,
+    question: &Question<'_>,
+    at: u32,
+    nets: &[NetId],
+) -> Result<Why, NoMemory>
+    requires way { IsWayOf (circuit moments.now.net) moments.now.states moments.now.inputs }
+    requires leads { LeadsOn (circuit moments.now.net) moments.now.states moments.now.inputs }
+    requires some { 0 < length nets.now }
+    requires placed { All (λ n. n.0 < (circuit moments.now.net).nets) nets.now }
+    requires driven { All (λ n. has_net (circuit moments.now.net).inputs n ≡ false) nets.now }
+    requires some_layer { 1 ≤ question.now.depth }
+    ensures { IfOk result (AnswersAt moments.now report.now (question_in question.now) nets.now at) }
+{
+    let facts = asked_facts(alloc, moments, nets, at)?;
+    answer_by(alloc, moments, report, question, at, nets, facts)
+}
+
+/// The answer of a trace that leads on.
+#[tactic(auto, using(crate::proofs::WhyLemmas::way_seen, crate::proofs::WhyLemmas::leads_seen, crate::proofs::WhyLemmas::placed_seen, crate::proofs::WhyLemmas::driven_seen, crate::proofs::WhyLemmas::answer_seen))]
+fn answer_on(
+    alloc: Global,
+    net: &Netlist,
+    report: &Report,
+    question: &Question<'_>,
+    at: u32,
+    nets: &[NetId],
+) -> Result<Why, NoMemory>
+    requires way { IsWayOf (circuit net.now) report.now.states report.now.inputs }
+    requires leads { LeadsOn (circuit net.now) report.now.states report.now.inputs }
+    requires some { 0 < length nets.now }
+    requires placed { All (λ n. n.0 < (circuit net.now).nets) nets.now }
+    requires driven { All (λ n. has_net (circuit net.now).inputs n ≡ false) nets.now }
+    requires some_layer { 1 ≤ question.now.depth }
+    ensures { IfOk result (AnswersOn net.now report.now (question_in question.now) nets.now at) }
+{
+    let moments = Moments::of(alloc, net, &report.states, &report.inputs)?;
+    let why = answer_at(alloc, &moments, report, question, at, nets)?;
+    Ok(why)
+}
+
+/// The answer of a report's trace, if it leads on.
+#[tactic(auto, using(crate::proofs::WhyLemmas::text_answers, crate::proofs::WhyLemmas::break_answers))]
+fn answer_of(
+    alloc: Global,
+    net: &Netlist,
+    report: &Report,
+    question: &Question<'_>,
+    at: u32,
+    nets: &[NetId],
+) -> Result<Why, NoMemory>
+    requires way { IsWayOf (circuit net.now) report.now.states report.now.inputs }
+    requires at { at ≡ moment_in (length report.now.states) question.now.at }
+    requires there { at < length report.now.states }
+    requires nets { nets.now ≡ nets_asked net.now.raw question.now.name.now }
+    requires some { 0 < length nets.now }
+    requires placed { All (λ n. n.0 < (circuit net.now).nets) nets.now }
+    requires driven { All (λ n. has_net (circuit net.now).inputs n ≡ false) nets.now }
+    requires some_layer { 1 ≤ question.now.depth }
+    ensures { IfOk result (Answers net.now.raw report.now (question_in question.now)) }
+{
+    match first_break(alloc, net, &report.states, &report.inputs)? {
+        Some(number) => Ok(Why::Denied(Denial::Trace(number))),
+        None => answer_on(alloc, net, report, question, at, nets),
+    }
+}
+
+/// The moment that is asked for, if it is one of the trace's. More than can be numbered are answered as out of memory.
+#[tactic(auto, using(crate::proofs::WhyLemmas::moment_given, crate::proofs::WhyLemmas::moment_over, crate::proofs::WhyLemmas::moment_last))]
+fn moment_of(count: usize, at: Option<u64>) -> Result<Option<u32>, NoMemory>
+    requires { 0 < count }
+    ensures { IfOk result (λ moment. MatchOption moment (count ≤ moment_in count at) (λ t. (t ≡ moment_in count at) × (t < count))) }
+{
+    if count > u32::MAX as usize {
+        return Err(NoMemory);
+    }
+    match at {
+        Some(at) => {
+            if at < count as u64 {
+                Ok(Some(at as u32))
+            } else {
+                Ok(None)
+            }
+        }
+        None => Ok(Some(count as u32 - 1)),
+    }
+}
+
+/// The answer at a moment of the trace.
+#[tactic(auto, using(crate::proofs::WhyLemmas::none_asked, crate::proofs::WhyLemmas::some_asked))]
+fn answer_then(
+    alloc: Global,
+    net: &Netlist,
+    report: &Report,
+    question: &Question<'_>,
+    at: u32,
+) -> Result<Why, NoMemory>
+    requires way { IsWayOf (circuit net.now) report.now.states report.now.inputs }
+    requires at { at ≡ moment_in (length report.now.states) question.now.at }
+    requires there { at < length report.now.states }
+    requires some_layer { 1 ≤ question.now.depth }
+    ensures { IfOk result (Answers net.now.raw report.now (question_in question.now)) }
+{
+    let nets = asked_nets(alloc, net, question.name)?;
+    if nets.is_empty() {
+        return Ok(Why::Denied(Denial::Input));
+    }
+    let why = answer_of(alloc, net, report, question, at, nets.as_slice())?;
+    Ok(why)
+}
+
+/// What forces the bits of a name at a moment of a report's trace: accounts, layer by layer back to the cause, as a text or as a table; or
+/// why there is none. It takes one pass over the gates for each moment and a byte for each net and moment, and each account a few passes
+/// over the gates below its bits.
+#[tactic(auto, using(crate::proofs::WhyLemmas::some_states, crate::proofs::WhyLemmas::moment_at, crate::proofs::WhyLemmas::moment_there))]
+pub fn why_text(
+    alloc: Global,
+    net: &Netlist,
+    report: &Report,
+    question: &Question<'_>,
+) -> Result<Why, NoMemory>
+    requires way { IsWayOf (circuit net.now) report.now.states report.now.inputs }
+    requires some_layer { 1 ≤ question.now.depth }
+    ensures { IfOk result (Answers net.now.raw report.now (question_in question.now)) }
+{
+    match moment_of(report.states.len(), question.at)? {
+        Some(at) => answer_then(alloc, net, report, question, at),
+        None => Ok(Why::Denied(Denial::Moment)),
+    }
+}

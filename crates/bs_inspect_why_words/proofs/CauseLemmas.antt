@@ -1,0 +1,110 @@
+-- The lines of causes.
+use Rattle.std.proofs.Common.{◌≡◌, ℕ, ◌<◌, ◌≤◌, ◌+◌, ◌-◌, Bool, true, false, List, [], ◌∷◌, ◌++◌, length, map, take, get_or, refl, ap, sym, subst, ◌∙◌, arith, zero, suc}
+use Rattle.std.specs.Prelude.{nat_lt, ◌&&◌, if◌then◌else◌}
+use Rattle.std.specs.Bool.{beq}
+use Rattle.std.specs.List.{All, flat_map, range_with_len}
+use Rattle.std.proofs.lemmas.List.{length-map}
+use Rattle.std.proofs.lemmas.List.Elements.{All-append, All-nil, All-take}
+use Rattle.std.proofs.lemmas.List.FromFn.{get_or-map-range_with_len, length-map-range_with_len}
+use Rattle.std.proofs.lemmas.List.Sorted.{All-permutation}
+use Rattle.bs_net.specs.Circuit.{Circuit}
+use Rattle.bs_net.specs.Netlist.{circuit}
+use Rattle.bs_net_facts.specs.declared.fact.Fact.{Fact}
+use Rattle.bs_net_facts.specs.Seen.{Seen}
+use Rattle.bs_net_names.specs.Signals.{AreSignals, Signal, signal_in}
+use Rattle.bs_net_names.specs.declared.signal.Signal.{Signal as CodeSignal}
+use Rattle.bs_inspect_why_words.specs.declared.limits.Limits.{Limits}
+use Rattle.bs_inspect_why_words.specs.declared.row.Row.{Row}
+use Rattle.bs_inspect_why_words.specs.Blocks.{Appends}
+use Rattle.bs_inspect_why_words.specs.Causes.{HasRows, TellsRows, TellsRowsOf, first_cycle, is_old, old_row, old_rows, only_bit, rows_lines}
+use Rattle.bs_inspect_why_words.specs.Facts.{fact_bits, fact_keys, signal_at}
+use Rattle.bs_inspect_why_words.specs.Rows.{AreRows, row_of, rows_of}
+use Rattle.bs_inspect_why_words.specs.Since.{AreAges}
+use Rattle.bs_inspect_why_words.proofs.StepLemmas.{all_head, all_tail}
+
+-- ---- the signals of rows are there
+
+abbrev Placed : ℕ → Row → Type 0
+Placed count r = r.place < count
+
+pub row_placed : (signals : List CodeSignal) (rows : List Row) (i : ℕ) (r : Row) → All (λ r. r.place < length signals) rows → i < length rows →
+    r ≡ get_or rows i r → r.place < length signals
+row_placed signals rows i r placed lt e = subst (λ (x : Row). x.place < length signals) (sym e) (placed i r lt)
+
+pub placed_first : (signals : List CodeSignal) (r : Row) (rest : List Row) → All (λ r. r.place < length signals) (r ∷ rest) → r.place < length signals
+placed_first signals r rest h = all_head (Placed (length signals)) r rest h
+
+pub placed_rest : (signals : List CodeSignal) (r : Row) (rest : List Row) → All (λ r. r.place < length signals) (r ∷ rest) →
+    All (λ r. r.place < length signals) rest
+placed_rest signals r rest h = all_tail (Placed (length signals)) r rest h
+
+pub first_placed : (signals : List CodeSignal) (rows few : List Row) (most : ℕ) → All (λ r. r.place < length signals) rows → few ≡ take most rows →
+    All (λ r. r.place < length signals) few
+first_placed signals rows few most placed e = subst (All (Placed (length signals))) (sym e) (All-take (Placed (length signals)) most rows placed)
+
+one_placed : (shares : Bool) (cycle : ℕ) (bits : List Bool) (signals : List Signal) (bit : Bool) (count : ℕ) (r : Row) → r.place < count →
+    All (Placed count) (old_row shares cycle bits signals bit r)
+one_placed shares cycle bits signals bit count r lt = by (is_old shares cycle signals r && beq (only_bit bits (signal_at signals r.place)) bit)
+  where
+    alone : (k : ℕ) (d : Row) → k < 1 → Placed count (get_or (r ∷ []) k d)
+    alone zero d less = lt
+    alone (suc k) d less = absurd (omega (arith, less))
+
+    by : (b : Bool) → All (Placed count) (if b then r ∷ [] else [])
+    by true = λ k d less. alone k d less
+    by false = All-nil (Placed count)
+
+all_placed : (shares : Bool) (cycle : ℕ) (bits : List Bool) (signals : List Signal) (bit : Bool) (count : ℕ) (rows : List Row) → All (Placed count) rows →
+    All (Placed count) (old_rows shares cycle bits signals bit rows)
+all_placed shares cycle bits signals bit count [] h = All-nil (Placed count)
+all_placed shares cycle bits signals bit count (r ∷ rows) h =
+    All-append (Placed count) (old_row shares cycle bits signals bit r) (old_rows shares cycle bits signals bit rows)
+    (one_placed shares cycle bits signals bit count r (all_head (Placed count) r rows h))
+    (all_placed shares cycle bits signals bit count rows (all_tail (Placed count) r rows h))
+
+pub olds_placed : (shares : Bool) (cycle : ℕ) (bits : List Bool) (signals : List CodeSignal) (bit : Bool) (rows olds : List Row) →
+    olds ≡ old_rows shares cycle bits (map signal_in signals) bit rows → All (λ r. r.place < length signals) rows →
+    All (λ r. r.place < length signals) olds
+olds_placed shares cycle bits signals bit rows olds e h =
+    subst (All (Placed (length signals))) (sym e) (all_placed shares cycle bits (map signal_in signals) bit (length signals) rows h)
+
+made_placed : (ages : List ℕ) (signals : List Signal) (count : ℕ) → All (Placed count) (rows_of ages signals count)
+made_placed ages signals count = λ k d lt.
+    let there : k < count = omega (arith, lt, length-map-range_with_len (row_of ages signals) 0 count) in
+    subst (Placed count) (sym (get_or-map-range_with_len (row_of ages signals) 0 count k k d there refl)) there
+
+pub placed_of : (c : Circuit) (states inputs : List (List Bool)) (facts : List Fact) (signals : List CodeSignal) (rows : List Row) →
+    HasRows c states inputs facts (map signal_in signals) rows → All (λ r. r.place < length signals) rows
+placed_of c states inputs facts signals rows has =
+    let xs : List Signal = map signal_in signals in
+    let all : All (Placed (length xs)) rows =
+    All-permutation (Placed (length xs)) (rows_of has.ages xs (length xs)) rows has.ordered.same (made_placed has.ages xs (length xs)) in
+    subst (λ (n : ℕ). All (Placed n) rows) (length-map signals signal_in) all
+
+-- ---- what is told
+
+pub has_rows : (c : Circuit) (states inputs : List (List Bool)) (facts : List Fact) (ages : List ℕ) (signals : List Signal) (rows : List Row) →
+    AreAges c states inputs facts (length facts) ages → AreRows ages signals rows → HasRows c states inputs facts signals rows
+has_rows c states inputs facts ages signals rows aged ordered = record { ages = ages; aged = aged; ordered = ordered }
+
+pub rows_told : (m : Seen) (limits : Limits) (facts : List Fact) (signals : List Signal) (rows : List Row) (count cycle : ℕ) (shares : Bool)
+    (bits : List Bool) (old new : List ℕ) → HasRows (circuit m.net) m.states m.inputs facts signals rows → count ≡ length rows →
+    shares ≡ nat_lt limits.causes count → cycle ≡ first_cycle facts → bits ≡ fact_bits facts →
+    new ≡ old ++ rows_lines limits.names shares cycle bits signals rows → Appends (TellsRowsOf m limits facts signals) old new
+rows_told m limits facts signals rows count cycle shares bits old new has n s t b goes = record {
+  words = rows_lines limits.names (nat_lt limits.causes (length rows)) (first_cycle facts) (fact_bits facts) signals rows;
+  says = record { rows = rows; has = has; says = refl };
+  appended =
+      goes
+      ∙ (ap (λ (x : Bool). old ++ rows_lines limits.names x cycle bits signals rows) (s ∙ ap (nat_lt limits.causes) n)
+      ∙ (ap (λ (x : ℕ). old ++ rows_lines limits.names (nat_lt limits.causes (length rows)) x bits signals rows) t
+      ∙ ap (λ (x : List Bool). old ++ rows_lines limits.names (nat_lt limits.causes (length rows)) (first_cycle facts) x signals rows) b));
+}
+
+pub causes_told : (m : Seen) (limits : Limits) (facts : List Fact) (signals : List Signal) (old new : List ℕ) →
+    AreSignals [] (fact_keys m.net.raw facts) signals → Appends (TellsRowsOf m limits facts signals) old new → Appends (TellsRows m limits facts) old new
+causes_told m limits facts signals old new are told = record {
+  words = told.words;
+  says = record { signals = signals; are = are; tells = told.says };
+  appended = told.appended;
+}

@@ -1,0 +1,12 @@
+pub mod StepLemmas
+pub mod KeyLemmas
+pub mod WordLemmas
+pub mod SinceLemmas
+pub mod RowLemmas
+pub mod CauseLemmas
+pub mod StretchLemmas
+pub mod ReasonLemmas
+pub mod GroupLemmas
+pub mod SpanLemmas
+pub mod HeadLemmas
+pub mod BlockLemmas

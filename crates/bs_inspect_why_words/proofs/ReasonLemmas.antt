@@ -1,0 +1,37 @@
+-- What is told of each cycle.
+use Rattle.std.proofs.Common.{◌≡◌, ℕ, ◌<◌, ◌≤◌, ◌+◌, List, [], ◌∷◌, ◌++◌, length, get_or, refl, ap, sym, subst, ◌∙◌, ◌⊎◌, inl, inr, arith}
+use Rattle.std.proofs.lemmas.Bool.{cases_lt}
+use Rattle.std.proofs.lemmas.List.{get_or_append_left, get_or_push, length_push}
+use Rattle.bs_net.specs.Parts.{Parts}
+use Rattle.bs_net_facts.specs.declared.fact.Fact.{Fact}
+use Rattle.bs_inspect_why_words.specs.declared.reason.Reason.{Reason}
+use Rattle.bs_inspect_why_words.specs.Causes.{first_cycle}
+use Rattle.bs_inspect_why_words.specs.Facts.{TellsFirst}
+use Rattle.bs_inspect_why_words.specs.Reasons.{AreReasons, IsReason}
+use Rattle.bs_inspect_why_words.specs.Stretches.{stretch_back}
+
+pub reason_is : (raw : Parts) (most : ℕ) (facts : List Fact) (words : List ℕ) (cycle : ℕ) → TellsFirst raw most facts words → cycle ≡ first_cycle facts →
+    IsReason raw most facts (record { words = words; cycle = cycle })
+reason_is raw most facts words cycle tells e = record { cycle = e; tells = tells }
+
+pub reasons_begin : (raw : Parts) (most : ℕ) (facts : List Fact) (begins : List ℕ) (reasons : List Reason) → reasons ≡ [] →
+    AreReasons raw most facts begins 0 reasons
+reasons_begin raw most facts begins reasons e = record { size = ap length e; each = λ j d lt. absurd (omega (arith, lt)) }
+
+pub reasons_more : (raw : Parts) (most : ℕ) (facts : List Fact) (begins : List ℕ) (j : ℕ) (part : List Fact) (r : Reason) (reasons : List Reason) →
+    part ≡ stretch_back facts begins j → AreReasons raw most facts begins j reasons → IsReason raw most part r →
+    AreReasons raw most facts begins (j + 1) (reasons ++ r ∷ [])
+reasons_more raw most facts begins j part r reasons at are is = record {
+  size = length_push reasons r ∙ (let h : length reasons + 1 ≡ j + 1 = omega (arith, are.size) in h);
+  each = λ k d less. by k d less (cases_lt k j);
+}
+  where
+    by : (k : ℕ) (d : Reason) → k < j + 1 → (k < j) ⊎ (j ≤ k) → IsReason raw most (stretch_back facts begins k) (get_or (reasons ++ r ∷ []) k d)
+    by k d less (inl before) =
+        subst (IsReason raw most (stretch_back facts begins k))
+        (sym (get_or_append_left reasons (r ∷ []) d k (omega (arith, before, are.size)))) (are.each k d before)
+    by k d less (inr le) =
+        let same : j ≡ k = omega (arith, less, le) in
+        subst (λ (n : ℕ). IsReason raw most (stretch_back facts begins n) (get_or (reasons ++ r ∷ []) n d)) same
+        (subst (IsReason raw most (stretch_back facts begins j)) (sym (get_or_push reasons r d j are.size))
+        (subst (λ (fs : List Fact). IsReason raw most fs r) at is))

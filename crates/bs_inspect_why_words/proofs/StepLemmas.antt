@@ -1,0 +1,54 @@
+-- What loops over a list append, and the first members of a list.
+use Rattle.std.proofs.Common.{◌≡◌, ℕ, ◌<◌, ◌≤◌, ◌+◌, List, [], ◌∷◌, ◌++◌, length, map, get_or, take, drop, zero, suc, refl, ap, sym, subst, ◌∙◌, arith, append_assoc}
+use Rattle.std.specs.List.{All, flat_map}
+use Rattle.std.proofs.lemmas.Grind.{flat_map-append}
+use Rattle.std.proofs.lemmas.List.{append-nil, map-append, take_all, take_more}
+use Rattle.bs_net_names.specs.Signals.{Signal, signal_in}
+use Rattle.bs_net_names.specs.declared.signal.Signal.{Signal as CodeSignal}
+
+-- one member more
+pub step_more : {A : Type 0} (f : A → List ℕ) (xs : List A) (i : ℕ) (d : A) (old text after : List ℕ) → i < length xs →
+    text ≡ old ++ flat_map f (take i xs) → after ≡ text ++ f (get_or xs i d) → after ≡ old ++ flat_map f (take (i + 1) xs)
+step_more f xs i d old text after lt e goes =
+    let put : flat_map f (take (i + 1) xs) ≡ flat_map f (take i xs) ++ f (get_or xs i d) =
+    ap (flat_map f) (take_more xs i d lt)
+    ∙ (flat_map-append f (take i xs) (get_or xs i d ∷ []) ∙ ap (λ (t : List ℕ). flat_map f (take i xs) ++ t) (append-nil (f (get_or xs i d)))) in
+    goes
+    ∙ (ap (λ (t : List ℕ). t ++ f (get_or xs i d)) e
+    ∙ (append_assoc old (flat_map f (take i xs)) (f (get_or xs i d)) ∙ ap (λ (t : List ℕ). old ++ t) (sym put)))
+
+-- one signal more
+pub signals_more : (f : Signal → List ℕ) (signals : List CodeSignal) (i : ℕ) (d : CodeSignal) (old text after : List ℕ) → i < length signals →
+    text ≡ old ++ flat_map f (map signal_in (take i signals)) → after ≡ text ++ f (signal_in (get_or signals i d)) →
+    after ≡ old ++ flat_map f (map signal_in (take (i + 1) signals))
+signals_more f signals i d old text after lt e goes =
+    let more : map signal_in (take (i + 1) signals) ≡ map signal_in (take i signals) ++ signal_in (get_or signals i d) ∷ [] =
+    ap (map signal_in) (take_more signals i d lt) ∙ map-append signal_in (take i signals) (get_or signals i d ∷ []) in
+    let put : flat_map f (map signal_in (take (i + 1) signals)) ≡ flat_map f (map signal_in (take i signals)) ++ f (signal_in (get_or signals i d)) =
+    ap (flat_map f) more
+    ∙ (flat_map-append f (map signal_in (take i signals)) (signal_in (get_or signals i d) ∷ [])
+    ∙ ap (λ (t : List ℕ). flat_map f (map signal_in (take i signals)) ++ t) (append-nil (f (signal_in (get_or signals i d))))) in
+    goes
+    ∙ (ap (λ (t : List ℕ). t ++ f (signal_in (get_or signals i d))) e
+    ∙ (append_assoc old (flat_map f (map signal_in (take i signals))) (f (signal_in (get_or signals i d))) ∙ ap (λ (t : List ℕ). old ++ t) (sym put)))
+
+-- all of a list, where more are asked for
+pub all_first : {A : Type 0} (xs : List A) (most n : ℕ) → n ≡ length xs → n ≤ most → xs ≡ take most xs
+all_first xs most n e le = sym (take_all most xs (omega (arith, e, le)))
+
+-- ---- what holds of all members
+
+pub all_head : {A : Type 0} (P : A → Type 0) (x : A) (xs : List A) → All P (x ∷ xs) → P x
+all_head P x xs h = h 0 x (omega arith)
+
+pub all_tail : {A : Type 0} (P : A → Type 0) (x : A) (xs : List A) → All P (x ∷ xs) → All P xs
+all_tail P x xs h = λ k d lt. h (suc k) d (omega (arith, lt))
+
+-- one member more, of a list that begins empty
+pub flat_more : {A B : Type 0} (f : A → List B) (xs : List A) (i : ℕ) (d : A) (before after : List B) → i < length xs →
+    before ≡ flat_map f (take i xs) → after ≡ before ++ f (get_or xs i d) → after ≡ flat_map f (take (i + 1) xs)
+flat_more f xs i d before after lt e goes =
+    goes
+    ∙ (ap (λ t. t ++ f (get_or xs i d)) e
+    ∙ sym (ap (flat_map f) (take_more xs i d lt)
+    ∙ (flat_map-append f (take i xs) (get_or xs i d ∷ []) ∙ ap (λ t. flat_map f (take i xs) ++ t) (append-nil (f (get_or xs i d))))))

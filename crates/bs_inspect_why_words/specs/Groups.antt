@@ -1,0 +1,78 @@
+-- Cycles of which the same is told, in one line (docs/FORMATS.md, "Causes").
+use Rattle.std.specs.Prelude.{◌≡◌, ℕ, ◌+◌, ◌-◌, ◌==◌, Bool, List, [], ◌∷◌, ◌++◌, length, take, fold, codes, decimal, slice_index_or, slice_set, Option, Some, None, if◌then◌else◌}
+use Rattle.std.specs.List.{flat_map, position}
+use Rattle.std.specs.Str.{bytes_eq}
+use Rattle.bs_bits.specs.Lines.{line}
+use Rattle.bs_net.specs.Parts.{Parts}
+use Rattle.bs_net_facts.specs.declared.fact.Fact.{Fact}
+use Rattle.bs_inspect_why_words.specs.declared.limits.TheConstants.{MAX_APART}
+use Rattle.bs_inspect_why_words.specs.declared.reason.Reason.{Reason}
+use Rattle.bs_inspect_why_words.specs.declared.group.Group.{Group}
+use Rattle.bs_inspect_why_words.specs.declared.group.Span.{Span}
+use Rattle.bs_inspect_why_words.specs.Facts.{more_words}
+use Rattle.bs_inspect_why_words.specs.Reasons.{AreReasons}
+use Rattle.bs_inspect_why_words.specs.Stretches.{starts}
+
+abbrev pub span : ℕ → ℕ → Span
+span from to = record { from = from; to = to }
+
+-- one cycle
+abbrev pub single : Reason → Group
+single r = record { words = r.words; closed = []; from = r.cycle; to = r.cycle }
+
+-- a cycle more: the one before the earliest, or further back
+abbrev pub longer : Group → ℕ → Group
+longer g cycle =
+    if cycle + 1 == g.from then record { words = g.words; closed = g.closed; from = cycle; to = g.to }
+    else record { words = g.words; closed = g.closed ++ span g.from g.to ∷ []; from = cycle; to = cycle }
+
+-- the first group with these words, among the first `MAX_APART`
+abbrev pub place_of : List Group → List ℕ → Option ℕ
+place_of groups words = position (λ g. bytes_eq g.words words) (take MAX_APART groups)
+
+abbrev pub joined_at : Option ℕ → List Group → Reason → List Group
+joined_at None groups r = groups ++ single r ∷ []
+joined_at (Some i) groups r = slice_set groups i (longer (slice_index_or groups i (single r)) r.cycle)
+
+-- a reason more: in the group with its words, or in one of its own
+abbrev pub joined : List Group → Reason → List Group
+joined groups r = joined_at (place_of groups r.words) groups r
+
+-- all of them
+abbrev pub groups_of : List Reason → List Group
+groups_of reasons = fold joined [] reasons
+
+-- ---- lines
+
+-- the cycles of a group
+abbrev pub group_spans : Group → List Span
+group_spans g = g.closed ++ span g.from g.to ∷ []
+
+abbrev pub span_words : Span → List ℕ
+span_words s = codes " " ++ (decimal s.from ++ (if s.from == s.to then [] else codes ".." ++ decimal s.to))
+
+abbrev pub spans_words : ℕ → List Span → List ℕ
+spans_words most spans = flat_map span_words (take most spans) ++ more_words (length spans - most)
+
+-- what is told, and when
+abbrev pub group_line : List ℕ → ℕ → Group → List ℕ
+group_line lead most g = line (lead ++ (g.words ++ (codes " " ++ spans_words most (group_spans g))))
+
+abbrev pub rest_line : List ℕ → ℕ → List ℕ
+rest_line lead count = if count == 0 then [] else line (lead ++ (decimal count ++ codes " more"))
+
+-- the first groups, a line each, and how many more there are
+abbrev pub groups_lines : List ℕ → (most spans : ℕ) → List Group → List ℕ
+groups_lines lead most spans groups = flat_map (group_line lead spans) (take most groups) ++ rest_line lead (length groups - most)
+
+-- the groups of what is told of each cycle of some facts
+pub record AreGroups (raw : Parts) (most : ℕ) (facts : List Fact) (groups : List Group) : Type 0 where
+  pub reasons : List Reason
+  pub are : AreReasons raw most facts (starts facts) (length (starts facts)) reasons
+  pub grouped : groups ≡ groups_of reasons
+
+-- the lines of facts, which are told by cycles: what is the same in several cycles stands in one line
+pub record TellsGroups (raw : Parts) (lead : List ℕ) (facts_most most spans : ℕ) (facts : List Fact) (text : List ℕ) : Type 0 where
+  pub groups : List Group
+  pub are : AreGroups raw facts_most facts groups
+  pub says : text ≡ groups_lines lead most spans groups

@@ -1,0 +1,115 @@
+//! Cycles of which the same is told.
+ghost use Rattle.std.specs.Prelude.{◌≡◌, take, IfOk, OnOk};
+ghost use Rattle.bs_inspect_why_words.specs.Groups.{group_spans, groups_of, joined, longer, place_of, single};
+
+use crate::limits::MAX_APART;
+use crate::reason::Reason;
+use bs_bits::{List, NoMemory};
+use std::alloc::Global;
+
+/// Cycles in a row.
+#[derive(Clone, Copy)]
+pub struct Span {
+    pub from: u32,
+    pub to: u32,
+}
+
+/// What is told of several cycles: closed spans, from the last one on, and the one that still grows towards the first cycle.
+#[derive(Drop)]
+pub struct Group {
+    pub words: List<u8>,
+    pub closed: List<Span>,
+    pub from: u32,
+    pub to: u32,
+}
+
+/// A group of one cycle.
+fn single(alloc: Global, reason: &Reason) -> Result<Group, NoMemory>
+    ensures { IfOk result (λ g. g ≡ single reason.now) }
+{
+    let words = Vec::from_slice(alloc, reason.words.slice())?;
+    Ok(Group {
+        words: List::of(words),
+        closed: List::new(alloc),
+        from: reason.cycle,
+        to: reason.cycle,
+    })
+}
+
+/// Puts a cycle to a group.
+fn add_cycle(group: &mut Group, cycle: u32) -> Result<(), NoMemory>
+    ensures { OnOk result (group.new ≡ longer group.old cycle) }
+{
+    if u64::from(cycle) + 1 == u64::from(group.from) {
+        group.from = cycle;
+        return Ok(());
+    }
+    let span = Span {
+        from: group.from,
+        to: group.to,
+    };
+    group.closed.push(span)?;
+    group.from = cycle;
+    group.to = cycle;
+    Ok(())
+}
+
+/// The first groups.
+#[tactic(auto, using(crate::proofs::StepLemmas::all_first))]
+pub(crate) fn first_groups(groups: &[Group], most: usize) -> &[Group]
+    ensures { result.now ≡ take most groups.now }
+{
+    if most < groups.len() {
+        &groups[..most]
+    } else {
+        groups
+    }
+}
+
+/// The place of the first group with these words, among the first `MAX_APART`.
+fn place_of(groups: &[Group], words: &[u8]) -> Option<usize>
+    ensures { result ≡ place_of groups.now words.now }
+{
+    first_groups(groups, MAX_APART)
+        .iter()
+        .position(|group| group.words.slice() == words)
+}
+
+/// Puts a reason to the group with its words, or at the end as one of its own.
+#[tactic(auto, using(crate::proofs::GroupLemmas::place_there, crate::proofs::GroupLemmas::join_some, crate::proofs::GroupLemmas::join_none))]
+fn join(alloc: Global, groups: &mut Vec<Group>, reason: &Reason) -> Result<(), NoMemory>
+    ensures { OnOk result (groups.new.items ≡ joined groups.old.items reason.now) }
+{
+    match place_of(groups.as_slice(), reason.words.slice()) {
+        Some(place) => add_cycle(&mut groups[place], reason.cycle),
+        None => {
+            let group = single(alloc, reason)?;
+            groups.push(group)?;
+            Ok(())
+        }
+    }
+}
+
+/// The groups of reasons.
+#[tactic(auto, using(crate::proofs::GroupLemmas::groups_more))]
+pub(crate) fn groups_of(alloc: Global, reasons: &[Reason]) -> Result<Vec<Group>, NoMemory>
+    ensures { IfOk result (λ groups. groups.items ≡ groups_of reasons.now) }
+{
+    let mut groups = Vec::new(alloc);
+    'reasons: for reason in reasons {
+        join(alloc, &mut groups, reason)?;
+    }
+    Ok(groups)
+}
+
+/// All spans of a group, from the last one on.
+pub(crate) fn group_spans(alloc: Global, group: &Group) -> Result<Vec<Span>, NoMemory>
+    ensures { IfOk result (λ spans. spans.items ≡ group_spans group.now) }
+{
+    let mut spans = Vec::from_slice(alloc, group.closed.slice())?;
+    spans.push(Span {
+        from: group.from,
+        to: group.to,
+    })?;
+    Ok(spans)
+}

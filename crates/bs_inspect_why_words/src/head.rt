@@ -1,0 +1,258 @@
+//! The first line of a block.
+ghost use Rattle.std.specs.Prelude.{◌≡◌, ◌<◌, ◌≤◌, ◌+◌, ◌^◌, ◌++◌, length, map, All, IfOk, OnOk, option_map};
+ghost use Rattle.bs_net.specs.Netlist.{circuit};
+ghost use Rattle.bs_net_names.specs.Signals.{signal_in};
+ghost use Rattle.bs_inspect_why_words.specs.Blocks.{Appends};
+ghost use Rattle.bs_inspect_why_words.specs.Heads.{AreBefore, before_count, before_words, episode_in, from_words, head_line, hit_moment, moment_words, since_words, step_moment, steps_words, TellsHead, TellsHeadOf, value_behind, values_words};
+
+use crate::episode::Episode;
+use crate::key::{fact_bits, fact_signals};
+use crate::since::known_bit;
+use crate::words::{push_signal_value, push_signals};
+use bs_bits::{Bits, NoMemory, end_line, push_number, push_piece};
+use bs_inspect_report::member;
+use bs_net_facts::{Fact, Moments};
+use bs_net_names::Signal;
+use bs_report::{HitLine, Report, Step};
+use std::alloc::Global;
+
+/// Appends the run and the cycle of a hit.
+fn push_hit(text: &mut Vec<u8>, hit: &Option<HitLine>) -> Result<(), NoMemory>
+    ensures { OnOk result (text.new.items ≡ text.old.items ++ hit_moment hit.now) }
+{
+    match hit {
+        Some(hit) => {
+            push_piece(text, b" (run ")?;
+            push_number(text, u64::from(hit.run))?;
+            push_piece(text, b" cycle ")?;
+            push_number(text, u64::from(hit.cycle))?;
+            push_piece(text, b")")
+        }
+        None => Ok(()),
+    }
+}
+
+/// Appends the run and the cycle of a step's hit.
+fn push_step(text: &mut Vec<u8>, step: Option<&Step>) -> Result<(), NoMemory>
+    ensures { OnOk result (text.new.items ≡ text.old.items ++ step_moment (option_map (λ s. s.now) step.entry)) }
+{
+    match step {
+        Some(step) => push_hit(text, &step.hit),
+        None => Ok(()),
+    }
+}
+
+/// Appends where a state of the trace comes from.
+fn push_moment(text: &mut Vec<u8>, report: &Report, i: usize) -> Result<(), NoMemory>
+    requires { i + 1 < 2 ^ 64 }
+    ensures { OnOk result (text.new.items ≡ text.old.items ++ moment_words report.now i) }
+{
+    if report.states.len() <= i + 1 {
+        return push_piece(text, b" (dump)");
+    }
+    push_step(text, member(&report.steps, report.states.len() - 2 - i))
+}
+
+/// Appends since when bits stand.
+fn push_since(text: &mut Vec<u8>, episode: &Episode<'_>) -> Result<(), NoMemory>
+    ensures { OnOk result (text.new.items ≡ text.old.items ++ since_words (episode_in episode.now)) }
+{
+    if episode.begun {
+        return push_piece(text, b", since 0");
+    }
+    if episode.since >= episode.at {
+        return Ok(());
+    }
+    push_piece(text, b", since ")?;
+    push_number(text, u64::from(episode.since))
+}
+
+/// Appends a value behind a space.
+fn push_value_behind(text: &mut Vec<u8>, bits: &Bits, signal: &Signal<'_>) -> Result<(), NoMemory>
+    requires { length signal.now.places < 2 ^ 32 }
+    ensures { OnOk result (text.new.items ≡ text.old.items ++ value_behind bits.now (signal_in signal.now)) }
+{
+    push_piece(text, b" ")?;
+    push_signal_value(text, bits, signal.places.slice())
+}
+
+/// Appends the values of signals.
+#[tactic(auto, using(crate::proofs::StepLemmas::signals_more))]
+fn push_values(text: &mut Vec<u8>, bits: &Bits, signals: &[Signal<'_>]) -> Result<(), NoMemory>
+    requires { All (λ s. length s.places < 2 ^ 32) signals.now }
+    ensures { OnOk result (text.new.items ≡ text.old.items ++ values_words bits.now (map signal_in signals.now)) }
+{
+    'signals: for signal in signals {
+        push_value_behind(text, bits, signal)?;
+    }
+    Ok(())
+}
+
+/// Appends the first value of a chain.
+fn push_steps(
+    text: &mut Vec<u8>,
+    steps: usize,
+    signals: &[Signal<'_>],
+    befores: &Bits,
+    since: u32,
+) -> Result<(), NoMemory>
+    requires narrow { All (λ s. length s.places < 2 ^ 32) signals.now }
+    requires since { 0 < since }
+    ensures { OnOk result (text.new.items ≡ text.old.items ++ steps_words steps (map signal_in signals.now) befores.now since) }
+{
+    push_piece(text, b", in ")?;
+    push_number(text, steps as u64)?;
+    push_piece(text, b" steps from")?;
+    push_values(text, befores, signals)?;
+    push_piece(text, b" at ")?;
+    push_number(text, u64::from(since - 1))
+}
+
+/// Appends the first value of a chain of so many steps, or the value before.
+fn push_from(
+    text: &mut Vec<u8>,
+    steps: usize,
+    signals: &[Signal<'_>],
+    bits: &Bits,
+    befores: &Bits,
+    since: u32,
+) -> Result<(), NoMemory>
+    requires narrow { All (λ s. length s.places < 2 ^ 32) signals.now }
+    requires since { 0 < since }
+    ensures { OnOk result (text.new.items ≡ text.old.items ++ from_words steps (map signal_in signals.now) bits.now befores.now since) }
+{
+    if 1 < steps {
+        return push_steps(text, steps, signals, befores, since);
+    }
+    if befores.equals(bits) {
+        return push_piece(text, b", as before");
+    }
+    push_piece(text, b", before")?;
+    push_values(text, befores, signals)
+}
+
+/// Appends what bits were before, where there is a before.
+fn push_before(
+    text: &mut Vec<u8>,
+    steps: usize,
+    signals: &[Signal<'_>],
+    bits: &Bits,
+    befores: &Bits,
+    since: u32,
+) -> Result<(), NoMemory>
+    requires { All (λ s. length s.places < 2 ^ 32) signals.now }
+    ensures { OnOk result (text.new.items ≡ text.old.items ++ before_words steps (map signal_in signals.now) bits.now befores.now since) }
+{
+    if since == 0 {
+        return Ok(());
+    }
+    push_from(text, steps, signals, bits, befores, since)
+}
+
+/// The bits of nets in the cycle before one.
+#[tactic(auto, using(crate::proofs::HeadLemmas::befores_begin, crate::proofs::HeadLemmas::befores_more, crate::proofs::HeadLemmas::net_here))]
+fn some_before(
+    alloc: Global,
+    moments: &Moments<'_>,
+    facts: &[Fact],
+    since: u32,
+) -> Result<Bits, NoMemory>
+    requires placed { All (λ f. f.net.0 < (circuit moments.now.net).nets) facts.now }
+    requires some { 0 < since }
+    requires in_time { since ≤ length moments.now.inputs }
+    ensures { IfOk result (λ befores. AreBefore (circuit moments.now.net) moments.now.states moments.now.inputs facts.now since (length facts.now) befores) }
+{
+    let mut befores = Bits::new(alloc);
+    'facts: for i in 0..facts.len() {
+        befores.push(known_bit(moments, facts[i].net, since - 1))?;
+    }
+    Ok(befores)
+}
+
+/// The bits of nets in the cycle before one, where there is such a one.
+#[tactic(auto, using(crate::proofs::HeadLemmas::befores_none, crate::proofs::HeadLemmas::befores_all))]
+fn bits_before(
+    alloc: Global,
+    moments: &Moments<'_>,
+    facts: &[Fact],
+    since: u32,
+) -> Result<Bits, NoMemory>
+    requires placed { All (λ f. f.net.0 < (circuit moments.now.net).nets) facts.now }
+    requires in_time { since ≤ length moments.now.inputs }
+    ensures { IfOk result (λ befores. AreBefore (circuit moments.now.net) moments.now.states moments.now.inputs facts.now since (before_count since facts.now) befores) }
+{
+    if since == 0 {
+        return Ok(Bits::new(alloc));
+    }
+    let befores = some_before(alloc, moments, facts, since)?;
+    Ok(befores)
+}
+
+/// Appends the line of a block by its signals and the bits before.
+fn push_line_of(
+    text: &mut Vec<u8>,
+    report: &Report,
+    steps: usize,
+    signals: &[Signal<'_>],
+    befores: &Bits,
+    first: &Episode<'_>,
+    since: u32,
+) -> Result<(), NoMemory>
+    requires { All (λ s. length s.places < 2 ^ 32) signals.now }
+    ensures { OnOk result (text.new.items ≡ text.old.items ++ head_line report.now steps (map signal_in signals.now) befores.now (episode_in first.now) since) }
+{
+    let bits = fact_bits(*text.allocator(), first.bits)?;
+    push_number(text, u64::from(first.at))?;
+    push_piece(text, b" ")?;
+    push_signals(text, &bits, signals)?;
+    push_since(text, first)?;
+    push_before(text, steps, signals, &bits, befores, since)?;
+    push_moment(text, report, first.at as usize)?;
+    end_line(text)
+}
+
+/// Appends the line of a block by its signals.
+#[tactic(auto, using(crate::proofs::HeadLemmas::line_told))]
+fn push_head_of(
+    text: &mut Vec<u8>,
+    moments: &Moments<'_>,
+    report: &Report,
+    steps: usize,
+    signals: &[Signal<'_>],
+    first: &Episode<'_>,
+    last: &Episode<'_>,
+) -> Result<(), NoMemory>
+    requires placed { All (λ f. f.net.0 < (circuit moments.now.net).nets) (episode_in last.now).bits }
+    requires in_time { last.now.since ≤ length moments.now.inputs }
+    requires narrow { All (λ s. length s.places < 2 ^ 32) signals.now }
+    ensures { OnOk result (Appends (TellsHeadOf moments.now report.now steps (map signal_in signals.now) (episode_in first.now) (episode_in last.now)) text.old.items text.new.items) }
+{
+    let befores = bits_before(*text.allocator(), moments, last.bits, last.since)?;
+    push_line_of(text, report, steps, signals, &befores, first, last.since)
+}
+
+/// Appends the line of a block, or of a chain of so many.
+#[tactic(auto, using(crate::proofs::HeadLemmas::head_told))]
+pub(crate) fn push_head(
+    text: &mut Vec<u8>,
+    moments: &Moments<'_>,
+    report: &Report,
+    steps: usize,
+    first: &Episode<'_>,
+    last: &Episode<'_>,
+) -> Result<(), NoMemory>
+    requires placed { All (λ f. f.net.0 < (circuit moments.now.net).nets) (episode_in last.now).bits }
+    requires in_time { last.now.since ≤ length moments.now.inputs }
+    ensures { OnOk result (Appends (TellsHead moments.now report.now steps (episode_in first.now) (episode_in last.now)) text.old.items text.new.items) }
+{
+    let signals = fact_signals(*text.allocator(), moments.net().raw(), first.bits)?;
+    push_head_of(
+        text,
+        moments,
+        report,
+        steps,
+        signals.as_slice(),
+        first,
+        last,
+    )
+}

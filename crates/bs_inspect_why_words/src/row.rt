@@ -1,0 +1,80 @@
+//! Signals in the order of their last change.
+ghost use Rattle.std.specs.Prelude.{◌≡◌, length, map, IfOk};
+ghost use Rattle.std.specs.List.Sorted.{IsPermutation, IsSorted};
+ghost use Rattle.bs_net_names.specs.Signals.{signal_in};
+ghost use Rattle.bs_inspect_why_words.specs.Rows.{AreRows, later, latest, row_cmp, rows_of};
+
+use bs_bits::NoMemory;
+use bs_net_names::Signal;
+use std::alloc::Global;
+use std::cmp::Reverse;
+
+/// The place of a signal, and since when all its bits have stood.
+#[derive(Clone, Copy)]
+pub struct Row {
+    pub place: usize,
+    pub since: u32,
+}
+
+/// The later of a cycle and that at a place.
+#[tactic(auto, using(crate::proofs::RowLemmas::later_past))]
+fn later(ages: &[u32], cycle: u32, place: u32) -> u32
+    ensures { result ≡ later ages.now cycle place }
+{
+    if (place as usize) < ages.len() {
+        cycle.max(ages[place as usize])
+    } else {
+        cycle
+    }
+}
+
+/// The latest of the cycles at some places.
+#[tactic(auto, using(crate::proofs::RowLemmas::latest_more))]
+fn latest(ages: &[u32], places: &[u32]) -> u32
+    ensures { result ≡ latest ages.now places.now }
+{
+    let mut cycle = 0;
+    'places: for place in places {
+        cycle = later(ages, cycle, *place);
+    }
+    cycle
+}
+
+/// The signals with their last changes.
+#[tactic(auto, using(crate::proofs::RowLemmas::rows_more))]
+fn rows_of(alloc: Global, ages: &[u32], signals: &[Signal<'_>]) -> Result<Vec<Row>, NoMemory>
+    ensures { IfOk result (λ rows. rows.items ≡ rows_of ages.now (map signal_in signals.now) (length signals.now)) }
+{
+    let mut rows = Vec::new(alloc);
+    'signals: for i in 0..signals.len() {
+        rows.push(Row {
+            place: i,
+            since: latest(ages, signals[i].places.slice()),
+        })?;
+    }
+    Ok(rows)
+}
+
+/// Rows in order.
+fn ordered(rows: Vec<Row>) -> Result<Vec<Row>, NoMemory>
+    ensures same { IfOk result (λ ordered. IsPermutation rows.items ordered.items) }
+    ensures sorted { IfOk result (λ ordered. IsSorted row_cmp ordered.items) }
+{
+    let mut rows = rows;
+    rows.sort_by_key(|r| (Reverse(r.since), r.place))?;
+    Ok(rows)
+}
+
+/// The signals, the last change first.
+#[tactic(auto, using(crate::proofs::RowLemmas::rows_are))]
+pub(crate) fn newest_rows(
+    alloc: Global,
+    ages: &[u32],
+    signals: &[Signal<'_>],
+) -> Result<Vec<Row>, NoMemory>
+    ensures { IfOk result (λ rows. AreRows ages.now (map signal_in signals.now) rows.items) }
+{
+    let rows = rows_of(alloc, ages, signals)?;
+    let ordered = ordered(rows)?;
+    Ok(ordered)
+}

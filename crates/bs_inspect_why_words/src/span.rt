@@ -1,0 +1,145 @@
+//! The lines of groups.
+ghost use Rattle.std.specs.Prelude.{◌≡◌, ◌-◌, ◌++◌, length, take, IfOk, OnOk};
+ghost use Rattle.std.specs.List.{flat_map};
+ghost use Rattle.bs_net.specs.Netlist.{parts_of};
+ghost use Rattle.bs_inspect_why_words.specs.Blocks.{Appends};
+ghost use Rattle.bs_inspect_why_words.specs.Groups.{group_line, groups_lines, rest_line, span_words, spans_words, AreGroups, TellsGroups};
+
+use crate::group::{Group, Span, first_groups, group_spans, groups_of};
+use crate::reason::reasons;
+use crate::words::push_more;
+use bs_bits::{NoMemory, end_line, push_number, push_piece};
+use bs_net::Raw;
+use bs_net_facts::Fact;
+use std::alloc::Global;
+
+/// Appends cycles in a row.
+fn push_span(text: &mut Vec<u8>, span: Span) -> Result<(), NoMemory>
+    ensures { OnOk result (text.new.items ≡ text.old.items ++ span_words span) }
+{
+    push_piece(text, b" ")?;
+    push_number(text, u64::from(span.from))?;
+    if span.from == span.to {
+        return Ok(());
+    }
+    push_piece(text, b"..")?;
+    push_number(text, u64::from(span.to))
+}
+
+/// Appends spans.
+#[tactic(auto, using(crate::proofs::StepLemmas::step_more))]
+fn push_all_spans(text: &mut Vec<u8>, spans: &[Span]) -> Result<(), NoMemory>
+    ensures { OnOk result (text.new.items ≡ text.old.items ++ flat_map span_words spans.now) }
+{
+    'spans: for span in spans {
+        push_span(text, *span)?;
+    }
+    Ok(())
+}
+
+/// The first of some spans.
+#[tactic(auto, using(crate::proofs::StepLemmas::all_first))]
+fn first_spans(spans: &[Span], most: usize) -> &[Span]
+    ensures { result.now ≡ take most spans.now }
+{
+    if most < spans.len() {
+        &spans[..most]
+    } else {
+        spans
+    }
+}
+
+/// Appends the first spans, and how many more there are.
+fn push_spans(text: &mut Vec<u8>, most: usize, spans: &[Span]) -> Result<(), NoMemory>
+    ensures { OnOk result (text.new.items ≡ text.old.items ++ spans_words most spans.now) }
+{
+    push_all_spans(text, first_spans(spans, most))?;
+    push_more(text, spans.len().saturating_sub(most))
+}
+
+/// Appends the line of a group.
+fn push_group(text: &mut Vec<u8>, lead: &[u8], most: usize, group: &Group) -> Result<(), NoMemory>
+    ensures { OnOk result (text.new.items ≡ text.old.items ++ group_line lead.now most group.now) }
+{
+    let spans = group_spans(*text.allocator(), group)?;
+    push_piece(text, lead)?;
+    push_piece(text, group.words.slice())?;
+    push_piece(text, b" ")?;
+    push_spans(text, most, spans.as_slice())?;
+    end_line(text)
+}
+
+/// Appends the lines of groups.
+#[tactic(auto, using(crate::proofs::StepLemmas::step_more))]
+fn push_all_groups(
+    text: &mut Vec<u8>,
+    lead: &[u8],
+    spans: usize,
+    groups: &[Group],
+) -> Result<(), NoMemory>
+    ensures { OnOk result (text.new.items ≡ text.old.items ++ flat_map (group_line lead.now spans) groups.now) }
+{
+    'groups: for group in groups {
+        push_group(text, lead, spans, group)?;
+    }
+    Ok(())
+}
+
+/// Appends how many more groups there are.
+fn push_rest(text: &mut Vec<u8>, lead: &[u8], count: usize) -> Result<(), NoMemory>
+    ensures { OnOk result (text.new.items ≡ text.old.items ++ rest_line lead.now count) }
+{
+    if count == 0 {
+        return Ok(());
+    }
+    push_piece(text, lead)?;
+    push_number(text, count as u64)?;
+    push_piece(text, b" more")?;
+    end_line(text)
+}
+
+/// Appends the lines of the first groups, and how many more there are.
+fn push_groups(
+    text: &mut Vec<u8>,
+    lead: &[u8],
+    most: usize,
+    spans: usize,
+    groups: &[Group],
+) -> Result<(), NoMemory>
+    ensures { OnOk result (text.new.items ≡ text.old.items ++ groups_lines lead.now most spans groups.now) }
+{
+    push_all_groups(text, lead, spans, first_groups(groups, most))?;
+    push_rest(text, lead, groups.len().saturating_sub(most))
+}
+
+/// The groups of facts, which are told by cycles.
+#[tactic(auto, using(crate::proofs::SpanLemmas::groups_are))]
+fn fact_groups(
+    alloc: Global,
+    raw: &Raw,
+    facts: &[Fact],
+    most: usize,
+) -> Result<Vec<Group>, NoMemory>
+    ensures { IfOk result (λ groups. AreGroups (parts_of raw.now) most facts.now groups.items) }
+{
+    let reasons = reasons(alloc, raw, facts, most)?;
+    let groups = groups_of(alloc, reasons.as_slice())?;
+    Ok(groups)
+}
+
+/// Appends the lines of facts, which are told by cycles.
+#[tactic(auto, using(crate::proofs::SpanLemmas::groups_told))]
+pub(crate) fn push_by_cycles(
+    text: &mut Vec<u8>,
+    raw: &Raw,
+    lead: &[u8],
+    facts_most: usize,
+    most: usize,
+    spans: usize,
+    facts: &[Fact],
+) -> Result<(), NoMemory>
+    ensures { OnOk result (Appends (TellsGroups (parts_of raw.now) lead.now facts_most most spans facts.now) text.old.items text.new.items) }
+{
+    let groups = fact_groups(*text.allocator(), raw, facts, facts_most)?;
+    push_groups(text, lead, most, spans, groups.as_slice())
+}

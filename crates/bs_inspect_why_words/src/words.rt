@@ -1,0 +1,167 @@
+//! Signals and their values in words.
+ghost use Rattle.std.specs.Prelude.{◌≡◌, ◌<◌, ◌-◌, ◌^◌, ◌++◌, length, map, take, All, IfOk, OnOk};
+ghost use Rattle.std.specs.List.{flat_map};
+ghost use Rattle.bs_net.specs.Netlist.{parts_of};
+ghost use Rattle.bs_net_names.specs.Signals.{signal_in};
+ghost use Rattle.bs_net_names.specs.Values.{value_text};
+ghost use Rattle.bs_inspect_report.specs.Signal.{bit_at, signal_bits};
+ghost use Rattle.bs_inspect_why_words.specs.Facts.{behind_words, fact_bits, more_words, signal_words, signals_words, TellsFacts, TellsFirst};
+
+use crate::key::{fact_bits, fact_signals};
+use bs_bits::{Bits, List, NoMemory, push_number, push_piece};
+use bs_net::Raw;
+use bs_net_facts::Fact;
+use bs_net_names::{Signal, push_rtl_name, push_value};
+use std::alloc::Global;
+
+/// The bit at a place; 0 past the end.
+#[tactic(auto, using(crate::proofs::WordLemmas::bit_past))]
+pub(crate) fn bit_at(bits: &Bits, place: u32) -> bool
+    ensures { result ≡ bit_at bits.now place }
+{
+    if (place as usize) < bits.len() {
+        bits.get(place as usize)
+    } else {
+        false
+    }
+}
+
+/// The bits of a signal, the greatest first.
+#[tactic(auto, using(bs_inspect_report::proofs::SignalLemmas::bits_more))]
+fn signal_bits(alloc: Global, bits: &Bits, places: &[u32]) -> Result<Vec<bool>, NoMemory>
+    ensures { IfOk result (λ own. own.items ≡ signal_bits bits.now places.now) }
+{
+    let mut own = Vec::new(alloc);
+    'places: for place in places {
+        own.push(bit_at(bits, *place))?;
+    }
+    Ok(own)
+}
+
+/// Appends the value of a signal.
+#[tactic(auto, using(crate::proofs::WordLemmas::value_few))]
+pub(crate) fn push_signal_value(
+    text: &mut Vec<u8>,
+    bits: &Bits,
+    places: &[u32],
+) -> Result<(), NoMemory>
+    requires { length places.now < 2 ^ 32 }
+    ensures { OnOk result (text.new.items ≡ text.old.items ++ value_text (signal_bits bits.now places.now)) }
+{
+    let own = signal_bits(*text.allocator(), bits, places)?;
+    push_value(text, own.as_slice())
+}
+
+/// Appends a signal and its value.
+pub(crate) fn push_signal(
+    text: &mut Vec<u8>,
+    bits: &Bits,
+    signal: &Signal<'_>,
+) -> Result<(), NoMemory>
+    requires { length signal.now.places < 2 ^ 32 }
+    ensures { OnOk result (text.new.items ≡ text.old.items ++ signal_words bits.now (signal_in signal.now)) }
+{
+    push_rtl_name(text, signal)?;
+    push_piece(text, b" = ")?;
+    push_signal_value(text, bits, signal.places.slice())
+}
+
+/// Appends a signal behind another.
+fn push_behind(text: &mut Vec<u8>, bits: &Bits, signal: &Signal<'_>) -> Result<(), NoMemory>
+    requires { length signal.now.places < 2 ^ 32 }
+    ensures { OnOk result (text.new.items ≡ text.old.items ++ behind_words bits.now (signal_in signal.now)) }
+{
+    push_piece(text, b", ")?;
+    push_signal(text, bits, signal)
+}
+
+/// Appends signals behind another.
+#[tactic(auto, using(crate::proofs::StepLemmas::signals_more))]
+fn push_others(text: &mut Vec<u8>, bits: &Bits, signals: &[Signal<'_>]) -> Result<(), NoMemory>
+    requires { All (λ s. length s.places < 2 ^ 32) signals.now }
+    ensures { OnOk result (text.new.items ≡ text.old.items ++ flat_map (behind_words bits.now) (map signal_in signals.now)) }
+{
+    'signals: for signal in signals {
+        push_behind(text, bits, signal)?;
+    }
+    Ok(())
+}
+
+/// Appends signals, one behind another.
+#[tactic(auto, using(crate::proofs::WordLemmas::narrow_first, crate::proofs::WordLemmas::narrow_rest))]
+pub(crate) fn push_signals(
+    text: &mut Vec<u8>,
+    bits: &Bits,
+    signals: &[Signal<'_>],
+) -> Result<(), NoMemory>
+    requires { All (λ s. length s.places < 2 ^ 32) signals.now }
+    ensures { OnOk result (text.new.items ≡ text.old.items ++ signals_words bits.now (map signal_in signals.now)) }
+{
+    match signals {
+        [] => Ok(()),
+        [first, rest @ ..] => {
+            push_signal(text, bits, first)?;
+            push_others(text, bits, rest)
+        }
+    }
+}
+
+/// Appends how many more there are.
+pub(crate) fn push_more(text: &mut Vec<u8>, count: usize) -> Result<(), NoMemory>
+    ensures { OnOk result (text.new.items ≡ text.old.items ++ more_words count) }
+{
+    if count == 0 {
+        return Ok(());
+    }
+    push_piece(text, b" and ")?;
+    push_number(text, count as u64)?;
+    push_piece(text, b" more")
+}
+
+/// Appends facts.
+#[tactic(auto, using(crate::proofs::WordLemmas::facts_told))]
+fn facts_words(alloc: Global, raw: &Raw, facts: &[Fact]) -> Result<Vec<u8>, NoMemory>
+    ensures { IfOk result (λ words. TellsFacts (parts_of raw.now) facts.now words.items) }
+{
+    let signals = fact_signals(alloc, raw, facts)?;
+    let words = signals_text(alloc, facts, signals.as_slice())?;
+    Ok(words)
+}
+
+/// Signals with the bits of facts, one behind another.
+fn signals_text(alloc: Global, facts: &[Fact], signals: &[Signal<'_>]) -> Result<Vec<u8>, NoMemory>
+    requires { All (λ s. length s.places < 2 ^ 32) signals.now }
+    ensures { IfOk result (λ words. words.items ≡ signals_words (fact_bits facts.now) (map signal_in signals.now)) }
+{
+    let bits = fact_bits(alloc, facts)?;
+    let mut words = Vec::new(alloc);
+    push_signals(&mut words, &bits, signals)?;
+    Ok(words)
+}
+
+/// The first of some facts.
+#[tactic(auto, using(crate::proofs::StepLemmas::all_first))]
+fn first_facts(facts: &[Fact], most: usize) -> &[Fact]
+    ensures { result.now ≡ take most facts.now }
+{
+    if most < facts.len() {
+        &facts[..most]
+    } else {
+        facts
+    }
+}
+
+/// The first of some facts in words, and how many more there are.
+#[tactic(auto, using(crate::proofs::WordLemmas::first_told))]
+pub(crate) fn first_words(
+    alloc: Global,
+    raw: &Raw,
+    facts: &[Fact],
+    most: usize,
+) -> Result<List<u8>, NoMemory>
+    ensures { IfOk result (λ words. TellsFirst (parts_of raw.now) most facts.now words) }
+{
+    let mut words = facts_words(alloc, raw, first_facts(facts, most))?;
+    push_more(&mut words, facts.len().saturating_sub(most))?;
+    Ok(List::of(words))
+}
