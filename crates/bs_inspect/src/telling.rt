@@ -309,12 +309,22 @@ fn find_evidence(
 ) -> Result<Evidence, NoMemory>
     ensures { IfOk result (IsEvidence kind (circuit_of (report_files_in report_files.now).raw) (report_files_in report_files.now).choice (report_files_in report_files.now).report step) }
 {
-    let net = &report_files.net;
-    let choice = &report_files.choice;
-    let report = &report_files.report;
     match step {
-        Some(step) => evidence_of(alloc, kind, net, choice, report, step),
-        None => evidence_for(alloc, kind, net, choice, report),
+        Some(step) => evidence_of(
+            alloc,
+            kind,
+            &report_files.net,
+            &report_files.choice,
+            &report_files.report,
+            step,
+        ),
+        None => evidence_for(
+            alloc,
+            kind,
+            &report_files.net,
+            &report_files.choice,
+            &report_files.report,
+        ),
     }
 }
 

@@ -265,8 +265,7 @@ module _ (p : Problem) (log : List Line) (ok : IsAccepted p log) where
         record {
           right = (
             subst (λ (ids : List ℕ). IsProofLine q (whole_shown f p end)
-                (Lemma (last_id q (whole_shown f p end) + 1) [] (ids ++ (f.front + f.by) ∷ []))) (sym ids_are)
-                (
+                (Lemma (last_id q (whole_shown f p end) + 1) [] (ids ++ (f.front + f.by) ∷ []))) (sym ids_are) (
                   refl,
                   names_are,
                   ap (hints_are_unit []) clauses_are ∙ ending_is_unit last_clause last_distinct,

@@ -40,9 +40,11 @@ module _ (v : ℕ → Bool) where
   added_hold q (Delete ids ∷ h) right met = added_hold q h right.1 met
   added_hold q (Lemma id lits hints ∷ h) right met =
       let earlier : AllByRecursion Holds (added q h) = added_hold q h right.1 met in
-      each_append Holds (added q h) _ earlier
-      (Satisfies-lemma v lits (clauses_of (live q h) hints) right.0.3
-      (hints_hold (live q h) hints (AllByRecursion-filter Holds (λ x. not (is_deleted h x.id)) (added q h) earlier)), tt)
+      each_append Holds (added q h) _ earlier (
+        Satisfies-lemma v lits (clauses_of (live q h) hints) right.0.3
+            (hints_hold (live q h) hints (AllByRecursion-filter Holds (λ x. not (is_deleted h x.id)) (added q h) earlier)),
+        tt,
+      )
 
   last_of : (xs : List Entry) (e : Entry) → AllByRecursion Holds (xs ++ e ∷ []) → Holds e
   last_of [] e all = all.0

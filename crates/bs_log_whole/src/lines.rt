@@ -98,7 +98,15 @@ fn push_retired(
         None => push_copy(text, id, &[off], at.place + 1),
         Some(end) => {
             let rest = rest_at(asked, step);
-            push_refuted(text, at.place, rest, off, lemma_of(before, end), id, raised(f, end))
+            push_refuted(
+                text,
+                at.place,
+                rest,
+                off,
+                lemma_of(before, end),
+                id,
+                raised(f, end),
+            )
         }
     }
 }

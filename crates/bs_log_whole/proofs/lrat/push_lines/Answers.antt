@@ -3,10 +3,11 @@ use Rattle.std.proofs.lemmas.List.{append-nil}
 use Rattle.bs_log.specs.declared.line.Line.{Line}
 use Rattle.bs_log.specs.History.{Problem, History}
 use Rattle.bs_log.specs.Refusal.{history_of}
-use Rattle.bs_log_dimacs.specs.Proof.{proof_text}
+use Rattle.bs_log_dimacs.specs.Proof.{lemma_in, proof_text}
+use Rattle.bs_log_dimacs.specs.Walk.{lines_text}
 use Rattle.bs_log_dimacs.proofs.Walking.{history_more}
 use Rattle.bs_log_whole.specs.declared.walk.At.{At}
-use Rattle.bs_log_whole.specs.Proof.{place_of, whole_shown}
+use Rattle.bs_log_whole.specs.Proof.{line_at, place_of, whole_shown}
 use Rattle.bs_log_whole.specs.Walk.{problem_in, clauses_in, IsAt}
 use Rattle.bs_log_whole.proofs.Bounds.{begins, first, step_fits, end_fits, fits_here, start_fits, room_here, place_more, place_fits}
 use Rattle.bs_log_whole.proofs.Texts.{text_more, at_next}
@@ -71,6 +72,8 @@ lines-preserved c =
           c.at_behind-at.ensures.last);
       text =
           text_more c.args.f.now p q h c.lines.at line c.args.text.now.items c.lines.text.items c.push_shown.new.text.items
-          c.lines.invariant.at c.lines.invariant.text c.in_ok-push_shown.ensures
+          c.lines.invariant.at c.lines.invariant.text
+          (c.in_ok-push_shown.ensures
+          ∙ ap (λ (ls : List Line). c.lines.text.items ++ lines_text c.lines.at.last (line_at c.args.f.now p (lemma_in (history_of ls)) c.lines.at.under c.lines.at.place line)) c.front.ensures)
           ∙ ap (λ (h : History). c.args.text.now.items ++ proof_text q (whole_shown c.args.f.now p h)) (sym more);
     }
