@@ -221,8 +221,8 @@ at_outcome r text a y h e =
 -- the execution is whole
 whole_execution : (asked n : ℕ) (o : Outcome) (states inputs : List (List Bool)) → o ≡ Reached n → n ≤ asked → length inputs ≡ n →
     length states ≡ length inputs + 1 → HasExecution asked o states inputs
-whole_execution asked n o states inputs is short many more =
-    subst (λ (o : Outcome). HasExecution asked o states inputs) (sym is) (short, many, more ∙ ap (λ (k : ℕ). k + 1) many)
+whole_execution asked n o states inputs is within many more =
+    subst (λ (o : Outcome). HasExecution asked o states inputs) (sym is) (within, many, more ∙ ap (λ (k : ℕ). k + 1) many)
 
 at_state : (left : ℕ) (r : Reach) (text a : List ℕ) (y : Progress) → Fits (places.State left) r text → taken (places.State left) r a ≡ Some y → Next y text a
 unfolding head_text
