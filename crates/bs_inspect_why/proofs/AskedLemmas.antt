@@ -1,6 +1,7 @@
 -- The nets with a name, and their facts.
 use Rattle.std.proofs.Common.{◌≡◌, ℕ, ◌<◌, ◌≤◌, ◌+◌, Bool, true, false, List, [], ◌∷◌, ◌++◌, length, map, take, get_or, refl, ap, sym, subst, ◌∙◌, ◌⊎◌, inl, inr, arith, zero, suc, Option, Some, None}
-use Rattle.std.specs.Prelude.{if◌then◌else◌}
+use Rattle.std.specs.Prelude.{if◌then◌else◌, slice_get}
+use Rattle.std.proofs.lemmas.Option.{get_or_from_slice_get}
 use Rattle.std.specs.Borrow.{Bor}
 use Rattle.std.specs.List.{All, flat_map}
 use Rattle.std.proofs.lemmas.Bool.{cases_lt}
@@ -149,3 +150,16 @@ facts_more m nets at i n f facts after lt here are is goes =
         subst (λ (j : ℕ). IsAsked m (get_or nets j d) at (get_or (facts ++ f ∷ []) j e)) same
         (subst (IsAsked m (get_or nets i d) at) (sym (get_or_push facts f e i are.size))
         (subst (λ (x : NetId). IsAsked m x at f) (here ∙ get_or_default nets i n d lt) is))
+
+below_from_get : {X : Type 0} (xs : List X) (k : ℕ) (x : X) → slice_get xs k ≡ Some x → k < length xs
+below_from_get [] k x e = absurd cc
+below_from_get (y ∷ ys) zero x e = omega arith
+below_from_get (y ∷ ys) (suc k) x e = omega (arith, below_from_get ys k x e)
+
+pub key_more : (names : List (List ℕ)) (keys : List (Bor (List ℕ))) (key : Bor (List ℕ)) (n : ℕ) → map (λ s. s.now) keys ≡ take n names →
+    slice_get names n ≡ Some key.now → map (λ s. s.now) (keys ++ key ∷ []) ≡ take (n + 1) names
+key_more names keys key n e is =
+    map-append (λ (s : Bor (List ℕ)). s.now) keys (key ∷ [])
+    ∙ (ap (λ (t : List (List ℕ)). t ++ key.now ∷ []) e
+    ∙ (ap (λ (k : List ℕ). take n names ++ k ∷ []) (sym (get_or_from_slice_get names n key.now key.now is))
+    ∙ sym (take_more names n key.now (below_from_get names n key.now is))))

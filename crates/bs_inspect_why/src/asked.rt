@@ -13,7 +13,7 @@ use bs_net_names::{Member, members};
 use std::alloc::Global;
 
 /// The keys of the nets of a netlist's parts.
-#[tactic(auto, using(bs_inspect_view::proofs::NetLemmas::key_more))]
+#[tactic(auto, using(crate::proofs::AskedLemmas::key_more))]
 fn keys_of<'a>(alloc: Global, raw: &'a Raw) -> Result<Vec<&'a str>, NoMemory>
     ensures { IfOk result (λ keys. map (λ s. s.now) keys.items ≡ (parts_of raw.now).names) }
 {

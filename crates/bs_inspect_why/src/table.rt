@@ -1,7 +1,6 @@
 //! Accounts as a table for scripts.
-ghost use Rattle.std.specs.Prelude.{◌≡◌, ◌∷◌, [], ◌++◌, codes, IfOk, OnOk};
+ghost use Rattle.std.specs.Prelude.{◌≡◌, ◌++◌, codes, map, IfOk, OnOk};
 ghost use Rattle.std.specs.List.{flat_map};
-ghost use Rattle.bs_bits.specs.Text.{digit_of};
 ghost use Rattle.bs_net.specs.Netlist.{parts_of};
 ghost use Rattle.bs_net.specs.Parts.{key_at};
 ghost use Rattle.bs_net_facts.specs.Blocks.{moved};
@@ -17,7 +16,7 @@ use bs_inspect_causes::Account;
 use bs_inspect_why_words::key_of;
 use bs_net::{NetId, Raw};
 use bs_net_facts::Fact;
-use bs_net_names::{key_parts, plain, push_range};
+use bs_net_names::{key_parts, plain, push_range, push_value};
 use std::alloc::Global;
 
 /// Appends the layer of an account, and when its bits stand.
@@ -42,6 +41,7 @@ fn push_bit_number(text: &mut Vec<u8>, bit: Option<u64>) -> Result<(), NoMemory>
 }
 
 /// The name of a net as RTL writes it.
+#[tactic(auto, using(crate::proofs::TableLemmas::name_is))]
 fn net_name(alloc: Global, raw: &Raw, net: NetId) -> Result<Vec<u8>, NoMemory>
     ensures { IfOk result (λ name. name.items ≡ rtl_name (key_at (parts_of raw.now) net.0)) }
 {
@@ -60,17 +60,6 @@ fn push_net(text: &mut Vec<u8>, raw: &Raw, net: NetId) -> Result<(), NoMemory>
     push_field(text, name.as_slice())
 }
 
-/// Appends a bit.
-fn push_bit(text: &mut Vec<u8>, bit: bool) -> Result<(), NoMemory>
-    ensures { OnOk result (text.new.items ≡ text.old.items ++ digit_of bit ∷ []) }
-{
-    if bit {
-        push_piece(text, b"1")
-    } else {
-        push_piece(text, b"0")
-    }
-}
-
 /// Appends the row of a fact.
 fn push_fact(
     text: &mut Vec<u8>,
@@ -87,7 +76,7 @@ fn push_fact(
     push_piece(text, b",")?;
     push_net(text, raw, fact.net)?;
     push_piece(text, b",")?;
-    push_bit(text, fact.bit)?;
+    push_value(text, &[fact.bit])?;
     end_line(text)
 }
 
@@ -119,16 +108,23 @@ fn moved(cycle: u32, fact: Fact) -> Fact
     }
 }
 
-/// The bits of an account at its last cycle.
+/// Facts at another cycle.
 #[tactic(auto, using(crate::proofs::TableLemmas::bits_more))]
+fn all_moved(alloc: Global, cycle: u32, facts: &[Fact]) -> Result<Vec<Fact>, NoMemory>
+    ensures { IfOk result (λ bits. bits.items ≡ map (moved cycle) facts.now) }
+{
+    let mut bits = Vec::new(alloc);
+    'facts: for i in 0..facts.len() {
+        bits.push(moved(cycle, facts[i]))?;
+    }
+    Ok(bits)
+}
+
+/// The bits of an account at its last cycle.
 fn last_bits(alloc: Global, account: &Account) -> Result<Vec<Fact>, NoMemory>
     ensures { IfOk result (λ bits. bits.items ≡ last_bits account.now) }
 {
-    let facts = account.block.bits.slice();
-    let mut bits = Vec::new(alloc);
-    'bits: for fact in facts {
-        bits.push(moved(account.block.at, *fact))?;
-    }
+    let bits = all_moved(alloc, account.block.at, account.block.bits.slice())?;
     Ok(bits)
 }
 

@@ -51,7 +51,8 @@ fn push_accounts(
 {
     let first = episode_of(first);
     let last = episode_of(last);
-    push_block(text, moments, report, few, steps, &first, &last)
+    push_block(text, moments, report, few, steps, &first, &last)?;
+    Ok(())
 }
 
 /// Appends the text of a chain.
@@ -71,7 +72,8 @@ fn push_chain(
 {
     let first = &accounts[chain.first];
     let last = &accounts[chain.last];
-    push_accounts(text, moments, report, few, chain.steps, first, last)
+    push_accounts(text, moments, report, few, chain.steps, first, last)?;
+    Ok(())
 }
 
 /// Appends the text of the chain at a place.
@@ -91,7 +93,8 @@ fn push_place(
     requires place { place < length chains.now }
     ensures { OnOk result (Appends (TellsChain moments.now report.now few accounts.now (chain_at chains.now place)) text.old.items text.new.items) }
 {
-    push_chain(text, moments, report, few, accounts, chains[place])
+    push_chain(text, moments, report, few, accounts, chains[place])?;
+    Ok(())
 }
 
 /// Appends the text of chains in their order.
@@ -149,7 +152,8 @@ fn push_chains(
         accounts,
         chains,
         ordered.as_slice(),
-    )
+    )?;
+    Ok(())
 }
 
 /// The text of accounts as blocks.

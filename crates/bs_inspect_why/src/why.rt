@@ -215,8 +215,33 @@ fn moment_of(count: usize, at: Option<u64>) -> Result<Option<u32>, NoMemory>
     }
 }
 
-/// The answer at a moment of the trace.
+/// The answer by the nets that are asked for.
 #[tactic(auto, using(crate::proofs::WhyLemmas::none_asked, crate::proofs::WhyLemmas::some_asked))]
+fn answer_among(
+    alloc: Global,
+    net: &Netlist,
+    report: &Report,
+    question: &Question<'_>,
+    at: u32,
+    nets: &[NetId],
+) -> Result<Why, NoMemory>
+    requires way { IsWayOf (circuit net.now) report.now.states report.now.inputs }
+    requires at { at ≡ moment_in (length report.now.states) question.now.at }
+    requires there { at < length report.now.states }
+    requires nets { nets.now ≡ nets_asked net.now.raw question.now.name.now }
+    requires placed { All (λ n. n.0 < (circuit net.now).nets) nets.now }
+    requires driven { All (λ n. has_net (circuit net.now).inputs n ≡ false) nets.now }
+    requires some_layer { 1 ≤ question.now.depth }
+    ensures { IfOk result (Answers net.now.raw report.now (question_in question.now)) }
+{
+    if nets.is_empty() {
+        return Ok(Why::Denied(Denial::Input));
+    }
+    let why = answer_of(alloc, net, report, question, at, nets)?;
+    Ok(why)
+}
+
+/// The answer at a moment of the trace.
 fn answer_then(
     alloc: Global,
     net: &Netlist,
@@ -231,10 +256,7 @@ fn answer_then(
     ensures { IfOk result (Answers net.now.raw report.now (question_in question.now)) }
 {
     let nets = asked_nets(alloc, net, question.name)?;
-    if nets.is_empty() {
-        return Ok(Why::Denied(Denial::Input));
-    }
-    let why = answer_of(alloc, net, report, question, at, nets.as_slice())?;
+    let why = answer_among(alloc, net, report, question, at, nets.as_slice())?;
     Ok(why)
 }
 

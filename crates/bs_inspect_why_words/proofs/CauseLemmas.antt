@@ -1,9 +1,9 @@
 -- The lines of causes.
 use Rattle.std.proofs.Common.{◌≡◌, ℕ, ◌<◌, ◌≤◌, ◌+◌, ◌-◌, Bool, true, false, List, [], ◌∷◌, ◌++◌, length, map, take, get_or, refl, ap, sym, subst, ◌∙◌, arith, zero, suc}
-use Rattle.std.specs.Prelude.{nat_lt, ◌&&◌, if◌then◌else◌}
+use Rattle.std.specs.Prelude.{nat_lt, ◌^◌, ◌==◌, ◌&&◌, if◌then◌else◌}
 use Rattle.std.specs.Bool.{beq}
 use Rattle.std.specs.List.{All, flat_map, range_with_len}
-use Rattle.std.proofs.lemmas.List.{length-map}
+use Rattle.std.proofs.lemmas.List.{append-nil, length-map}
 use Rattle.std.proofs.lemmas.List.Elements.{All-append, All-nil, All-take}
 use Rattle.std.proofs.lemmas.List.FromFn.{get_or-map-range_with_len, length-map-range_with_len}
 use Rattle.std.proofs.lemmas.List.Sorted.{All-permutation}
@@ -16,10 +16,13 @@ use Rattle.bs_net_names.specs.declared.signal.Signal.{Signal as CodeSignal}
 use Rattle.bs_inspect_why_words.specs.declared.limits.Limits.{Limits}
 use Rattle.bs_inspect_why_words.specs.declared.row.Row.{Row}
 use Rattle.bs_inspect_why_words.specs.Blocks.{Appends}
-use Rattle.bs_inspect_why_words.specs.Causes.{HasRows, TellsRows, TellsRowsOf, first_cycle, is_old, old_row, old_rows, only_bit, rows_lines}
+use Rattle.bs_inspect_why_words.specs.Causes.{HasRows, TellsRows, TellsRowsOf, by_line, first_cycle, is_old, old_line, old_row, old_rows, old_words, only_bit, row_line, row_name, rows_lines}
 use Rattle.bs_inspect_why_words.specs.Facts.{fact_bits, fact_keys, signal_at}
 use Rattle.bs_inspect_why_words.specs.Rows.{AreRows, row_of, rows_of}
 use Rattle.bs_inspect_why_words.specs.Since.{AreAges}
+use Rattle.bs_net_names.specs.Rtl.{rtl_text}
+use Rattle.bs_inspect_why_words.specs.declared.limits.TheConstants.{RECENT}
+use Rattle.bs_inspect_why_words.proofs.RowLemmas.{signal_is}
 use Rattle.bs_inspect_why_words.proofs.StepLemmas.{all_head, all_tail}
 
 -- ---- the signals of rows are there
@@ -80,6 +83,67 @@ placed_of c states inputs facts signals rows has =
     let all : All (Placed (length xs)) rows =
     All-permutation (Placed (length xs)) (rows_of has.ages xs (length xs)) rows has.ordered.same (made_placed has.ages xs (length xs)) in
     subst (λ (n : ℕ). All (Placed n) rows) (length-map signals signal_in) all
+
+-- ---- the signal of a row
+
+pub narrow_here : (signals : List CodeSignal) (i : ℕ) (s : CodeSignal) → All (λ s. length s.places < 2 ^ 32) signals → i < length signals →
+    s ≡ get_or signals i s → length s.places < 2 ^ 32
+narrow_here signals i s narrow lt e = subst (λ (x : CodeSignal). length x.places < 2 ^ 32) (sym e) (narrow i s lt)
+
+pub old_is : (shares : Bool) (cycle : ℕ) (signals : List CodeSignal) (r : Row) (s : CodeSignal) (n : ℕ) (single older result : Bool) →
+    r.place < length signals → s ≡ get_or signals r.place s → n ≡ length s.places → single ≡ (n == 1) → older ≡ nat_lt (r.since + RECENT) cycle →
+    result ≡ (shares && (single && older)) → result ≡ is_old shares cycle (map signal_in signals) r
+old_is shares cycle signals r s n single older result lt at count one old is =
+    let same : single ≡ (length (signal_at (map signal_in signals) r.place).places == 1) =
+    one
+    ∙ (ap (λ (k : ℕ). k == 1) count ∙ ap (λ (x : Signal). length x.places == 1) (signal_is signals r.place s lt at)) in
+    is ∙ (ap (λ (b : Bool). shares && (b && older)) same
+    ∙ ap (λ (b : Bool). shares && ((length (signal_at (map signal_in signals) r.place).places == 1) && b)) old)
+
+pub row_old : (shares : Bool) (cycle : ℕ) (bits : List Bool) (signals : List CodeSignal) (r : Row) (old : Bool) (text : List ℕ) →
+    old ≡ is_old shares cycle (map signal_in signals) r → old ≡ true → text ≡ text ++ row_line shares cycle bits (map signal_in signals) r
+row_old shares cycle bits signals r old text e is =
+    sym (append-nil text)
+    ∙ ap (λ (t : List ℕ). text ++ t)
+    (sym (ap (λ (b : Bool). if b then [] else by_line cycle bits (signal_at (map signal_in signals) r.place) r.since) (sym e ∙ is)))
+
+pub row_alone : (shares : Bool) (cycle : ℕ) (bits : List Bool) (signals : List CodeSignal) (r : Row) (s : CodeSignal) (old : Bool) (text after : List ℕ) →
+    old ≡ is_old shares cycle (map signal_in signals) r → old ≡ false → r.place < length signals → s ≡ get_or signals r.place s →
+    after ≡ text ++ by_line cycle bits (signal_in s) r.since → after ≡ text ++ row_line shares cycle bits (map signal_in signals) r
+row_alone shares cycle bits signals r s old text after e off lt at goes =
+    goes
+    ∙ (ap (λ (x : Signal). text ++ by_line cycle bits x r.since) (signal_is signals r.place s lt at)
+    ∙ ap (λ (t : List ℕ). text ++ t)
+    (sym (ap (λ (b : Bool). if b then [] else by_line cycle bits (signal_at (map signal_in signals) r.place) r.since) (sym e ∙ off))))
+
+pub old_with : (shares : Bool) (cycle : ℕ) (bits : List Bool) (signals : List CodeSignal) (bit : Bool) (r : Row) (s : CodeSignal)
+    (old own agrees result : Bool) → r.place < length signals → s ≡ get_or signals r.place s → old ≡ is_old shares cycle (map signal_in signals) r →
+    own ≡ only_bit bits (signal_in s) → agrees ≡ beq own bit → result ≡ (old && agrees) →
+    result ≡ (is_old shares cycle (map signal_in signals) r && beq (only_bit bits (signal_at (map signal_in signals) r.place)) bit)
+old_with shares cycle bits signals bit r s old own agrees result lt at e is same goes =
+    let by_place : agrees ≡ beq (only_bit bits (signal_at (map signal_in signals) r.place)) bit =
+    same ∙ ap (λ (b : Bool). beq b bit) (is ∙ ap (only_bit bits) (signal_is signals r.place s lt at)) in
+    goes
+    ∙ (ap (λ (b : Bool). b && agrees) e ∙ ap (λ (b : Bool). is_old shares cycle (map signal_in signals) r && b) by_place)
+
+pub name_is : (signals : List CodeSignal) (r : Row) (s : CodeSignal) (text after : List ℕ) → r.place < length signals → s ≡ get_or signals r.place s →
+    after ≡ text ++ rtl_text (signal_in s) → after ≡ text ++ row_name (map signal_in signals) r
+name_is signals r s text after lt at goes = goes ∙ ap (λ (x : Signal). text ++ rtl_text x) (signal_is signals r.place s lt at)
+
+pub old_none : (most cycle : ℕ) (signals : List Signal) (bit : Bool) (rows : List Row) (empty : Bool) (text : List ℕ) → empty ≡ (length rows == 0) →
+    empty ≡ true → text ≡ text ++ old_line most cycle signals bit rows
+old_none most cycle signals bit rows empty text e is =
+    sym (append-nil text)
+    ∙ ap (λ (t : List ℕ). text ++ t)
+    (sym (ap (λ (b : Bool). if b then [] else old_words most cycle signals bit rows) (sym e ∙ is)))
+
+pub old_some : (most cycle : ℕ) (signals : List Signal) (bit : Bool) (rows : List Row) (empty : Bool) (text after : List ℕ) →
+    empty ≡ (length rows == 0) → empty ≡ false → after ≡ text ++ old_words most cycle signals bit rows →
+    after ≡ text ++ old_line most cycle signals bit rows
+old_some most cycle signals bit rows empty text after e off goes =
+    goes
+    ∙ ap (λ (t : List ℕ). text ++ t)
+    (sym (ap (λ (b : Bool). if b then [] else old_words most cycle signals bit rows) (sym e ∙ off)))
 
 -- ---- what is told
 

@@ -11,7 +11,7 @@ use Rattle.bs_net_facts.specs.Seen.{Seen}
 use Rattle.bs_net_names.specs.Signals.{AreSignals, Signal}
 use Rattle.bs_report.specs.declared.report.Report.{Report}
 use Rattle.bs_inspect_why_words.specs.Blocks.{Appends}
-use Rattle.bs_inspect_why_words.specs.Facts.{fact_keys}
+use Rattle.bs_inspect_why_words.specs.Facts.{fact_bits, fact_keys}
 use Rattle.bs_inspect_why_words.specs.Heads.{AreBefore, Episode, TellsHead, TellsHeadOf, before_count, head_line, one_before}
 
 -- ---- bits before
@@ -60,13 +60,14 @@ befores_all c states inputs facts (suc n) befores some are = are
 
 -- ---- the line
 
-pub line_told : (m : Seen) (r : Report) (steps : ℕ) (signals : List Signal) (first last : Episode) (befores : List Bool) (old new : List ℕ) →
+pub line_told : (m : Seen) (r : Report) (steps : ℕ) (signals : List Signal) (first last : Episode) (bits befores : List Bool)
+    (old new : List ℕ) → bits ≡ fact_bits first.bits →
     AreBefore (circuit m.net) m.states m.inputs last.bits last.since (before_count last.since last.bits) befores →
-    new ≡ old ++ head_line r steps signals befores first last.since → Appends (TellsHeadOf m r steps signals first last) old new
-line_told m r steps signals first last befores old new before goes = record {
-  words = head_line r steps signals befores first last.since;
+    new ≡ old ++ head_line r steps signals bits befores first last.since → Appends (TellsHeadOf m r steps signals first last) old new
+line_told m r steps signals first last bits befores old new e before goes = record {
+  words = head_line r steps signals (fact_bits first.bits) befores first last.since;
   says = record { befores = befores; before = before; says = refl };
-  appended = goes;
+  appended = goes ∙ ap (λ (bs : List Bool). old ++ head_line r steps signals bs befores first last.since) e;
 }
 
 pub head_told : (m : Seen) (r : Report) (steps : ℕ) (signals : List Signal) (first last : Episode) (old new : List ℕ) →

@@ -13,11 +13,14 @@ use Rattle.bs_inspect_why_words.specs.declared.row.Row.{Row}
 use Rattle.bs_inspect_why_words.specs.Facts.{no_signal, signal_at}
 use Rattle.bs_inspect_why_words.specs.Rows.{AreRows, later, latest, row_cmp, row_of, rows_of}
 
-pub later_past : (ages : List ℕ) (cycle place : ℕ) → length ages ≤ place → cycle ≡ later ages cycle place
-later_past ages cycle place le =
-    let none : get_or ages place 0 ≡ 0 = get_or_past ages place 0 le in
-    let e : cycle ≡ max cycle 0 = omega arith in
-    e ∙ ap (max cycle) (sym none)
+pub age_there : (ages : List ℕ) (place age : ℕ) → place < length ages → age ≡ get_or ages place age → age ≡ get_or ages place 0
+age_there ages place age lt e = e ∙ get_or_default ages place age 0 lt
+
+pub age_past : (ages : List ℕ) (place : ℕ) → length ages ≤ place → 0 ≡ get_or ages place 0
+age_past ages place le = sym (get_or_past ages place 0 le)
+
+pub later_is : (ages : List ℕ) (cycle place age result : ℕ) → age ≡ get_or ages place 0 → result ≡ max cycle age → result ≡ later ages cycle place
+later_is ages cycle place age result e is = is ∙ ap (max cycle) e
 
 pub latest_more : (ages places : List ℕ) (i d cycle after : ℕ) → i < length places → cycle ≡ latest ages (take i places) →
     after ≡ later ages cycle (get_or places i d) → after ≡ latest ages (take (i + 1) places)

@@ -26,10 +26,10 @@ pub facts_told : (raw : Parts) (facts : List Fact) (signals : List Signal) (word
     words ≡ signals_words (fact_bits facts) signals → TellsFacts raw facts words
 facts_told raw facts signals words are says = record { signals = signals; are = are; says = says }
 
-pub first_told : (raw : Parts) (facts few : List Fact) (most count : ℕ) (front words : List ℕ) → few ≡ take most facts → TellsFacts raw few front →
-    count ≡ length facts - most → words ≡ front ++ more_words count → TellsFirst raw most facts words
-first_told raw facts few most count front words e tells n says = record {
+pub first_told : (raw : Parts) (facts few : List Fact) (most count : ℕ) (front text words : List ℕ) → few ≡ take most facts → TellsFacts raw few front →
+    count ≡ length facts - most → text ≡ front ++ more_words count → words ≡ text → TellsFirst raw most facts words
+first_told raw facts few most count front text words e tells n goes same = record {
   front = front;
   tells = subst (λ (fs : List Fact). TellsFacts raw fs front) e tells;
-  says = says ∙ ap (λ (k : ℕ). front ++ more_words k) n;
+  says = same ∙ (goes ∙ ap (λ (k : ℕ). front ++ more_words k) n);
 }

@@ -63,11 +63,14 @@ abbrev pub row_names : List Signal → List Row → List ℕ
 row_names signals [] = []
 row_names signals (r ∷ rs) = row_name signals r ++ flat_map (behind_name signals) rs
 
--- the line of the signals with a bit, where there are some
+-- the line of the signals with a bit
+abbrev pub old_words : ℕ → ℕ → List Signal → Bool → List Row → List ℕ
+old_words most cycle signals bit rows =
+    line (by_words cycle ++ (row_names signals (take most rows) ++ (more_words (length rows - most) ++ (codes " = " ++ value_text (bit ∷ [])))))
+
+-- the same, where there are some
 abbrev pub old_line : ℕ → ℕ → List Signal → Bool → List Row → List ℕ
-old_line most cycle signals bit rows =
-    if length rows == 0 then []
-    else line (by_words cycle ++ (row_names signals (take most rows) ++ (more_words (length rows - most) ++ (codes " = " ++ value_text (bit ∷ [])))))
+old_line most cycle signals bit rows = if length rows == 0 then [] else old_words most cycle signals bit rows
 
 abbrev pub old_lines : ℕ → Bool → ℕ → List Bool → List Signal → List Row → List ℕ
 old_lines most shares cycle bits signals rows =

@@ -48,8 +48,12 @@ groups_of reasons = fold joined [] reasons
 abbrev pub group_spans : Group → List Span
 group_spans g = g.closed ++ span g.from g.to ∷ []
 
+-- the last of several cycles
+abbrev pub end_words : Span → List ℕ
+end_words s = if s.from == s.to then [] else codes ".." ++ decimal s.to
+
 abbrev pub span_words : Span → List ℕ
-span_words s = codes " " ++ (decimal s.from ++ (if s.from == s.to then [] else codes ".." ++ decimal s.to))
+span_words s = codes " " ++ (decimal s.from ++ end_words s)
 
 abbrev pub spans_words : ℕ → List Span → List ℕ
 spans_words most spans = flat_map span_words (take most spans) ++ more_words (length spans - most)

@@ -85,16 +85,16 @@ from_words steps signals bits befores since =
 abbrev pub before_words : ℕ → List Signal → (bits befores : List Bool) → ℕ → List ℕ
 before_words steps signals bits befores since = if since == 0 then [] else from_words steps signals bits befores since
 
-abbrev pub head_line : Report → ℕ → List Signal → (befores : List Bool) → Episode → ℕ → List ℕ
-head_line r steps signals befores e since =
-    line (decimal e.at ++ (codes " " ++ (signals_words (fact_bits e.bits) signals ++ (since_words e ++
-    (before_words steps signals (fact_bits e.bits) befores since ++ moment_words r e.at)))))
+abbrev pub head_line : Report → ℕ → List Signal → (bits befores : List Bool) → Episode → ℕ → List ℕ
+head_line r steps signals bits befores e since =
+    line (decimal e.at ++ (codes " " ++ (signals_words bits signals ++ (since_words e ++
+    (before_words steps signals bits befores since ++ moment_words r e.at)))))
 
 -- the line of a block by its signals
 pub record TellsHeadOf (m : Seen) (r : Report) (steps : ℕ) (signals : List Signal) (first last : Episode) (text : List ℕ) : Type 0 where
   pub befores : List Bool
   pub before : AreBefore (circuit m.net) m.states m.inputs last.bits last.since (before_count last.since last.bits) befores
-  pub says : text ≡ head_line r steps signals befores first last.since
+  pub says : text ≡ head_line r steps signals (fact_bits first.bits) befores first last.since
 
 -- a block's cycle and bits, since when they stand, what they were before, and where the state of the cycle comes from
 pub record TellsHead (m : Seen) (r : Report) (steps : ℕ) (first last : Episode) (text : List ℕ) : Type 0 where

@@ -50,7 +50,8 @@ fn push_causes(
     ensures { OnOk result (Appends (TellsCauses moments.now limits facts.now) text.old.items text.new.items) }
 {
     let begins = starts(*text.allocator(), facts)?;
-    push_stretches(text, moments, limits, facts, begins.as_slice())
+    push_stretches(text, moments, limits, facts, begins.as_slice())?;
+    Ok(())
 }
 
 /// Appends what kept the bits.
@@ -70,7 +71,8 @@ fn push_kept(
         limits.reasons,
         limits.spans,
         facts,
-    )
+    )?;
+    Ok(())
 }
 
 /// Appends what did not matter.
@@ -90,7 +92,8 @@ fn push_idle(
         limits.reasons,
         limits.spans,
         facts,
-    )
+    )?;
+    Ok(())
 }
 
 /// Appends the text of a block, or of a chain of so many, from the one that ends last to the first step.
@@ -113,5 +116,6 @@ pub fn push_block(
     push_head(text, moments, report, steps, first, last)?;
     push_causes(text, moments, limits, last.causes)?;
     push_kept(text, moments, limits, first.holds)?;
-    push_idle(text, moments, limits, last.idle)
+    push_idle(text, moments, limits, last.idle)?;
+    Ok(())
 }

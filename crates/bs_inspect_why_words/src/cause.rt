@@ -57,18 +57,19 @@ fn push_cause(
 }
 
 /// Whether a signal stands in a line with others.
-#[tactic(auto, using(crate::proofs::RowLemmas::signal_is))]
+#[tactic(auto, using(crate::proofs::CauseLemmas::old_is))]
 fn is_old(shares: bool, cycle: u32, signals: &[Signal<'_>], row: Row) -> bool
     requires { row.place < length signals.now }
     ensures { result ≡ is_old shares cycle (map signal_in signals.now) row }
 {
     let signal = &signals[row.place];
-    shares
-        && (signal.places.len() == 1 && u64::from(row.since) + u64::from(RECENT) < u64::from(cycle))
+    let single = signal.places.len() == 1;
+    let older = u64::from(row.since) + u64::from(RECENT) < u64::from(cycle);
+    shares && (single && older)
 }
 
 /// Appends the line of a signal that has one of its own.
-#[tactic(auto, using(crate::proofs::RowLemmas::signal_is))]
+#[tactic(auto, using(crate::proofs::CauseLemmas::row_old, crate::proofs::CauseLemmas::row_alone, crate::proofs::CauseLemmas::narrow_here))]
 fn push_row(
     text: &mut Vec<u8>,
     shares: bool,
@@ -85,7 +86,8 @@ fn push_row(
         return Ok(());
     }
     let signal = &signals[row.place];
-    push_cause(text, cycle, bits, signal, row.since)
+    push_cause(text, cycle, bits, signal, row.since)?;
+    Ok(())
 }
 
 /// Appends the lines of the signals that have one of their own.
@@ -133,7 +135,7 @@ fn same(one: bool, other: bool) -> bool
 }
 
 /// Whether a signal stands in the line of a bit.
-#[tactic(auto, using(crate::proofs::RowLemmas::signal_is))]
+#[tactic(auto, using(crate::proofs::CauseLemmas::old_with))]
 fn is_old_with(
     shares: bool,
     cycle: u32,
@@ -146,7 +148,9 @@ fn is_old_with(
     ensures { result ≡ (is_old shares cycle (map signal_in signals.now) row && beq (only_bit bits.now (signal_at (map signal_in signals.now) row.place)) bit) }
 {
     let signal = &signals[row.place];
-    is_old(shares, cycle, signals, row) && same(only_bit(bits, signal), bit)
+    let old = is_old(shares, cycle, signals, row);
+    let agrees = same(only_bit(bits, signal), bit);
+    old && agrees
 }
 
 /// Puts a row at the end whose signal stands in the line of a bit.
@@ -190,13 +194,14 @@ fn old_rows(
 }
 
 /// Appends the name of a signal.
-#[tactic(auto, using(crate::proofs::RowLemmas::signal_is))]
+#[tactic(auto, using(crate::proofs::CauseLemmas::name_is))]
 fn push_name(text: &mut Vec<u8>, signals: &[Signal<'_>], row: Row) -> Result<(), NoMemory>
     requires { row.place < length signals.now }
     ensures { OnOk result (text.new.items ≡ text.old.items ++ row_name (map signal_in signals.now) row) }
 {
     let signal = &signals[row.place];
-    push_rtl_name(text, signal)
+    push_rtl_name(text, signal)?;
+    Ok(())
 }
 
 /// Appends the name of a signal behind another.
@@ -252,7 +257,7 @@ fn first_rows<'a>(rows: &'a [Row], most: usize) -> &'a [Row]
 }
 
 /// Appends the line of the signals with a bit.
-#[tactic(auto, using(crate::proofs::CauseLemmas::first_placed))]
+#[tactic(auto, using(crate::proofs::CauseLemmas::first_placed, crate::proofs::CauseLemmas::old_none, crate::proofs::CauseLemmas::old_some))]
 fn push_old_line(
     text: &mut Vec<u8>,
     most: usize,
@@ -272,7 +277,8 @@ fn push_old_line(
     push_more(text, rows.len().saturating_sub(most))?;
     push_piece(text, b" = ")?;
     push_value(text, &[bit])?;
-    end_line(text)
+    end_line(text)?;
+    Ok(())
 }
 
 /// Appends the line of the signals with a bit, of all rows.
@@ -365,7 +371,8 @@ fn push_signals_of(
         &bits,
         signals,
         rows.as_slice(),
-    )
+    )?;
+    Ok(())
 }
 
 /// Appends the lines of causes in one cycle.
@@ -381,5 +388,6 @@ pub(crate) fn push_stretch(
     ensures { OnOk result (Appends (TellsRows moments.now limits facts.now) text.old.items text.new.items) }
 {
     let signals = fact_signals(*text.allocator(), moments.net().raw(), facts)?;
-    push_signals_of(text, moments, limits, facts, signals.as_slice())
+    push_signals_of(text, moments, limits, facts, signals.as_slice())?;
+    Ok(())
 }

@@ -1,5 +1,7 @@
 //! Cycles of which the same is told.
 ghost use Rattle.std.specs.Prelude.{◌≡◌, take, IfOk, OnOk};
+ghost use Rattle.std.specs.List.{position};
+ghost use Rattle.std.specs.Str.{bytes_eq};
 ghost use Rattle.bs_inspect_why_words.specs.Groups.{group_spans, groups_of, joined, longer, place_of, single};
 
 use crate::limits::MAX_APART;
@@ -24,6 +26,7 @@ pub struct Group {
 }
 
 /// A group of one cycle.
+#[tactic(auto, using(crate::proofs::GroupLemmas::single_is))]
 fn single(alloc: Global, reason: &Reason) -> Result<Group, NoMemory>
     ensures { IfOk result (λ g. g ≡ single reason.now) }
 {
@@ -37,6 +40,7 @@ fn single(alloc: Global, reason: &Reason) -> Result<Group, NoMemory>
 }
 
 /// Puts a cycle to a group.
+#[tactic(auto, using(crate::proofs::GroupLemmas::longer_near, crate::proofs::GroupLemmas::longer_far))]
 fn add_cycle(group: &mut Group, cycle: u32) -> Result<(), NoMemory>
     ensures { OnOk result (group.new ≡ longer group.old cycle) }
 {
@@ -66,13 +70,19 @@ pub(crate) fn first_groups(groups: &[Group], most: usize) -> &[Group]
     }
 }
 
+/// The place of the first of some groups with these words.
+fn place_in(groups: &[Group], words: &[u8]) -> Option<usize>
+    ensures { result ≡ position (λ g. bytes_eq g.words words.now) groups.now }
+{
+    groups.iter().position(|group| group.words.slice() == words)
+}
+
 /// The place of the first group with these words, among the first `MAX_APART`.
+#[tactic(auto, using(crate::proofs::GroupLemmas::place_is))]
 fn place_of(groups: &[Group], words: &[u8]) -> Option<usize>
     ensures { result ≡ place_of groups.now words.now }
 {
-    first_groups(groups, MAX_APART)
-        .iter()
-        .position(|group| group.words.slice() == words)
+    place_in(first_groups(groups, MAX_APART), words)
 }
 
 /// Puts a reason to the group with its words, or at the end as one of its own.
@@ -81,7 +91,10 @@ fn join(alloc: Global, groups: &mut Vec<Group>, reason: &Reason) -> Result<(), N
     ensures { OnOk result (groups.new.items ≡ joined groups.old.items reason.now) }
 {
     match place_of(groups.as_slice(), reason.words.slice()) {
-        Some(place) => add_cycle(&mut groups[place], reason.cycle),
+        Some(place) => {
+            add_cycle(&mut groups[place], reason.cycle)?;
+            Ok(())
+        }
         None => {
             let group = single(alloc, reason)?;
             groups.push(group)?;

@@ -60,11 +60,12 @@ fn push_since(text: &mut Vec<u8>, episode: &Episode<'_>) -> Result<(), NoMemory>
     if episode.begun {
         return push_piece(text, b", since 0");
     }
-    if episode.since >= episode.at {
-        return Ok(());
+    if episode.since < episode.at {
+        push_piece(text, b", since ")?;
+        push_number(text, u64::from(episode.since))
+    } else {
+        Ok(())
     }
-    push_piece(text, b", since ")?;
-    push_number(text, u64::from(episode.since))
 }
 
 /// Appends a value behind a space.
@@ -188,25 +189,25 @@ fn bits_before(
     Ok(befores)
 }
 
-/// Appends the line of a block by its signals and the bits before.
-fn push_line_of(
+/// Appends the line of a block by its signals, its bits and the bits before.
+fn push_line_with(
     text: &mut Vec<u8>,
     report: &Report,
     steps: usize,
     signals: &[Signal<'_>],
+    bits: &Bits,
     befores: &Bits,
     first: &Episode<'_>,
     since: u32,
 ) -> Result<(), NoMemory>
     requires { All (λ s. length s.places < 2 ^ 32) signals.now }
-    ensures { OnOk result (text.new.items ≡ text.old.items ++ head_line report.now steps (map signal_in signals.now) befores.now (episode_in first.now) since) }
+    ensures { OnOk result (text.new.items ≡ text.old.items ++ head_line report.now steps (map signal_in signals.now) bits.now befores.now (episode_in first.now) since) }
 {
-    let bits = fact_bits(*text.allocator(), first.bits)?;
     push_number(text, u64::from(first.at))?;
     push_piece(text, b" ")?;
-    push_signals(text, &bits, signals)?;
+    push_signals(text, bits, signals)?;
     push_since(text, first)?;
-    push_before(text, steps, signals, &bits, befores, since)?;
+    push_before(text, steps, signals, bits, befores, since)?;
     push_moment(text, report, first.at as usize)?;
     end_line(text)
 }
@@ -228,7 +229,11 @@ fn push_head_of(
     ensures { OnOk result (Appends (TellsHeadOf moments.now report.now steps (map signal_in signals.now) (episode_in first.now) (episode_in last.now)) text.old.items text.new.items) }
 {
     let befores = bits_before(*text.allocator(), moments, last.bits, last.since)?;
-    push_line_of(text, report, steps, signals, &befores, first, last.since)
+    let bits = fact_bits(*text.allocator(), first.bits)?;
+    push_line_with(
+        text, report, steps, signals, &bits, &befores, first, last.since,
+    )?;
+    Ok(())
 }
 
 /// Appends the line of a block, or of a chain of so many.
@@ -254,5 +259,6 @@ pub(crate) fn push_head(
         signals.as_slice(),
         first,
         last,
-    )
+    )?;
+    Ok(())
 }

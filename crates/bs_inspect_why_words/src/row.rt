@@ -1,5 +1,5 @@
 //! Signals in the order of their last change.
-ghost use Rattle.std.specs.Prelude.{◌≡◌, length, map, IfOk};
+ghost use Rattle.std.specs.Prelude.{◌≡◌, length, map, IfOk, slice_index_or};
 ghost use Rattle.std.specs.List.Sorted.{IsPermutation, IsSorted};
 ghost use Rattle.bs_net_names.specs.Signals.{signal_in};
 ghost use Rattle.bs_inspect_why_words.specs.Rows.{AreRows, later, latest, row_cmp, rows_of};
@@ -16,16 +16,24 @@ pub struct Row {
     pub since: u32,
 }
 
+/// The cycle at a place, and 0 past the end.
+#[tactic(auto, using(crate::proofs::RowLemmas::age_there, crate::proofs::RowLemmas::age_past))]
+fn age_at(ages: &[u32], place: u32) -> u32
+    ensures { result ≡ slice_index_or ages.now place 0 }
+{
+    if (place as usize) < ages.len() {
+        ages[place as usize]
+    } else {
+        0
+    }
+}
+
 /// The later of a cycle and that at a place.
-#[tactic(auto, using(crate::proofs::RowLemmas::later_past))]
+#[tactic(auto, using(crate::proofs::RowLemmas::later_is))]
 fn later(ages: &[u32], cycle: u32, place: u32) -> u32
     ensures { result ≡ later ages.now cycle place }
 {
-    if (place as usize) < ages.len() {
-        cycle.max(ages[place as usize])
-    } else {
-        cycle
-    }
+    cycle.max(age_at(ages, place))
 }
 
 /// The latest of the cycles at some places.

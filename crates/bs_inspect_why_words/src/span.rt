@@ -3,7 +3,7 @@ ghost use Rattle.std.specs.Prelude.{◌≡◌, ◌-◌, ◌++◌, length, take, 
 ghost use Rattle.std.specs.List.{flat_map};
 ghost use Rattle.bs_net.specs.Netlist.{parts_of};
 ghost use Rattle.bs_inspect_why_words.specs.Blocks.{Appends};
-ghost use Rattle.bs_inspect_why_words.specs.Groups.{group_line, groups_lines, rest_line, span_words, spans_words, AreGroups, TellsGroups};
+ghost use Rattle.bs_inspect_why_words.specs.Groups.{end_words, group_line, groups_lines, rest_line, span_words, spans_words, AreGroups, TellsGroups};
 
 use crate::group::{Group, Span, first_groups, group_spans, groups_of};
 use crate::reason::reasons;
@@ -13,17 +13,25 @@ use bs_net::Raw;
 use bs_net_facts::Fact;
 use std::alloc::Global;
 
+/// Appends the last of several cycles.
+fn push_end(text: &mut Vec<u8>, span: Span) -> Result<(), NoMemory>
+    ensures { OnOk result (text.new.items ≡ text.old.items ++ end_words span) }
+{
+    if span.from == span.to {
+        Ok(())
+    } else {
+        push_piece(text, b"..")?;
+        push_number(text, u64::from(span.to))
+    }
+}
+
 /// Appends cycles in a row.
 fn push_span(text: &mut Vec<u8>, span: Span) -> Result<(), NoMemory>
     ensures { OnOk result (text.new.items ≡ text.old.items ++ span_words span) }
 {
     push_piece(text, b" ")?;
     push_number(text, u64::from(span.from))?;
-    if span.from == span.to {
-        return Ok(());
-    }
-    push_piece(text, b"..")?;
-    push_number(text, u64::from(span.to))
+    push_end(text, span)
 }
 
 /// Appends spans.
@@ -141,5 +149,6 @@ pub(crate) fn push_by_cycles(
     ensures { OnOk result (Appends (TellsGroups (parts_of raw.now) lead.now facts_most most spans facts.now) text.old.items text.new.items) }
 {
     let groups = fact_groups(*text.allocator(), raw, facts, facts_most)?;
-    push_groups(text, lead, most, spans, groups.as_slice())
+    push_groups(text, lead, most, spans, groups.as_slice())?;
+    Ok(())
 }
