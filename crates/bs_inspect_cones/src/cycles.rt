@@ -10,7 +10,7 @@ pub(crate) fn bit_of(cycle: u32) -> u64 {
 }
 
 /// Whether a cycle is in a set.
-pub(crate) fn has(words: &[u64], cycle: u32) -> bool {
+pub fn has(words: &[u64], cycle: u32) -> bool {
     word_at(words, cycle / 64) & bit_of(cycle) != 0
 }
 
@@ -21,7 +21,7 @@ fn put_cycle(words: &mut Vec<u64>, cycle: u32) {
 }
 
 /// The cycles from one to before another.
-pub(crate) fn cycles_from(alloc: Global, first: u32, end: u32) -> Result<Vec<u64>, NoMemory> {
+pub fn cycles_from(alloc: Global, first: u32, end: u32) -> Result<Vec<u64>, NoMemory> {
     let mut words = zeros(alloc, end as usize / 64 + 1)?;
     'cycles: for cycle in first..end {
         put_cycle(&mut words, cycle);
@@ -30,7 +30,7 @@ pub(crate) fn cycles_from(alloc: Global, first: u32, end: u32) -> Result<Vec<u64
 }
 
 /// Takes cycles out of a set.
-pub(crate) fn take_out(words: &mut Vec<u64>, others: &[u64]) {
+pub fn take_out(words: &mut Vec<u64>, others: &[u64]) {
     'words: for i in 0..words.len() {
         if i < others.len() {
             words[i] = words[i] & !others[i];

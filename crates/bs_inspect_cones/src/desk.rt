@@ -9,24 +9,24 @@ use std::alloc::Global;
 
 /// What is noted of each net while facts are chosen.
 #[derive(Drop)]
-pub(crate) struct Desk {
+pub struct Desk {
     /// The cycles, of 64, at which given nets decide it.
-    pub(crate) known: Vec<u64>,
+    pub known: Vec<u64>,
     /// What it takes to decide it.
-    pub(crate) costs: Vec<u64>,
+    pub costs: Vec<u64>,
     /// Whether it is chosen, or decided by what is.
-    pub(crate) taken: Vec<bool>,
+    pub taken: Vec<bool>,
     /// Whether it is given. Constants always are.
-    pub(crate) given: Vec<bool>,
+    pub given: Vec<bool>,
     /// Whether the block is of it.
-    pub(crate) own: Vec<bool>,
+    pub own: Vec<bool>,
     /// Whether a pass over the block needs its gate.
-    pub(crate) used: Vec<bool>,
+    pub used: Vec<bool>,
 }
 
 impl Desk {
     /// Nothing, of so many nets.
-    pub(crate) fn new(alloc: Global, count: usize) -> Result<Desk, NoMemory> {
+    pub fn new(alloc: Global, count: usize) -> Result<Desk, NoMemory> {
         let known = zeros(alloc, count)?;
         let costs = zeros(alloc, count)?;
         let taken = lowered(alloc, count)?;
@@ -44,23 +44,23 @@ impl Desk {
     }
 
     /// Whether the block is of a net.
-    pub(crate) fn is_own(&self, net: u32) -> bool {
+    pub fn is_own(&self, net: u32) -> bool {
         is_up(self.own.as_slice(), net)
     }
 
     /// Whether a net is given.
-    pub(crate) fn is_given(&self, net: u32) -> bool {
+    pub fn is_given(&self, net: u32) -> bool {
         is_up(self.given.as_slice(), net)
     }
 
     /// Whether a net is chosen, or decided by what is.
-    pub(crate) fn is_taken(&self, net: u32) -> bool {
+    pub fn is_taken(&self, net: u32) -> bool {
         is_up(self.taken.as_slice(), net)
     }
 }
 
 /// Notes that a block is of these nets.
-pub(crate) fn note_own(desk: &mut Desk, nets: &[NetId]) {
+pub fn note_own(desk: &mut Desk, nets: &[NetId]) {
     'nets: for net in nets {
         put_flag(&mut desk.own, net.0, true);
     }
@@ -77,7 +77,7 @@ fn give_constant(scene: &Scene<'_>, desk: &mut Desk, net: u32) {
 }
 
 /// Gives the constants among some nets.
-pub(crate) fn give_constants(scene: &Scene<'_>, desk: &mut Desk, nets: &[u32]) {
+pub fn give_constants(scene: &Scene<'_>, desk: &mut Desk, nets: &[u32]) {
     'nets: for net in nets {
         give_constant(scene, desk, *net);
     }

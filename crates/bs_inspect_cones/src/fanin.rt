@@ -9,15 +9,15 @@ use std::alloc::Global;
 
 /// The nets below some nets, down to where a cone ends.
 #[derive(Drop)]
-pub(crate) struct Fanin {
+pub struct Fanin {
     /// All of them, the nearest first.
     nets: Vec<u32>,
     /// Whether a net is one of them, for each net.
     seen: Vec<bool>,
     /// Those at which the cone ends, the nearest first.
-    pub(crate) leaves: Vec<u32>,
+    pub leaves: Vec<u32>,
     /// The gates of the others, by number, in the netlist's order.
-    pub(crate) gates: Vec<u32>,
+    pub gates: Vec<u32>,
     /// Whether a net is one of the others, for each net.
     opened: Vec<bool>,
 }
@@ -129,7 +129,7 @@ fn fill(
 }
 
 /// The nets below some nets. The cone ends at these ends, and where no gate drives a net.
-pub(crate) fn fanin_of(
+pub fn fanin_of(
     alloc: Global,
     scene: &Scene<'_>,
     roots: &[u32],
@@ -142,7 +142,7 @@ pub(crate) fn fanin_of(
 
 impl Fanin {
     /// The gate of a net, unless the cone ends there.
-    pub(crate) fn gate<'s>(&self, scene: &'s Scene<'_>, net: u32) -> Option<&'s Gate> {
+    pub fn gate<'s>(&self, scene: &'s Scene<'_>, net: u32) -> Option<&'s Gate> {
         if is_up(self.opened.as_slice(), net) {
             scene.gate_of(NetId(net))
         } else {

@@ -8,7 +8,7 @@ use crate::view::View;
 use bs_net::{Gate, Kind, NetId};
 
 /// The bit of an input that decides a gate by itself, if there is one.
-pub(crate) fn deciding_bit(kind: Kind) -> Option<bool> {
+pub fn deciding_bit(kind: Kind) -> Option<bool> {
     match kind {
         Kind::And => Some(false),
         Kind::Nand => Some(false),
@@ -61,7 +61,7 @@ fn know_gate(view: &View<'_>, known: &mut Vec<u64>, number: u32) {
 }
 
 /// Notes at which moments the inputs decide some gates, one after another.
-pub(crate) fn know_gates(view: &View<'_>, desk: &mut Desk, numbers: &[u32]) {
+pub fn know_gates(view: &View<'_>, desk: &mut Desk, numbers: &[u32]) {
     'gates: for number in numbers {
         know_gate(view, &mut desk.known, *number);
     }
@@ -76,7 +76,7 @@ fn know_given(view: &View<'_>, desk: &mut Desk) {
 }
 
 /// Notes at which moments given nets decide each net of the fan-in.
-pub(crate) fn know_by_given(view: &View<'_>, desk: &mut Desk) {
+pub fn know_by_given(view: &View<'_>, desk: &mut Desk) {
     know_given(view, desk);
     know_gates(view, desk, view.fanin.gates.as_slice());
 }
@@ -90,7 +90,7 @@ fn told_at(view: &View<'_>, net: u32, cycle: u32) -> u64 {
 }
 
 /// Notes which nets of the fan-in the trace decides at a cycle. At the last moment no data input is told.
-pub(crate) fn know_by_trace(view: &View<'_>, desk: &mut Desk, cycle: u32) {
+pub fn know_by_trace(view: &View<'_>, desk: &mut Desk, cycle: u32) {
     'leaves: for net in view.fanin.leaves.as_slice() {
         put_word(&mut desk.known, *net, told_at(view, *net, cycle));
     }
@@ -98,17 +98,17 @@ pub(crate) fn know_by_trace(view: &View<'_>, desk: &mut Desk, cycle: u32) {
 }
 
 /// Whether a net is known at a moment.
-pub(crate) fn is_known(desk: &Desk, net: u32) -> bool {
+pub fn is_known(desk: &Desk, net: u32) -> bool {
     word_at(desk.known.as_slice(), net) != 0
 }
 
 /// Whether a net is known to have a bit at a moment.
-pub(crate) fn is_known_as(view: &View<'_>, desk: &Desk, net: u32, bit: bool) -> bool {
+pub fn is_known_as(view: &View<'_>, desk: &Desk, net: u32, bit: bool) -> bool {
     word_at(desk.known.as_slice(), net) & view.with_bit(net, bit) != 0
 }
 
 /// Whether the gate of a number is known at a moment.
-pub(crate) fn is_gate_known(view: &View<'_>, desk: &Desk, number: u32) -> bool {
+pub fn is_gate_known(view: &View<'_>, desk: &Desk, number: u32) -> bool {
     match numbered(view.gates, number) {
         Some(gate) => is_known(desk, gate.out.0),
         None => false,
@@ -128,7 +128,7 @@ fn note_gate(view: &View<'_>, desk: &mut Desk, number: u32) {
 }
 
 /// Notes that a pass over the block needs those of these gates that are known.
-pub(crate) fn note_gates(view: &View<'_>, desk: &mut Desk, numbers: &[u32]) {
+pub fn note_gates(view: &View<'_>, desk: &mut Desk, numbers: &[u32]) {
     'gates: for number in numbers {
         note_gate(view, desk, *number);
     }

@@ -1,32 +1,32 @@
-//! Which facts of a trace a block is told by: what set its bits, what has kept them, and the cone of both.
+//! The cones below nets of a trace, and what given nets decide in them.
 //!
-//! Modules: `tables` and `cycles` (flags and words by number, sets of cycles), `driver` (`Driver`: what drives each net), `shown`
-//! (every net's bits, 64 moments in a word), `scene` (`Scene`: a trace, and where cones end), `fanin` (the nets below some nets),
-//! `desk` and `view` (what is noted of nets, what a pass looks at), `known` (three values, at many moments at once), `need` (which
-//! nets decide what a flip-flop loads), `costs`, `walk` and `choice` (cheap sources that decide bits, none of which can be left out),
-//! `hold` (what keeps bits), `idle` and `rare` (what shows 1 and does not matter), `finding` and `proposal` (`propose`). Used above:
-//! nothing is promised of what is chosen. `is_block` (bs_net_facts) decides.
+//! Modules: `tables` and `cycles` (words and flags by number, sets of cycles), `driver` (`Driver`: what drives each net), `shown`
+//! (every net's bits, 64 moments in a word), `scene` (`Scene`: a trace, and where cones end), `fanin` (`Fanin`: the nets below some
+//! nets), `view` and `desk` (what a pass over them looks at, and what is noted of each net), `known` (what given nets decide: three
+//! values, at many moments at once), `need` (`Need`: which nets decide what a flip-flop loads). Used above: functions that are safe,
+//! of which nothing more is promised. What is chosen by them (bs_inspect_holds) is_block decides (bs_net_facts).
 #![tactic(auto)]
 
-mod choice;
-mod costs;
 mod cycles;
 mod desk;
 mod driver;
 mod fanin;
-mod finding;
-mod hold;
-mod idle;
 mod known;
 mod need;
-mod proposal;
-mod rare;
 mod scene;
 mod shown;
 mod tables;
 mod view;
-mod walk;
 
+pub use cycles::{cycles_from, has, take_out};
+pub use desk::{Desk, give_constants, note_own};
 pub use driver::Driver;
-pub use proposal::{Proposal, propose};
-pub use scene::Scene;
+pub use fanin::{Fanin, fanin_of};
+pub use known::{
+    deciding_bit, is_gate_known, is_known, is_known_as, know_by_given, know_by_trace, know_gates,
+    note_gates,
+};
+pub use need::{Need, all_kept, are_met, needs_of, roots_of};
+pub use scene::{Scene, numbered};
+pub use tables::{is_up, number_of, put_flag, put_flags, put_word, word_at};
+pub use view::{View, shows_one_at};

@@ -11,7 +11,7 @@ use std::alloc::Global;
 
 /// Which nets decide a bit.
 #[derive(Clone, Copy)]
-pub(crate) enum Need {
+pub enum Need {
     /// This net.
     One(u32),
     /// Both of these together.
@@ -57,11 +57,7 @@ fn need_of(view: &View<'_>, net: NetId) -> Need {
 }
 
 /// Which nets decide each of some nets at a moment, or what its flip-flop loads there.
-pub(crate) fn needs_of(
-    alloc: Global,
-    view: &View<'_>,
-    nets: &[NetId],
-) -> Result<Vec<Need>, NoMemory> {
+pub fn needs_of(alloc: Global, view: &View<'_>, nets: &[NetId]) -> Result<Vec<Need>, NoMemory> {
     let mut needs = Vec::new(alloc);
     'nets: for net in nets {
         needs.push(need_of(view, *net))?;
@@ -95,11 +91,7 @@ fn push_roots(scene: &Scene<'_>, roots: &mut Vec<u32>, net: NetId) -> Result<(),
 }
 
 /// Some nets, or the nets by which their flip-flops load their bits.
-pub(crate) fn roots_of(
-    alloc: Global,
-    scene: &Scene<'_>,
-    nets: &[NetId],
-) -> Result<Vec<u32>, NoMemory> {
+pub fn roots_of(alloc: Global, scene: &Scene<'_>, nets: &[NetId]) -> Result<Vec<u32>, NoMemory> {
     let mut roots = Vec::new(alloc);
     'nets: for net in nets {
         push_roots(scene, &mut roots, *net)?;
@@ -117,7 +109,7 @@ fn is_met(desk: &Desk, need: Need) -> bool {
 }
 
 /// Whether what is known at a moment decides all bits.
-pub(crate) fn are_met(desk: &Desk, needs: &[Need]) -> bool {
+pub fn are_met(desk: &Desk, needs: &[Need]) -> bool {
     'needs: for need in needs {
         if !is_met(desk, *need) {
             return false;
@@ -150,7 +142,7 @@ fn net_kept(view: &View<'_>, known: &[u64], net: NetId) -> u64 {
 }
 
 /// The moments at which the flip-flops of some nets load the bits that they have.
-pub(crate) fn all_kept(view: &View<'_>, known: &[u64], nets: &[NetId]) -> u64 {
+pub fn all_kept(view: &View<'_>, known: &[u64], nets: &[NetId]) -> u64 {
     let mut kept = view.cycles;
     'nets: for net in nets {
         kept = kept & net_kept(view, known, *net);

@@ -58,7 +58,7 @@ fn single_nets(alloc: Global, groups: &[u32]) -> Result<Vec<bool>, NoMemory> {
 }
 
 /// The gate of a number.
-pub(crate) fn numbered(gates: &[Gate], number: u32) -> Option<&Gate> {
+pub fn numbered(gates: &[Gate], number: u32) -> Option<&Gate> {
     if (number as usize) < gates.len() {
         Some(&gates[number as usize])
     } else {
@@ -104,7 +104,7 @@ impl<'a> Scene<'a> {
     }
 
     /// The number of the vector that a net is a bit of.
-    pub(crate) fn group(&self, net: u32) -> u32 {
+    pub fn group(&self, net: u32) -> u32 {
         if (net as usize) < self.groups.len() {
             self.groups[net as usize]
         } else {
@@ -113,12 +113,12 @@ impl<'a> Scene<'a> {
     }
 
     /// Whether a net is a vector by itself.
-    pub(crate) fn is_single(&self, net: u32) -> bool {
+    pub fn is_single(&self, net: u32) -> bool {
         is_up(self.single.as_slice(), net)
     }
 
     /// The number of nets.
-    pub(crate) fn nets(&self) -> usize {
+    pub fn nets(&self) -> usize {
         self.drivers.len()
     }
 
@@ -128,7 +128,7 @@ impl<'a> Scene<'a> {
     }
 
     /// The gates.
-    pub(crate) fn gates(&self) -> &[Gate] {
+    pub fn gates(&self) -> &[Gate] {
         self.netlist().raw().gates.slice()
     }
 
@@ -138,7 +138,7 @@ impl<'a> Scene<'a> {
     }
 
     /// The gate that drives a net.
-    pub(crate) fn gate_of(&self, net: NetId) -> Option<&Gate> {
+    pub fn gate_of(&self, net: NetId) -> Option<&Gate> {
         match self.driver(net) {
             Driver::Gate(number) => self.gate(number),
             Driver::Flop(_) => None,
@@ -158,7 +158,7 @@ impl<'a> Scene<'a> {
     }
 
     /// The flip-flop that drives a net.
-    pub(crate) fn flop_of(&self, net: NetId) -> Option<Flop> {
+    pub fn flop_of(&self, net: NetId) -> Option<Flop> {
         match self.driver(net) {
             Driver::Flop(number) => self.flop(number),
             Driver::Gate(_) => None,
@@ -183,7 +183,7 @@ impl<'a> Scene<'a> {
     }
 
     /// A word for each net, of the 64 moments among which one is.
-    pub(crate) fn shown(&self, cycle: u32) -> &[u64] {
+    pub fn shown(&self, cycle: u32) -> &[u64] {
         row_at(&self.rows, cycle)
     }
 }

@@ -16,7 +16,7 @@ pub(crate) fn lowered(alloc: Global, count: usize) -> Result<Vec<bool>, NoMemory
 }
 
 /// The word at a place.
-pub(crate) fn word_at(words: &[u64], place: u32) -> u64 {
+pub fn word_at(words: &[u64], place: u32) -> u64 {
     if (place as usize) < words.len() {
         words[place as usize]
     } else {
@@ -25,14 +25,14 @@ pub(crate) fn word_at(words: &[u64], place: u32) -> u64 {
 }
 
 /// Writes the word at a place.
-pub(crate) fn put_word(words: &mut Vec<u64>, place: u32, word: u64) {
+pub fn put_word(words: &mut Vec<u64>, place: u32, word: u64) {
     if (place as usize) < words.len() {
         words[place as usize] = word;
     }
 }
 
 /// Whether the flag at a place is up.
-pub(crate) fn is_up(flags: &[bool], place: u32) -> bool {
+pub fn is_up(flags: &[bool], place: u32) -> bool {
     if (place as usize) < flags.len() {
         flags[place as usize]
     } else {
@@ -41,21 +41,21 @@ pub(crate) fn is_up(flags: &[bool], place: u32) -> bool {
 }
 
 /// Writes the flag at a place.
-pub(crate) fn put_flag(flags: &mut Vec<bool>, place: u32, up: bool) {
+pub fn put_flag(flags: &mut Vec<bool>, place: u32, up: bool) {
     if (place as usize) < flags.len() {
         flags[place as usize] = up;
     }
 }
 
 /// Writes the flags at some places.
-pub(crate) fn put_flags(flags: &mut Vec<bool>, places: &[u32], up: bool) {
+pub fn put_flags(flags: &mut Vec<bool>, places: &[u32], up: bool) {
     'places: for place in places {
         put_flag(flags, *place, up);
     }
 }
 
 /// A place as a number, and the greatest number for those that are too great.
-pub(crate) fn number_of(place: usize) -> u32 {
+pub fn number_of(place: usize) -> u32 {
     if place < u32::MAX as usize {
         place as u32
     } else {

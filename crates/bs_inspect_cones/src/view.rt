@@ -8,27 +8,22 @@ use bs_net::Gate;
 
 /// What a pass over a fan-in looks at: a word for each net, of 64 moments, and which of these moments.
 #[derive(Drop)]
-pub(crate) struct View<'a> {
-    pub(crate) scene: &'a Scene<'a>,
-    pub(crate) fanin: &'a Fanin,
-    pub(crate) gates: &'a [Gate],
-    pub(crate) shown: &'a [u64],
-    pub(crate) cycles: u64,
+pub struct View<'a> {
+    pub scene: &'a Scene<'a>,
+    pub fanin: &'a Fanin,
+    pub gates: &'a [Gate],
+    pub shown: &'a [u64],
+    pub cycles: u64,
 }
 
 impl<'a> View<'a> {
     /// What a pass over one moment looks at.
-    pub(crate) fn of_cycle(scene: &'a Scene<'a>, fanin: &'a Fanin, cycle: u32) -> View<'a> {
+    pub fn of_cycle(scene: &'a Scene<'a>, fanin: &'a Fanin, cycle: u32) -> View<'a> {
         View::of_word(scene, fanin, cycle, bit_of(cycle))
     }
 
     /// What a pass over some moments looks at, which are of the 64 among which one is.
-    pub(crate) fn of_word(
-        scene: &'a Scene<'a>,
-        fanin: &'a Fanin,
-        cycle: u32,
-        cycles: u64,
-    ) -> View<'a> {
+    pub fn of_word(scene: &'a Scene<'a>, fanin: &'a Fanin, cycle: u32, cycles: u64) -> View<'a> {
         View {
             scene,
             fanin,
@@ -39,7 +34,7 @@ impl<'a> View<'a> {
     }
 
     /// The moments at which a net has this bit.
-    pub(crate) fn with_bit(&self, net: u32, bit: bool) -> u64 {
+    pub fn with_bit(&self, net: u32, bit: bool) -> u64 {
         let word = word_at(self.shown, net);
         if bit {
             word & self.cycles
@@ -49,12 +44,12 @@ impl<'a> View<'a> {
     }
 
     /// Whether a net shows 1 at a moment.
-    pub(crate) fn shows_one(&self, net: u32) -> bool {
+    pub fn shows_one(&self, net: u32) -> bool {
         self.with_bit(net, true) != 0
     }
 }
 
 /// Whether a net shows 1 at a cycle.
-pub(crate) fn shows_one_at(scene: &Scene<'_>, net: u32, cycle: u32) -> bool {
+pub fn shows_one_at(scene: &Scene<'_>, net: u32, cycle: u32) -> bool {
     word_at(scene.shown(cycle), net) & bit_of(cycle) != 0
 }

@@ -1,13 +1,9 @@
 //! What shows 1 at few of the cycles in which a block's bits are kept, and does not matter.
 
-use crate::cycles::has;
-use crate::desk::Desk;
 use crate::hold::{Hold, Site, give_nets};
 use crate::idle::{is_beside, push_ones, shares_vector, unforced};
-use crate::scene::Scene;
-use crate::tables::{number_of, word_at};
-use crate::view::shows_one_at;
 use bs_bits::{List, NoMemory};
+use bs_inspect_cones::{Desk, Scene, has, number_of, shows_one_at, word_at};
 use bs_net_facts::Fact;
 use std::alloc::Global;
 

@@ -1,11 +1,8 @@
 //! A walk from what is needed down to the sources that decide it at least cost.
 
 use crate::costs::{cheaper, cheapest_input, cheapest_need, price};
-use crate::desk::Desk;
-use crate::need::Need;
-use crate::tables::{put_flag, put_flags};
-use crate::view::View;
 use bs_bits::NoMemory;
+use bs_inspect_cones::{Desk, Need, View, put_flag, put_flags};
 use bs_net::{Gate, NetId};
 use std::alloc::Global;
 

@@ -1,15 +1,11 @@
 //! What keeps the bits of flip-flops: sets of sources, each at all cycles at which it does.
 
 use crate::choice::choose;
-use crate::cycles::{cycles_from, has, take_out};
-use crate::desk::Desk;
-use crate::fanin::Fanin;
-use crate::known::{know_by_given, note_gates};
-use crate::need::all_kept;
-use crate::scene::Scene;
-use crate::tables::{number_of, put_flag, put_flags};
-use crate::view::View;
 use bs_bits::NoMemory;
+use bs_inspect_cones::{
+    Desk, Fanin, Scene, View, all_kept, cycles_from, has, know_by_given, note_gates, number_of,
+    put_flag, put_flags, take_out,
+};
 use bs_net::NetId;
 use std::alloc::Global;
 

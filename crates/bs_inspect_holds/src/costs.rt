@@ -1,11 +1,6 @@
 //! What it takes to decide each net at a moment: the least sum of sources, up the cone.
 
-use crate::desk::Desk;
-use crate::known::{deciding_bit, is_known_as};
-use crate::need::Need;
-use crate::scene::numbered;
-use crate::tables::{put_word, word_at};
-use crate::view::View;
+use bs_inspect_cones::{Desk, Need, View, deciding_bit, is_known_as, numbered, put_word, word_at};
 use bs_net::{Gate, NetId};
 
 /// What a source costs. A gate on the way to it costs 1.

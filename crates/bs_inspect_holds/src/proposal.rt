@@ -2,8 +2,8 @@
 ghost use Rattle.std.specs.Prelude.{◌≡◌, map, IfOk};
 
 use crate::finding::{Facts, Finding, finding_of};
-use crate::scene::Scene;
 use bs_bits::{List, NoMemory};
+use bs_inspect_cones::Scene;
 use bs_net::NetId;
 use bs_net_facts::{Block, Cone, Fact};
 use std::alloc::Global;

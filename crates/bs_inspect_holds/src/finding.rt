@@ -1,18 +1,14 @@
 //! What is found of some nets at a moment.
 
 use crate::choice::choose;
-use crate::cycles::{cycles_from, has};
-use crate::desk::{Desk, give_constants, note_own};
-use crate::driver::Driver;
-use crate::fanin::{Fanin, fanin_of};
 use crate::hold::{Hold, Site, hold_since};
 use crate::idle::push_idle;
-use crate::need::roots_of;
 use crate::rare::{Kept, push_rare};
-use crate::scene::{Scene, numbered};
-use crate::tables::{is_up, put_flag};
-use crate::view::View;
 use bs_bits::{List, NoMemory};
+use bs_inspect_cones::{
+    Desk, Driver, Fanin, Scene, View, cycles_from, fanin_of, give_constants, has, is_up, note_own,
+    numbered, put_flag, roots_of,
+};
 use bs_net::NetId;
 use bs_net_facts::{Cone, Fact, Moments};
 use std::alloc::Global;

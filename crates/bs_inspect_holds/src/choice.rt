@@ -1,12 +1,11 @@
 //! Which sources decide the bits of a block at a moment: cheap ones, without those that can be left out.
 
-use crate::desk::Desk;
-use crate::known::{is_gate_known, is_known, know_by_given, know_by_trace, know_gates, note_gates};
-use crate::need::{Need, are_met, needs_of};
-use crate::tables::{put_flags, put_word};
-use crate::view::View;
 use crate::walk::cheapest_sources;
 use bs_bits::NoMemory;
+use bs_inspect_cones::{
+    Desk, Need, View, are_met, is_gate_known, is_known, know_by_given, know_by_trace, know_gates,
+    needs_of, note_gates, put_flags, put_word,
+};
 use bs_net::NetId;
 use std::alloc::Global;
 

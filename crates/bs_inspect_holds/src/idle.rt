@@ -1,13 +1,9 @@
 //! What shows 1 below a block, is not forced by its facts, and does not matter.
 
-use crate::desk::{Desk, give_constants};
-use crate::driver::Driver;
-use crate::fanin::{Fanin, fanin_of};
-use crate::known::{is_known, know_by_given};
-use crate::scene::Scene;
-use crate::tables::put_flags;
-use crate::view::View;
 use bs_bits::{List, NoMemory};
+use bs_inspect_cones::{
+    Desk, Driver, Fanin, Scene, View, fanin_of, give_constants, is_known, know_by_given, put_flags,
+};
 use bs_net::NetId;
 use bs_net_facts::Fact;
 use std::alloc::Global;
