@@ -75,7 +75,7 @@ fn gate_below(scene: &Scene<'_>, ends: &[bool], net: u32) -> Option<u32> {
 }
 
 /// Puts in what is below a net by its gate. The gate goes by its place in the netlist's order.
-fn open(scene: &Scene<'_>, fanin: &mut Fanin, net: u32, number: u32) -> Result<(), NoMemory> {
+fn enter(scene: &Scene<'_>, fanin: &mut Fanin, net: u32, number: u32) -> Result<(), NoMemory> {
     put_flag(&mut fanin.opened, net, true);
     fanin.gates.push(scene.rank(number))?;
     match scene.gate(number) {
@@ -87,7 +87,7 @@ fn open(scene: &Scene<'_>, fanin: &mut Fanin, net: u32, number: u32) -> Result<(
 /// Puts in what is below a net.
 fn visit(scene: &Scene<'_>, ends: &[bool], fanin: &mut Fanin, net: u32) -> Result<(), NoMemory> {
     match gate_below(scene, ends, net) {
-        Some(number) => open(scene, fanin, net, number),
+        Some(number) => enter(scene, fanin, net, number),
         None => {
             fanin.leaves.push(net)?;
             Ok(())

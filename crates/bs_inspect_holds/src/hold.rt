@@ -31,43 +31,43 @@ pub(crate) fn give_nets(desk: &mut Desk, nets: &[NetId], given: bool) {
     }
 }
 
-/// The open ones of 64 cycles at which given nets keep the bits.
-fn kept_word(site: &Site<'_>, desk: &mut Desk, first: u32, open: u64) -> u64 {
-    if open == 0 {
+/// Those that are left of 64 cycles at which given nets keep the bits.
+fn kept_word(site: &Site<'_>, desk: &mut Desk, first: u32, left: u64) -> u64 {
+    if left == 0 {
         return 0;
     }
-    let view = View::of_word(site.scene, site.fanin, first, open);
+    let view = View::of_word(site.scene, site.fanin, first, left);
     know_by_given(&view, desk);
     note_gates(&view, desk, site.fanin.gates.as_slice());
     all_kept(&view, desk.known.as_slice(), site.nets)
 }
 
-/// The open cycles at which given nets keep the bits.
+/// The cycles that are left at which given nets keep the bits.
 fn kept_words(
     alloc: Global,
     site: &Site<'_>,
     desk: &mut Desk,
-    open: &[u64],
+    left: &[u64],
 ) -> Result<Vec<u64>, NoMemory> {
     let mut kept = Vec::new(alloc);
-    'words: for i in 0..open.len() {
+    'words: for i in 0..left.len() {
         let first = number_of(i).saturating_mul(64);
-        kept.push(kept_word(site, desk, first, open[i]))?;
+        kept.push(kept_word(site, desk, first, left[i]))?;
     }
     Ok(kept)
 }
 
-/// The open cycles at which sources keep the bits.
+/// The cycles that are left at which sources keep the bits.
 fn kept_by(
     alloc: Global,
     site: &Site<'_>,
     desk: &mut Desk,
     sources: &[u32],
-    open: &[u64],
+    left: &[u64],
 ) -> Result<Vec<u64>, NoMemory> {
     put_flags(&mut desk.given, sources, true);
     give_nets(desk, site.nets, true);
-    let kept = kept_words(alloc, site, desk, open)?;
+    let kept = kept_words(alloc, site, desk, left)?;
     put_flags(&mut desk.given, sources, false);
     give_nets(desk, site.nets, false);
     Ok(kept)
@@ -87,25 +87,25 @@ fn others_of(alloc: Global, desk: &Desk, sources: &[u32]) -> Result<Vec<u32>, No
 /// Puts in a hold, unless it does not keep the bits at a cycle. It gives whether it does.
 fn push_hold(
     holds: &mut Vec<Hold>,
-    open: &mut Vec<u64>,
+    left: &mut Vec<u64>,
     cycle: u32,
     hold: Hold,
 ) -> Result<bool, NoMemory> {
     if !has(hold.cycles.as_slice(), cycle) {
         return Ok(false);
     }
-    take_out(open, hold.cycles.as_slice());
+    take_out(left, hold.cycles.as_slice());
     holds.push(hold)?;
     Ok(true)
 }
 
-/// Sources that keep the bits at a cycle, and at which of the open cycles they do. None of them comes where other sources set the
-/// bits once more.
+/// Sources that keep the bits at a cycle, with the cycles that are left at which they do; nothing where other sources set the bits
+/// once more.
 fn hold_at(
     alloc: Global,
     site: &Site<'_>,
     desk: &mut Desk,
-    open: &[u64],
+    left: &[u64],
     cycle: u32,
 ) -> Result<Option<Hold>, NoMemory> {
     let view = View::of_cycle(site.scene, site.fanin, cycle);
@@ -114,7 +114,7 @@ fn hold_at(
     if nets.len() == chosen.len() {
         return Ok(None);
     }
-    let cycles = kept_by(alloc, site, desk, nets.as_slice(), open)?;
+    let cycles = kept_by(alloc, site, desk, nets.as_slice(), left)?;
     Ok(Some(Hold { nets, cycles }))
 }
 
@@ -123,30 +123,31 @@ fn keep(
     alloc: Global,
     site: &Site<'_>,
     desk: &mut Desk,
-    open: &mut Vec<u64>,
+    left: &mut Vec<u64>,
     holds: &mut Vec<Hold>,
     cycle: u32,
 ) -> Result<bool, NoMemory> {
-    match hold_at(alloc, site, desk, open.as_slice(), cycle)? {
-        Some(hold) => push_hold(holds, open, cycle, hold),
+    match hold_at(alloc, site, desk, left.as_slice(), cycle)? {
+        Some(hold) => push_hold(holds, left, cycle, hold),
         None => Ok(false),
     }
 }
 
-/// Keeps the bits at each open cycle before one, the latest first, and so on to the cycle behind which they are set.
+/// Keeps the bits at each cycle that is left, the latest first, down to one at which they are set. It gives the cycle behind that, or
+/// the first one.
 fn keep_all(
     alloc: Global,
     site: &Site<'_>,
     desk: &mut Desk,
-    open: &mut Vec<u64>,
+    left: &mut Vec<u64>,
     holds: &mut Vec<Hold>,
     first: u32,
     end: u32,
 ) -> Result<u32, NoMemory> {
     'cycles: for back in 0..end.saturating_sub(first) {
         let cycle = end - 1 - back;
-        if has(open.as_slice(), cycle) {
-            if !keep(alloc, site, desk, open, holds, cycle)? {
+        if has(left.as_slice(), cycle) {
+            if !keep(alloc, site, desk, left, holds, cycle)? {
                 return Ok(cycle + 1);
             }
         }
@@ -164,6 +165,6 @@ pub(crate) fn hold_since(
     first: u32,
     end: u32,
 ) -> Result<u32, NoMemory> {
-    let mut open = cycles_from(alloc, first, end)?;
-    keep_all(alloc, site, desk, &mut open, holds, first, end)
+    let mut left = cycles_from(alloc, first, end)?;
+    keep_all(alloc, site, desk, &mut left, holds, first, end)
 }

@@ -135,8 +135,10 @@ fn push_nets(
 ) -> Result<usize, NoMemory> {
     let mut left = room;
     'rare: for one in rare {
-        if left > 0 && one.ones == ones && push_net(alloc, kept, desk, one.net, idle)? {
-            left -= 1;
+        if left > 0 && one.ones == ones {
+            if push_net(alloc, kept, desk, one.net, idle)? {
+                left -= 1;
+            }
         }
     }
     Ok(left)
