@@ -1,12 +1,9 @@
 -- What is so of each value at which a plan ends is so of the one at which it did.
-use Rattle.std.proofs.Common.{◌≡◌, ℕ, List, refl, sym, subst, inl, inr, ◌⊎◌, Result, Ok, Err}
-use Rattle.bs_top_plan.specs.declared.file.File.{File}
+use Rattle.std.proofs.Common.{◌≡◌, ℕ, List, refl, sym, subst, inl, inr}
 use Rattle.bs_top_plan.specs.declared.file.File.TheVariants as files
-use Rattle.bs_top_plan.specs.Plan.{Tells, Counts, Reason, Plan, fetch, refuse, end, ◌>>=◌, read_as, PlanOutcome, ready, refused, faulted, Ends}
+use Rattle.bs_top_plan.specs.Plan.{Tells, Counts, Plan, fetch, refuse, end, ◌>>=◌, read_as, ready, Ends}
 use Rattle.bs_top_plan.proofs.Plans.{ready_same}
-use Rattle.bs_net.specs.Parts.{Parts}
 use Rattle.bs_top_files.specs.Entry.{netlist_of}
-use Rattle.bs_top_files.specs.Refusals.{Case}
 use Rattle.bs_target.specs.Target.{Target, room_in, state_in, target_of}
 
 -- each value at which the plan may end has this
@@ -23,16 +20,10 @@ each_then P (fetch w next) f h = λ bytes. each_then P (next bytes) f h
 ended_has : {R V : Type 0} (P : V → Type 0) (told : Tells) (before now : Counts) (plan : Plan R V) (v : V) → EachEnd P plan →
     Ends told before now plan (ready v) → P v
 ended_has {R} {V} P told before now (end u) v h e = subst P (sym (ready_same R V v u e)) h
-ended_has P told before now (refuse file why) v h e = cc
-ended_has P told before now (fetch w next) v h (inl e) = ended_has P told before now (next e.0) v (h e.0) e.2
-ended_has P told before now (fetch w next) v h (inr (inl e)) = absurd (never_refused e.1)
-  where
-    never_refused : {file : File} {why : Reason _} → ready v ≡ refused file why → ⊥
-    never_refused e = cc
-ended_has P told before now (fetch w next) v h (inr (inr e)) = absurd (never_faulted e.1)
-  where
-    never_faulted : {file : File} → ready v ≡ faulted file → ⊥
-    never_faulted e = cc
+ended_has P told before now (refuse file why) v h e = absurd (cc)
+ended_has P told before now (fetch w next) v h (inl (bytes, comes, rest)) = ended_has P told before now (next bytes) v (h bytes) rest
+ended_has P told before now (fetch w next) v h (inr (inl (over, ended))) = absurd (cc)
+ended_has P told before now (fetch w next) v h (inr (inr (rose, ended))) = absurd (cc)
 
 -- a target has the cycles that were asked for
 pub target_cycles : (told : Tells) (before now : Counts) (netlist state : List ℕ) (cycles : ℕ) (target : Target) →
