@@ -1,5 +1,5 @@
 //! Whether a trace leads on.
-ghost use Rattle.std.specs.Prelude.{◌≡◌, ◌<◌, ◌↔◌, length, IsTrue, IfOk, MatchOption};
+ghost use Rattle.std.specs.Prelude.{◌≡◌, ◌<◌, ◌+◌, ◌^◌, ◌↔◌, length, IsTrue, IfOk, MatchOption};
 ghost use Rattle.bs_net.specs.Circuit.{next};
 ghost use Rattle.bs_net.specs.Netlist.{circuit};
 ghost use Rattle.bs_net_facts.specs.Facts.{IsWayOf};
@@ -27,6 +27,7 @@ fn leads(sim: &mut Sim<'_>, state: &Bits, input: &Bits, after: &Bits) -> bool
 fn leads_at(sim: &mut Sim<'_>, states: &List<Bits>, inputs: &List<Bits>, place: usize) -> bool
     requires way { IsWayOf (circuit sim.old.net) states.now inputs.now }
     requires there { place < length inputs.now }
+    requires small { place + 1 < 2 ^ 64 }
     ensures net { sim.new.net ≡ sim.old.net }
     ensures same { IsTrue result ↔ LeadsAt (circuit sim.old.net) states.now inputs.now place }
 {

@@ -5,7 +5,7 @@ use Rattle.bs_inspect_causes.proofs.account.causes_of.Goals as goal
 
 pub given-preserved : goal.given-preserved
 given-preserved c =
-    kind_more (is_cause c.args.block.now) c.args.given.now c.given.fact-index _ _ _ _ (omega (arith, c.given-test.true)) c.is_cause.ensures
+    kind_more (is_cause c.args.block.now) c.args.given.now c.given.fact-index _ _ _ _ (omega (arith, c.given-test.true)) c.is_cause-cause.ensures
     c.in_ok-push_wanted.ensures c.given.invariant
 
 pub returns : goal.returns
