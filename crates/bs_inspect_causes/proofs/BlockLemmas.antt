@@ -44,7 +44,7 @@ forces_early m d at flop t ready lt (inr h) = omega (arith, h.0, lt, ready.way.o
 
 -- ---- a unit
 
-no_fact : Fact
+pub no_fact : Fact
 no_fact = record { net = record { 0 = 0 }; cycle = 0; bit = false }
 
 pub unit_there : (m : Seen) (d : Drivers) (at : ℕ) (flop : Bool) (facts : List Fact) → IsUnit m d at flop facts → at < length m.states
@@ -72,11 +72,11 @@ lasting_one at facts h =
 
 -- ---- nets that are shown alike
 
-head_of : List Bool → Bool
+abbrev head_of : List Bool → Bool
 head_of [] = false
 head_of (b ∷ bs) = b
 
-tail_of : List Bool → List Bool
+abbrev tail_of : List Bool → List Bool
 tail_of [] = []
 tail_of (b ∷ bs) = bs
 

@@ -56,6 +56,6 @@ next_more m d accounts i a layer old new lt is at each asks before =
     record {
       real = All-contains (IsRealIn m) a.block.given f account.block.real own;
       driven = asks.driven k x less;
-      given = record { account = a; among = (i, (lt, sym is)); of_layer = at; given = own };
+      given = record { account = a; among = (i, lt, sym is); of_layer = at; given = own };
     } in
     subst (λ (fs : List Fact). All (IsNext m d accounts layer) fs) (sym asks.are) (All-append (IsNext m d accounts layer) old asks.more before after)

@@ -44,7 +44,7 @@ fits_moment m d t ready lt =
     let one =
     exactly_one_fits (circuit m.net) (get_or m.states t []) (get_or m.inputs t []) ready.drivers.checked
     (state_wide m d t ready (in_states m d t ready lt)) (input_wide m d t ready lt) in
-    (one.0, one.1.0)
+    (one.0, one.1)
 
 pub at_moment : (m : Seen) (t : ℕ) (v : List Bool) → Fits (circuit m.net) (get_or m.states t []) (get_or m.inputs t []) v →
     FitsMoment (circuit m.net) m.states m.inputs t v

@@ -3,7 +3,7 @@ ghost use Rattle.std.specs.Prelude.{◌≡◌, ◌≤◌, ◌+◌, false, All, I
 ghost use Rattle.bs_net.specs.Netlist.{circuit};
 ghost use Rattle.bs_net_facts.specs.Facts.{IsWayOf, IsReal};
 ghost use Rattle.bs_inspect_causes.specs.Accounts.{Explain, LeadsOn, has_net};
-ghost use Rattle.bs_inspect_causes.specs.Layers.{AreDue, AreDrivers, ExplainSoFar, IsReady};
+ghost use Rattle.bs_inspect_causes.specs.Layers.{AreDue, ExplainSoFar, IsReady};
 
 use crate::account::Account;
 use crate::drivers::Drivers;
@@ -15,8 +15,59 @@ use bs_inspect_cones::Scene;
 use bs_net_facts::Fact;
 use std::alloc::Global;
 
+/// Tells due facts in a layer.
+#[tactic(auto, using(crate::proofs::ExplainLemmas::explain_more))]
+fn tell_due(
+    alloc: Global,
+    scene: &Scene<'_>,
+    drivers: &Drivers,
+    memory: &mut Memory,
+    asked: &[Fact],
+    accounts: &mut List<Account>,
+    facts: Vec<Fact>,
+    layer: u32,
+) -> Result<(), NoMemory>
+    requires ready { IsReady scene.now.moments.now drivers.now }
+    requires so_far { ExplainSoFar scene.now.moments.now asked.now layer accounts.old }
+    requires due { AreDue scene.now.moments.now drivers.now asked.now layer accounts.old facts.items }
+    ensures { OnOk result (ExplainSoFar scene.now.moments.now asked.now (layer + 1) accounts.new) }
+{
+    let _ = asked;
+    tell_facts(alloc, scene, drivers, memory, accounts, facts, layer)?;
+    Ok(())
+}
+
+/// The facts that are due in the layer behind one, whose accounts stand from a place on.
+#[tactic(auto, using(crate::proofs::ExplainLemmas::each_in, crate::proofs::ExplainLemmas::next_due))]
+fn due_next(
+    alloc: Global,
+    scene: &Scene<'_>,
+    drivers: &Drivers,
+    memory: &mut Memory,
+    asked: &[Fact],
+    accounts: &List<Account>,
+    from: usize,
+    layer: u32,
+    all: bool,
+) -> Result<Vec<Fact>, NoMemory>
+    requires { ExplainSoFar scene.now.moments.now asked.now (layer + 1) accounts.now }
+    ensures { IfOk result (λ next. AreDue scene.now.moments.now drivers.now asked.now (layer + 1) accounts.now next.items) }
+{
+    let _ = asked;
+    let next = further_facts(
+        alloc,
+        scene,
+        drivers,
+        memory,
+        accounts.slice(),
+        from,
+        layer,
+        all,
+    )?;
+    Ok(next)
+}
+
 /// Tells due facts in a layer, and gives those that are due in the next one.
-#[tactic(auto, using(crate::proofs::ExplainLemmas::explain_more, crate::proofs::ExplainLemmas::each_account, crate::proofs::ExplainLemmas::next_due))]
 fn tell_layer(
     alloc: Global,
     scene: &Scene<'_>,
@@ -34,19 +85,12 @@ fn tell_layer(
     ensures so_far { OnOk result (ExplainSoFar scene.now.moments.now asked.now (layer + 1) accounts.new) }
     ensures due { IfOk result (λ next. AreDue scene.now.moments.now drivers.now asked.now (layer + 1) accounts.new next.items) }
 {
-    let _ = asked;
     let from = accounts.len();
-    tell_facts(alloc, scene, drivers, memory, accounts, facts, layer)?;
-    further_facts(
-        alloc,
-        scene,
-        drivers,
-        memory,
-        accounts.slice(),
-        from,
-        layer,
-        all,
-    )
+    tell_due(alloc, scene, drivers, memory, asked, accounts, facts, layer)?;
+    let next = due_next(
+        alloc, scene, drivers, memory, asked, accounts, from, layer, all,
+    )?;
+    Ok(next)
 }
 
 /// Tells due facts in so many layers.

@@ -1,5 +1,5 @@
 //! The accounts of one layer.
-ghost use Rattle.std.specs.Prelude.{◌≡◌, ◌<◌, ◌≤◌, false, length, All, OnOk, slice_range};
+ghost use Rattle.std.specs.Prelude.{◌≡◌, false, All, OnOk, slice_range};
 ghost use Rattle.bs_inspect_causes.specs.Layers.{IsReady, IsRealIn, IsUnit, IsUnitAt, Tells, marks_net};
 
 use crate::account::Account;

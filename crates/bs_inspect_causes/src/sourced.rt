@@ -1,5 +1,5 @@
 //! A block by all flip-flops and data inputs of a cycle, which always force it.
-ghost use Rattle.std.specs.Prelude.{◌≡◌, ◌<◌, ◌+◌, ◌^◌, length, IfOk, MatchOption};
+ghost use Rattle.std.specs.Prelude.{◌≡◌, ◌<◌, ◌+◌, length, IfOk, MatchOption};
 ghost use Rattle.bs_net.specs.Netlist.{circuit};
 ghost use Rattle.bs_net_facts.specs.Blocks.{IsBlock};
 ghost use Rattle.bs_inspect_causes.specs.Layers.{ForcesAt, IsReady, IsUnit};
