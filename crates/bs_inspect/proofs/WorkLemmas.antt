@@ -83,6 +83,12 @@ work_status (to_why q trace_files) status text done = ap is_work_status done.ans
     by (why.Text t) = refl
     by (why.Denied denial) = refl
 
+-- a question whose number of layers is this
+pub question_is : (q : Question) (depth : ℕ) → depth ≡ q.depth →
+    record { name = q.name; at = q.at; depth = depth; flops = q.flops; all = q.all; csv = q.csv } ≡ q
+question_is q depth e =
+    λ i. record { name = q.name; at = q.at; depth = e i; flops = q.flops; all = q.all; csv = q.csv }
+
 -- an answer to `why`
 pub reasons_told : (q : Question) (t : TraceFiles) (answer : Why) (status : Status) (text : List ℕ) → Answers t.raw t.report q answer →
     status ≡ why_status answer → text ≡ why_text answer → TellsReasons q t status text

@@ -420,6 +420,7 @@ pub(crate) fn tell_novel(alloc: Global, one_run: &OneRun, most: u64) -> Result<R
 }
 
 /// What is asked of a trace.
+#[tactic(auto, using(crate::proofs::WorkLemmas::question_is))]
 fn question_of<'a>(asked: &WhyRequest<'a>) -> Question<'a>
     ensures is { question_in result ≡ question_of (why_in asked.now) }
     ensures some { 1 ≤ result.depth }

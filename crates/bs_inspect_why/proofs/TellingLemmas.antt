@@ -110,7 +110,7 @@ Stands count p = p.place < count
 made_there : (accounts : List Account) (chains : List Chain) (count : ℕ) → All (Stands count) (places_of accounts chains count)
 made_there accounts chains count = λ k d lt.
     let there : k < count = omega (arith, lt, length-map-range_with_len (place_of accounts chains) 0 count) in
-    subst (Stands count) (sym (get_or-map-range_with_len (place_of accounts chains) 0 count k k d there refl)) there
+    subst (Stands count) (sym (get_or-map-range_with_len (place_of accounts chains) 0 count k k d there (let z : 0 + k ≡ k = omega arith in z))) there
 
 pub place_there : (accounts : List Account) (chains : List Chain) (ordered : List Place) (i : ℕ) (p : Place) → ArePlaces accounts chains ordered →
     i < length ordered → p ≡ get_or ordered i p → p.place < length chains

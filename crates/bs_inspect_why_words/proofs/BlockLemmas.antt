@@ -96,7 +96,7 @@ stretch_real c states inputs facts part begins j h e =
 
 pub block_told : (m : Seen) (r : Report) (limits : Limits) (steps : ℕ) (first last : Episode) (t₀ t₁ t₂ t₃ t₄ : List ℕ) →
     Appends (TellsHead m r steps first last) t₀ t₁ → Appends (TellsCauses m limits last.causes) t₁ t₂ →
-    Appends (TellsGroups m.net.raw (codes "    kept by ") limits.all limits.reasons limits.spans first.holds) t₂ t₃ →
+    Appends (TellsGroups m.net.raw (codes "    kept by ") limits.held limits.reasons limits.spans first.holds) t₂ t₃ →
     Appends (TellsGroups m.net.raw (codes "    whatever ") limits.idle limits.reasons limits.spans last.idle) t₃ t₄ →
     Appends (TellsBlock m r limits steps first last) t₀ t₄
 block_told m r limits steps first last t₀ t₁ t₂ t₃ t₄ head causes kept idle = record {

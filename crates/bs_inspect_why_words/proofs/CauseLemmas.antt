@@ -74,7 +74,7 @@ olds_placed shares cycle bits signals bit rows olds e h =
 made_placed : (ages : List ℕ) (signals : List Signal) (count : ℕ) → All (Placed count) (rows_of ages signals count)
 made_placed ages signals count = λ k d lt.
     let there : k < count = omega (arith, lt, length-map-range_with_len (row_of ages signals) 0 count) in
-    subst (Placed count) (sym (get_or-map-range_with_len (row_of ages signals) 0 count k k d there refl)) there
+    subst (Placed count) (sym (get_or-map-range_with_len (row_of ages signals) 0 count k k d there (let z : 0 + k ≡ k = omega arith in z))) there
 
 pub placed_of : (c : Circuit) (states inputs : List (List Bool)) (facts : List Fact) (signals : List CodeSignal) (rows : List Row) →
     HasRows c states inputs facts (map signal_in signals) rows → All (λ r. r.place < length signals) rows

@@ -1,6 +1,6 @@
 -- Cycles of which the same is told.
 use Rattle.std.proofs.Common.{◌≡◌, ℕ, ◌<◌, ◌≤◌, ◌+◌, List, [], ◌∷◌, ◌++◌, length, take, get_or, set, refl, ap, sym, subst, ◌∙◌, arith, Option, Some, None}
-use Rattle.std.specs.Prelude.{◌==◌, Bool, true, false, if◌then◌else◌}
+use Rattle.std.specs.Prelude.{◌==◌, Bool, true, false, IfSome, if◌then◌else◌}
 use Rattle.std.specs.List.{position}
 use Rattle.std.specs.Str.{bytes_eq}
 use Rattle.std.proofs.lemmas.List.{get_or_default, length-take}
@@ -36,23 +36,31 @@ pub place_is : (groups few : List Group) (words : List ℕ) (found : Option ℕ)
     found ≡ position (λ g. bytes_eq g.words words) few → found ≡ place_of groups words
 place_is groups few words found e is = is ∙ ap (position (λ (g : Group). bytes_eq g.words words)) e
 
-pub place_there : (groups : List Group) (words : List ℕ) (found : Option ℕ) (i : ℕ) (d : Group) → found ≡ place_of groups words → found ≡ Some i →
-    i < length groups
-place_there groups words found i d e is =
-    let at = position-Some (λ (g : Group). bytes_eq g.words words) (take MAX_APART groups) i d (sym e ∙ is) in
-    omega (arith, at.0, length-take MAX_APART groups)
+pub place_there : (groups slice : List Group) (words given : List ℕ) (found : Option ℕ) → slice ≡ groups → given ≡ words →
+    found ≡ place_of slice given → IfSome found (λ i. i < length groups)
+place_there groups slice words given None same e is = tt
+place_there groups slice words given (Some i) same e is =
+    let at = position-Some (λ (g : Group). bytes_eq g.words given) (take MAX_APART slice) i none (sym is) in
+    let long : length slice ≡ length groups = ap length same in
+    omega (arith, at.0, length-take MAX_APART slice, long)
+  where
+    none : Group
+    none = made [] [] 0 0
 
-pub join_some : (groups after : List Group) (r : Reason) (found : Option ℕ) (i : ℕ) (old new : Group) → found ≡ place_of groups r.words →
-    found ≡ Some i → i < length groups → old ≡ get_or groups i old → new ≡ longer old r.cycle → after ≡ set groups i new → after ≡ joined groups r
-join_some groups after r found i old new e is lt at grows goes =
+pub grown : (groups after : List Group) (r : Reason) (i : ℕ) (old new : Group) → i < length groups → old ≡ get_or groups i old →
+    new ≡ longer old r.cycle → after ≡ set groups i new → after ≡ joined_at (Some i) groups r
+grown groups after r i old new lt at grows goes =
+    goes ∙ ap (set groups i) (grows ∙ ap (λ (g : Group). longer g r.cycle) (at ∙ get_or_default groups i old (single r) lt))
+
+pub put_alone : (groups after : List Group) (r : Reason) (g : Group) → g ≡ single r → after ≡ groups ++ g ∷ [] → after ≡ joined_at None groups r
+put_alone groups after r g alone goes = goes ∙ ap (λ (x : Group). groups ++ x ∷ []) alone
+
+pub joined_by : (groups slice after : List Group) (given : List ℕ) (r : Reason) (found : Option ℕ) → slice ≡ groups → given ≡ r.words →
+    found ≡ place_of slice given → after ≡ joined_at found groups r → after ≡ joined groups r
+joined_by groups slice after given r found same e is goes =
     goes
-    ∙ (ap (set groups i) (grows ∙ ap (λ (g : Group). longer g r.cycle) (at ∙ get_or_default groups i old (single r) lt))
-    ∙ ap (λ (o : Option ℕ). joined_at o groups r) (sym is ∙ e))
-
-pub join_none : (groups after : List Group) (r : Reason) (found : Option ℕ) (g : Group) → found ≡ place_of groups r.words → found ≡ None →
-    g ≡ single r → after ≡ groups ++ g ∷ [] → after ≡ joined groups r
-join_none groups after r found g e is alone goes =
-    goes ∙ (ap (λ (x : Group). groups ++ x ∷ []) alone ∙ ap (λ (o : Option ℕ). joined_at o groups r) (sym is ∙ e))
+    ∙ ap (λ (o : Option ℕ). joined_at o groups r)
+    (is ∙ (ap (λ (gs : List Group). place_of gs given) same ∙ ap (place_of groups) e))
 
 pub groups_more : (reasons : List Reason) (i : ℕ) (d : Reason) (groups after : List Group) → i < length reasons → groups ≡ groups_of (take i reasons) →
     after ≡ joined groups (get_or reasons i d) → after ≡ groups_of (take (i + 1) reasons)

@@ -1,7 +1,8 @@
 -- The first line of a block.
-use Rattle.std.proofs.Common.{◌≡◌, ℕ, ◌<◌, ◌≤◌, ◌+◌, ◌-◌, Bool, false, List, [], ◌∷◌, ◌++◌, length, get_or, refl, ap, sym, subst, ◌∙◌, ◌⊎◌, inl, inr, arith, zero, suc}
+use Rattle.std.proofs.Common.{◌≡◌, ◌≢◌, ℕ, ◌<◌, ◌≤◌, ◌+◌, ◌-◌, Bool, false, List, [], ◌∷◌, ◌++◌, length, get_or, refl, ap, sym, subst, ◌∙◌, ◌⊎◌, inl, inr, arith, zero, suc}
 use Rattle.std.specs.List.{All}
-use Rattle.std.proofs.lemmas.Bool.{cases_lt}
+use Rattle.std.specs.Prelude.{◌==◌, if◌then◌else◌}
+use Rattle.std.proofs.lemmas.Bool.{cases_lt, ne_eqb}
 use Rattle.std.proofs.lemmas.List.{get_or_append_left, get_or_default, get_or_push, length_push}
 use Rattle.bs_net.specs.Circuit.{Circuit}
 use Rattle.bs_net.specs.Netlist.{circuit}
@@ -55,8 +56,9 @@ befores_none c states inputs facts since befores none e =
 
 pub befores_all : (c : Circuit) (states inputs : List (List Bool)) (facts : List Fact) (since : ℕ) (befores : List Bool) → 0 < since →
     AreBefore c states inputs facts since (length facts) befores → AreBefore c states inputs facts since (before_count since facts) befores
-befores_all c states inputs facts zero befores some are = absurd (omega (arith, some))
-befores_all c states inputs facts (suc n) befores some are = are
+befores_all c states inputs facts since befores some are =
+    let other : since ≢ 0 = λ none. omega (arith, some, none) in
+    subst (λ (b : Bool). AreBefore c states inputs facts since (if b then 0 else length facts) befores) (sym (ne_eqb since 0 other)) are
 
 -- ---- the line
 

@@ -1,5 +1,6 @@
 -- How far back a net has its bit.
 use Rattle.std.proofs.Common.{◌≡◌, ◌≢◌, ℕ, ◌<◌, ◌≤◌, ◌+◌, ◌-◌, Bool, true, false, not, List, [], ◌∷◌, ◌++◌, length, get_or, refl, ap, sym, subst, ◌∙◌, ◌⊎◌, inl, inr, ⊎_elim, arith}
+use Rattle.std.specs.Bool.{beq}
 use Rattle.std.specs.List.{All}
 use Rattle.std.proofs.lemmas.Bool.{cases_eq, cases_lt}
 use Rattle.std.proofs.lemmas.List.{get_or_append_left, get_or_default, get_or_push, length_push}
@@ -8,7 +9,7 @@ use Rattle.bs_net.specs.declared.net.NetId.{NetId}
 use Rattle.bs_net_facts.specs.declared.fact.Fact.{Fact}
 use Rattle.bs_net_facts.specs.Facts.{IsReal, IsWayOf}
 use Rattle.bs_net_facts.specs.Blocks.{moved}
-use Rattle.bs_inspect_why_words.specs.Since.{AreAges, Stands, StoodSince, turned}
+use Rattle.bs_inspect_why_words.specs.Since.{AreAges, Stands, StoodSince, Turns}
 
 pub bit_known : (nets cycles net cycle : ℕ) → net < nets → cycle < cycles → (nets ≤ net) ⊎ (cycles ≤ cycle) → ⊥
 bit_known nets cycles net cycle below in_time (inl le) = absurd (omega (arith, below, le))
@@ -31,37 +32,50 @@ stands_begin c states inputs f real = record {
       subst (λ (u : ℕ). IsReal c states inputs (moved u f)) (sym same) real;
 }
 
-same_bit : (b bit : Bool) (n : NetId) (t : ℕ) (P : Fact → Type 0) → P (record { net = n; cycle = t; bit = b }) → b ≡ bit → P (record { net = n; cycle = t; bit = bit })
-same_bit b bit n t P h e = subst (λ (x : Bool). P (record { net = n; cycle = t; bit = x })) e h
-
-pub stands_more : (c : Circuit) (states inputs : List (List Bool)) (f : Fact) (k since : ℕ) (bit : Bool) → k < f.cycle → since ≡ f.cycle - k →
-    IsReal c states inputs (record { net = f.net; cycle = since - 1; bit = bit }) → bit ≡ f.bit → Stands c states inputs f (f.cycle - k) →
-    Stands c states inputs f (f.cycle - (k + 1))
-stands_more c states inputs f k since bit lt e real same stands = record {
+pub stands_more : (c : Circuit) (states inputs : List (List Bool)) (f : Fact) (k since : ℕ) (changed : Bool) → k < f.cycle → since ≡ f.cycle - k →
+    Turns c states inputs f since changed → changed ≡ false → Stands c states inputs f (f.cycle - k) → Stands c states inputs f (f.cycle - (k + 1))
+stands_more c states inputs f k since changed lt e turns off stands = record {
   in_order = omega arith;
   each = λ t ge le.
       ⊎_elim
-      (λ (here : t ≡ since - 1).
-      subst (λ (u : ℕ). IsReal c states inputs (moved u f)) (sym here) (same_bit bit f.bit f.net (since - 1) (IsReal c states inputs) real same))
+      (λ (here : t ≡ since - 1). subst (λ (u : ℕ). IsReal c states inputs (moved u f)) (sym here) (turns.if_false off))
       (λ (other : t ≡ since - 1 → ⊥).
       let apart : t ≢ since - 1 = other in
-      stands.each t (omega (arith, ge, le, lt, e, apart)) le)
+      let low : f.cycle - k ≤ t = omega (arith, ge, le, lt, e, apart) in
+      stands.each t low le)
       (cases_eq t (since - 1));
 }
 
-other_bit : (b bit : Bool) → (b ≡ bit → ⊥) → b ≡ not bit
-other_bit true true h = absurd (h refl)
-other_bit true false h = refl
-other_bit false true h = refl
-other_bit false false h = absurd (h refl)
+same_bit : (b own : Bool) → not (beq b own) ≡ false → b ≡ own
+same_bit true true e = refl
+same_bit false false e = refl
+same_bit true false e = absurd cc
+same_bit false true e = absurd cc
 
-pub stood_here : (c : Circuit) (states inputs : List (List Bool)) (f : Fact) (k since : ℕ) (bit : Bool) → since ≡ f.cycle - k →
-    IsReal c states inputs (record { net = f.net; cycle = since - 1; bit = bit }) → (bit ≢ f.bit) → Stands c states inputs f (f.cycle - k) →
-    StoodSince c states inputs f since
-stood_here c states inputs f k since bit e real other stands = record {
-  stands = subst (Stands c states inputs f) (sym e) stands;
-  began = inr (same_bit bit (not f.bit) f.net (since - 1) (IsReal c states inputs) real (other_bit bit f.bit other));
+other_bit : (b own : Bool) → not (beq b own) ≡ true → b ≡ not own
+other_bit true false e = refl
+other_bit false true e = refl
+other_bit true true e = absurd cc
+other_bit false false e = absurd cc
+
+bits_turn : (c : Circuit) (states inputs : List (List Bool)) (f : Fact) (since : ℕ) (bit : Bool) →
+    IsReal c states inputs (record { net = f.net; cycle = since - 1; bit = bit }) → Turns c states inputs f since (not (beq bit f.bit))
+bits_turn c states inputs f since bit real = record {
+  if_true = λ is. subst At (other_bit bit f.bit is) real;
+  if_false = λ is. subst At (same_bit bit f.bit is) real;
 }
+  where
+    At : Bool → Type 0
+    At b = IsReal c states inputs (record { net = f.net; cycle = since - 1; bit = b })
+
+pub turns_is : (c : Circuit) (states inputs : List (List Bool)) (f : Fact) (since : ℕ) (bit result : Bool) →
+    IsReal c states inputs (record { net = f.net; cycle = since - 1; bit = bit }) → result ≡ not (beq bit f.bit) → Turns c states inputs f since result
+turns_is c states inputs f since bit result real e = subst (Turns c states inputs f since) (sym e) (bits_turn c states inputs f since bit real)
+
+pub stood_here : (c : Circuit) (states inputs : List (List Bool)) (f : Fact) (k since : ℕ) (changed : Bool) → since ≡ f.cycle - k →
+    Turns c states inputs f since changed → changed ≡ true → Stands c states inputs f (f.cycle - k) → StoodSince c states inputs f since
+stood_here c states inputs f k since changed e turns is stands =
+    record { stands = subst (Stands c states inputs f) (sym e) stands; began = inr (turns.if_true is) }
 
 pub stood_all : (c : Circuit) (states inputs : List (List Bool)) (f : Fact) (k : ℕ) → f.cycle ≤ k → Stands c states inputs f (f.cycle - k) →
     StoodSince c states inputs f 0
@@ -78,13 +92,15 @@ real_here c states inputs facts i f real lt e = subst (IsReal c states inputs) (
 pub ages_begin : (c : Circuit) (states inputs : List (List Bool)) (facts : List Fact) (ages : List ℕ) → ages ≡ [] → AreAges c states inputs facts 0 ages
 ages_begin c states inputs facts ages e = record { size = ap length e; each = λ i d lt. absurd (omega (arith, lt)) }
 
-pub ages_more : (c : Circuit) (states inputs : List (List Bool)) (facts : List Fact) (i : ℕ) (f : Fact) (since : ℕ) (ages : List ℕ) → i < length facts →
-    f ≡ get_or facts i f → AreAges c states inputs facts i ages → StoodSince c states inputs f since →
-    AreAges c states inputs facts (i + 1) (ages ++ since ∷ [])
-ages_more c states inputs facts i f since ages lt at are stood = record {
-  size = length_push ages since ∙ (let h : length ages + 1 ≡ i + 1 = omega (arith, are.size) in h);
-  each = λ j d less. by j d less (cases_lt j i);
-}
+pub ages_more : (c : Circuit) (states inputs : List (List Bool)) (facts : List Fact) (i : ℕ) (f : Fact) (since : ℕ) (ages after : List ℕ) → i < length facts →
+    f ≡ get_or facts i f → AreAges c states inputs facts i ages → StoodSince c states inputs f since → after ≡ ages ++ since ∷ [] →
+    AreAges c states inputs facts (i + 1) after
+ages_more c states inputs facts i f since ages after lt at are stood goes =
+    subst (AreAges c states inputs facts (i + 1)) (sym goes)
+    (record {
+      size = length_push ages since ∙ (let h : length ages + 1 ≡ i + 1 = omega (arith, are.size) in h);
+      each = λ j d less. by j d less (cases_lt j i);
+    })
   where
     by : (j : ℕ) (d : Fact) → j < i + 1 → (j < i) ⊎ (i ≤ j) → StoodSince c states inputs (get_or facts j d) (get_or (ages ++ since ∷ []) j 0)
     by j d less (inl before) =

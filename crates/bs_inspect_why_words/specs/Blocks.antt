@@ -40,6 +40,6 @@ pub record TellsBlock (m : Seen) (r : Report) (limits : Limits) (steps : ℕ) (f
   pub idle : List ℕ
   pub tells_head : TellsHead m r steps first last head
   pub tells_causes : TellsCauses m limits last.causes causes
-  pub tells_kept : TellsGroups m.net.raw (codes "    kept by ") limits.all limits.reasons limits.spans first.holds kept
+  pub tells_kept : TellsGroups m.net.raw (codes "    kept by ") limits.held limits.reasons limits.spans first.holds kept
   pub tells_idle : TellsGroups m.net.raw (codes "    whatever ") limits.idle limits.reasons limits.spans last.idle idle
   pub says : text ≡ head ++ (causes ++ (kept ++ idle))

@@ -71,15 +71,18 @@ value_behind bits s = codes " " ++ value_text (signal_bits bits s.places)
 abbrev pub values_words : List Bool → List Signal → List ℕ
 values_words bits signals = flat_map (value_behind bits) signals
 
--- a chain of so many steps from its first value
+abbrev pub at_words : ℕ → List ℕ
+at_words cycle = codes " at " ++ decimal cycle
+
+-- a chain of so many steps from its first value, with its cycle
 abbrev pub steps_words : ℕ → List Signal → List Bool → ℕ → List ℕ
-steps_words steps signals befores since =
-    codes ", in " ++ (decimal steps ++ (codes " steps from" ++ (values_words befores signals ++ (codes " at " ++ decimal (since - 1)))))
+steps_words steps signals befores cycle =
+    codes ", in " ++ (decimal steps ++ (codes " steps from" ++ (values_words befores signals ++ at_words cycle)))
 
 -- a chain, or the value before
 abbrev pub from_words : ℕ → List Signal → (bits befores : List Bool) → ℕ → List ℕ
 from_words steps signals bits befores since =
-    if nat_lt 1 steps then steps_words steps signals befores since
+    if nat_lt 1 steps then steps_words steps signals befores (since - 1)
     else (if bits_eq befores bits then codes ", as before" else codes ", before" ++ values_words befores signals)
 
 abbrev pub before_words : ℕ → List Signal → (bits befores : List Bool) → ℕ → List ℕ

@@ -61,13 +61,13 @@ fn push_kept(
     limits: Limits,
     facts: &[Fact],
 ) -> Result<(), NoMemory>
-    ensures { OnOk result (Appends (TellsGroups moments.now.net.raw (codes "    kept by ") limits.all limits.reasons limits.spans facts.now) text.old.items text.new.items) }
+    ensures { OnOk result (Appends (TellsGroups moments.now.net.raw (codes "    kept by ") limits.held limits.reasons limits.spans facts.now) text.old.items text.new.items) }
 {
     push_by_cycles(
         text,
         moments.net().raw(),
         b"    kept by ",
-        limits.all,
+        limits.held,
         limits.reasons,
         limits.spans,
         facts,

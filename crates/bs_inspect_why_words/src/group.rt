@@ -1,8 +1,8 @@
 //! Cycles of which the same is told.
-ghost use Rattle.std.specs.Prelude.{◌≡◌, take, IfOk, OnOk};
+ghost use Rattle.std.specs.Prelude.{◌≡◌, ◌<◌, length, take, IfOk, IfSome, OnOk, None, Some};
 ghost use Rattle.std.specs.List.{position};
 ghost use Rattle.std.specs.Str.{bytes_eq};
-ghost use Rattle.bs_inspect_why_words.specs.Groups.{group_spans, groups_of, joined, longer, place_of, single};
+ghost use Rattle.bs_inspect_why_words.specs.Groups.{group_spans, groups_of, joined, joined_at, longer, place_of, single};
 
 use crate::limits::MAX_APART;
 use crate::reason::Reason;
@@ -85,22 +85,50 @@ fn place_of(groups: &[Group], words: &[u8]) -> Option<usize>
     place_in(first_groups(groups, MAX_APART), words)
 }
 
+/// Puts a reason to the group at a place.
+#[tactic(auto, using(crate::proofs::GroupLemmas::grown))]
+fn grow(groups: &mut Vec<Group>, place: usize, reason: &Reason) -> Result<(), NoMemory>
+    requires { place < length groups.old.items }
+    ensures { OnOk result (groups.new.items ≡ joined_at (Some place) groups.old.items reason.now) }
+{
+    add_cycle(&mut groups[place], reason.cycle)?;
+    Ok(())
+}
+
+/// Puts a reason at the end as a group of its own.
+#[tactic(auto, using(crate::proofs::GroupLemmas::put_alone))]
+fn push_alone(alloc: Global, groups: &mut Vec<Group>, reason: &Reason) -> Result<(), NoMemory>
+    ensures { OnOk result (groups.new.items ≡ joined_at None groups.old.items reason.now) }
+{
+    let group = single(alloc, reason)?;
+    groups.push(group)?;
+    Ok(())
+}
+
+/// Puts a reason to the group at a place, or at the end as one of its own.
+fn join_at(
+    alloc: Global,
+    groups: &mut Vec<Group>,
+    found: Option<usize>,
+    reason: &Reason,
+) -> Result<(), NoMemory>
+    requires { IfSome found (λ place. place < length groups.old.items) }
+    ensures { OnOk result (groups.new.items ≡ joined_at found groups.old.items reason.now) }
+{
+    match found {
+        Some(place) => grow(groups, place, reason),
+        None => push_alone(alloc, groups, reason),
+    }
+}
+
 /// Puts a reason to the group with its words, or at the end as one of its own.
-#[tactic(auto, using(crate::proofs::GroupLemmas::place_there, crate::proofs::GroupLemmas::join_some, crate::proofs::GroupLemmas::join_none))]
+#[tactic(auto, using(crate::proofs::GroupLemmas::place_there, crate::proofs::GroupLemmas::joined_by))]
 fn join(alloc: Global, groups: &mut Vec<Group>, reason: &Reason) -> Result<(), NoMemory>
     ensures { OnOk result (groups.new.items ≡ joined groups.old.items reason.now) }
 {
-    match place_of(groups.as_slice(), reason.words.slice()) {
-        Some(place) => {
-            add_cycle(&mut groups[place], reason.cycle)?;
-            Ok(())
-        }
-        None => {
-            let group = single(alloc, reason)?;
-            groups.push(group)?;
-            Ok(())
-        }
-    }
+    let found = place_of(groups.as_slice(), reason.words.slice());
+    join_at(alloc, groups, found, reason)?;
+    Ok(())
 }
 
 /// The groups of reasons.

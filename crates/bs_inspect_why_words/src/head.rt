@@ -3,7 +3,7 @@ ghost use Rattle.std.specs.Prelude.{◌≡◌, ◌<◌, ◌≤◌, ◌+◌, ◌^
 ghost use Rattle.bs_net.specs.Netlist.{circuit};
 ghost use Rattle.bs_net_names.specs.Signals.{signal_in};
 ghost use Rattle.bs_inspect_why_words.specs.Blocks.{Appends};
-ghost use Rattle.bs_inspect_why_words.specs.Heads.{AreBefore, before_count, before_words, episode_in, from_words, head_line, hit_moment, moment_words, since_words, step_moment, steps_words, TellsHead, TellsHeadOf, value_behind, values_words};
+ghost use Rattle.bs_inspect_why_words.specs.Heads.{AreBefore, at_words, before_count, before_words, episode_in, from_words, head_line, hit_moment, moment_words, since_words, step_moment, steps_words, TellsHead, TellsHeadOf, value_behind, values_words};
 
 use crate::episode::Episode;
 use crate::key::{fact_bits, fact_signals};
@@ -89,24 +89,30 @@ fn push_values(text: &mut Vec<u8>, bits: &Bits, signals: &[Signal<'_>]) -> Resul
     Ok(())
 }
 
-/// Appends the first value of a chain.
+/// Appends a cycle.
+fn push_at(text: &mut Vec<u8>, cycle: u32) -> Result<(), NoMemory>
+    ensures { OnOk result (text.new.items ≡ text.old.items ++ at_words cycle) }
+{
+    push_piece(text, b" at ")?;
+    push_number(text, u64::from(cycle))
+}
+
+/// Appends the first value of a chain, and its cycle.
 fn push_steps(
     text: &mut Vec<u8>,
     steps: usize,
     signals: &[Signal<'_>],
     befores: &Bits,
-    since: u32,
+    cycle: u32,
 ) -> Result<(), NoMemory>
-    requires narrow { All (λ s. length s.places < 2 ^ 32) signals.now }
-    requires since { 0 < since }
-    ensures { OnOk result (text.new.items ≡ text.old.items ++ steps_words steps (map signal_in signals.now) befores.now since) }
+    requires { All (λ s. length s.places < 2 ^ 32) signals.now }
+    ensures { OnOk result (text.new.items ≡ text.old.items ++ steps_words steps (map signal_in signals.now) befores.now cycle) }
 {
     push_piece(text, b", in ")?;
     push_number(text, steps as u64)?;
     push_piece(text, b" steps from")?;
     push_values(text, befores, signals)?;
-    push_piece(text, b" at ")?;
-    push_number(text, u64::from(since - 1))
+    push_at(text, cycle)
 }
 
 /// Appends the first value of a chain of so many steps, or the value before.
@@ -123,7 +129,7 @@ fn push_from(
     ensures { OnOk result (text.new.items ≡ text.old.items ++ from_words steps (map signal_in signals.now) bits.now befores.now since) }
 {
     if 1 < steps {
-        return push_steps(text, steps, signals, befores, since);
+        return push_steps(text, steps, signals, befores, since - 1);
     }
     if befores.equals(bits) {
         return push_piece(text, b", as before");

@@ -22,7 +22,7 @@ pub struct Limits {
     /// Facts of a cycle that did not matter.
     pub idle: usize,
     /// Facts of a cycle that kept the bits.
-    pub all: usize,
+    pub held: usize,
 }
 
 /// How much is told, by whether all is.
@@ -36,7 +36,7 @@ pub fn limits_of(all: bool) -> Limits
             reasons: usize::MAX,
             spans: usize::MAX,
             idle: usize::MAX,
-            all: usize::MAX,
+            held: usize::MAX,
         };
     }
     Limits {
@@ -45,6 +45,6 @@ pub fn limits_of(all: bool) -> Limits
         reasons: 5,
         spans: 3,
         idle: 5,
-        all: usize::MAX,
+        held: usize::MAX,
     }
 }

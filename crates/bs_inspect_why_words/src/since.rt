@@ -1,8 +1,9 @@
 //! Since when nets have had their bits.
-ghost use Rattle.std.specs.Prelude.{◌≡◌, ◌<◌, length, All, IfOk, slice_index_or};
+ghost use Rattle.std.specs.Prelude.{◌≡◌, ◌<◌, ◌-◌, not, length, All, IfOk};
+ghost use Rattle.std.specs.Bool.{beq};
 ghost use Rattle.bs_net.specs.Netlist.{circuit};
 ghost use Rattle.bs_net_facts.specs.Facts.{IsReal, IsWayOf};
-ghost use Rattle.bs_inspect_why_words.specs.Since.{AreAges, StoodSince, Stands};
+ghost use Rattle.bs_inspect_why_words.specs.Since.{AreAges, StoodSince, Turns};
 
 use bs_bits::NoMemory;
 use bs_net::NetId;
@@ -22,6 +23,25 @@ pub(crate) fn known_bit(moments: &Moments<'_>, net: NetId, cycle: u32) -> bool
     }
 }
 
+/// Whether two bits are others.
+fn differ(one: bool, other: bool) -> bool
+    ensures { result ≡ not (beq one other) }
+{
+    one != other
+}
+
+/// Whether the net of a fact has the other bit in the cycle before one.
+#[tactic(auto, using(crate::proofs::SinceLemmas::turns_is))]
+fn turns(moments: &Moments<'_>, fact: Fact, since: u32) -> bool
+    requires net { fact.net.0 < (circuit moments.now.net).nets }
+    requires some { 0 < since }
+    requires cycle { since - 1 < length moments.now.inputs }
+    ensures { Turns (circuit moments.now.net) moments.now.states moments.now.inputs fact since result }
+{
+    let bit = known_bit(moments, fact.net, since - 1);
+    differ(bit, fact.bit)
+}
+
 /// Since when the net of a fact has had its bit.
 #[tactic(auto, using(crate::proofs::SinceLemmas::stands_begin, crate::proofs::SinceLemmas::stands_more, crate::proofs::SinceLemmas::stood_all, crate::proofs::SinceLemmas::stood_here, crate::proofs::SinceLemmas::net_there, crate::proofs::SinceLemmas::cycle_there))]
 fn stood_since(moments: &Moments<'_>, fact: Fact) -> u32
@@ -31,7 +51,8 @@ fn stood_since(moments: &Moments<'_>, fact: Fact) -> u32
 {
     'cycles: for k in 0..fact.cycle {
         let since = fact.cycle - k;
-        if known_bit(moments, fact.net, since - 1) != fact.bit {
+        let changed = turns(moments, fact, since);
+        if changed {
             return since;
         }
     }
@@ -51,7 +72,9 @@ pub(crate) fn ages(
 {
     let mut ages = Vec::new(alloc);
     'facts: for i in 0..facts.len() {
-        ages.push(stood_since(moments, facts[i]))?;
+        let fact = facts[i];
+        let since = stood_since(moments, fact);
+        ages.push(since)?;
     }
     Ok(ages)
 }
