@@ -76,7 +76,7 @@ all_unlisted c choice shows presents step q h states s x low at finished wide bl
 -- ---- what steps assume
 
 module _ (c : Circuit) (choice : Chosen) (tidy : IsTidy c choice (encoding_by c choice)) (presents : List Present) where
-  p : Problem
+  abbrev pub p : Problem
   p = (basis_of c choice presents).problem
 
   led_by : (step : ℕ) (o : Option Present) → slice_get presents (step - 1) ≡ o → 1 ≤ step → step ≤ length p.steps → IsLed p step

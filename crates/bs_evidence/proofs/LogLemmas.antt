@@ -18,7 +18,7 @@ use Rattle.bs_log_dimacs.specs.Law.{IsFinishAt}
 use Rattle.bs_log_dimacs.specs.Walk.{problem_in, IsAsked, IsOneOf, IsProvable}
 use Rattle.bs_log_dimacs.proofs.Laws.{right_lines}
 use Rattle.bs_log_whole.specs.declared.asked.WholeLog.{WholeLog}
-use Rattle.bs_log_whole.specs.Walk.{problem_in as whole_problem, IsReady, IsSmall}
+use Rattle.bs_log_whole.specs.Walk.{problem_in as whole_problem, IsWritable, IsSmall}
 use Rattle.bs_evidence.specs.declared.evidence.Format.{Format}
 use Rattle.bs_evidence.specs.Evidence.{is_short, text_of, ShowsStep}
 
@@ -96,9 +96,9 @@ is_small p log short =
       lines = ltb-true (length log) FEW later.1;
     }
 
-pub is_ready : (w : WholeLog) (p : Problem) (log : List Line) → whole_problem w ≡ p → w.lines.now ≡ log → p.vars + length p.steps < VARIABLE_LIMIT →
-    IsAccepted p log → is_short p log None ≡ true → IsReady w
-is_ready w p log problem lines room ok short =
+pub is_writable : (w : WholeLog) (p : Problem) (log : List Line) → whole_problem w ≡ p → w.lines.now ≡ log → p.vars + length p.steps < VARIABLE_LIMIT →
+    IsAccepted p log → is_short p log None ≡ true → IsWritable w
+is_writable w p log problem lines room ok short =
     let vars : (whole_problem w).vars ≡ p.vars = ap (λ (q : Problem). q.vars) problem in
     let many : length (whole_problem w).steps ≡ length p.steps = ap (λ (q : Problem). length q.steps) problem in
     record {

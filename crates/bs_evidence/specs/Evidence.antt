@@ -1,5 +1,5 @@
 -- The evidence for a list of a report or for all of them, and why there is none.
-use Rattle.std.specs.Prelude.{◌≡◌, ◌≢◌, ◌↔◌, ◌⊎◌, ℕ, ◌+◌, ◌-◌, ◌<◌, ◌≤◌, ◌^◌, List, ◌∷◌, length, map, take, All, Contains, Some, None, Option, slice_get}
+use Rattle.std.specs.Prelude.{◌≡◌, ◌≢◌, ◌↔◌, ◌⊎◌, ℕ, ◌+◌, ◌-◌, ◌<◌, ◌≤◌, ◌^◌, List, [], ◌∷◌, length, map, take, All, Contains, Some, None, Option, slice_get, unwrap_or}
 use Rattle.std.specs.Prelude.{Bool, true, false, ◌==◌, ◌&&◌, nat_lt, nat_le, if◌then◌else◌, is_none, is_some, IsTrue, IfSome}
 use Rattle.std.specs.List.{list_all}
 use Rattle.bs_clause.specs.Literal.{Literal, Clause, negation, Satisfies}
@@ -10,7 +10,7 @@ use Rattle.bs_scan.specs.Signature.{agrees}
 use Rattle.bs_log.specs.declared.line.Line.{Line}
 use Rattle.bs_log.specs.FirstRefused.{first_refused}
 use Rattle.bs_log.specs.History.{Problem, History, activation_of}
-use Rattle.bs_log.specs.Refusal.{IsAccepted, history_of, assumptions_of}
+use Rattle.bs_log.specs.Refusal.{IsAccepted, history_of}
 use Rattle.bs_log.specs.Refutation.{blocks_of}
 use Rattle.bs_log_dimacs.specs.Cnf.{cnf_of, cnf_text}
 use Rattle.bs_log_dimacs.specs.Law.{IsFinishAt, HasNoFinish}
@@ -87,14 +87,14 @@ abbrev pub whole_text_of : Format → Problem → History → List ℕ
 whole_text_of Clauses p h = whole_cnf_text p h
 whole_text_of Proof p h = whole_lrat_text p h
 
--- what is asked for assumes less than 2^32 literals a step
-abbrev pub assumes_few : Problem → Option ℕ → Bool
-assumes_few p (Some step) = nat_lt (length (assumptions_of p step)) FEW
-assumes_few p None = list_all (λ c. nat_lt (length c) FEW) p.steps
+-- what is asked for assumes less than 2^32 literals a step, where these are the assumptions of each step
+abbrev pub assumes_few : List Clause → Option ℕ → Bool
+assumes_few steps (Some step) = nat_lt (length (unwrap_or (slice_get steps (step - 1)) [])) FEW
+assumes_few steps None = list_all (λ c. nat_lt (length c) FEW) steps
 
 -- all parts have fewer members than 2^32
 abbrev pub is_short : Problem → List Line → Option ℕ → Bool
-is_short p log asked = nat_lt (length p.clauses) FEW && (assumes_few p asked && nat_lt (length log) FEW)
+is_short p log asked = nat_lt (length p.clauses) FEW && (assumes_few p.steps asked && nat_lt (length log) FEW)
 
 -- the log is accepted and finishes the step, and this is the text
 pub record ShowsStep (kind : Format) (p : Problem) (log : List Line) (step : ℕ) (text : List ℕ) : Type 0 where

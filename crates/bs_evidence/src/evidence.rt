@@ -68,9 +68,9 @@ fn are_few(clauses: &[Lits]) -> bool
 }
 
 /// Whether what is asked for assumes less than 2^32 literals a step.
-fn assumes_few(encoding: &Encoding, assumptions: &List<Lits>, asked: Option<u64>) -> bool
+fn assumes_few(assumptions: &List<Lits>, asked: Option<u64>) -> bool
     requires { IfSome asked (IsOneOf (length assumptions.now)) }
-    ensures { result ≡ assumes_few (problem_with encoding.now assumptions.now) asked }
+    ensures { result ≡ assumes_few assumptions.now asked }
 {
     match asked {
         Some(step) => assumptions.get((step - 1) as usize).len() < FEW,
@@ -79,17 +79,12 @@ fn assumes_few(encoding: &Encoding, assumptions: &List<Lits>, asked: Option<u64>
 }
 
 /// Whether all parts have fewer members than 2^32.
-fn is_short(
-    encoding: &Encoding,
-    assumptions: &List<Lits>,
-    log: &[Line],
-    asked: Option<u64>,
-) -> bool
+fn is_short(encoding: &Encoding, assumptions: &List<Lits>, log: &[Line], asked: Option<u64>) -> bool
     requires { IfSome asked (IsOneOf (length assumptions.now)) }
     ensures { result ≡ is_short (problem_with encoding.now assumptions.now) log.now asked }
 {
     let clauses = encoding.clauses().len();
-    clauses < FEW && (assumes_few(encoding, assumptions, asked) && log.len() < FEW)
+    clauses < FEW && (assumes_few(assumptions, asked) && log.len() < FEW)
 }
 
 /// The lines before a place.

@@ -18,7 +18,5 @@ mod words;
 
 pub use evidence::{Format, evidence_for, evidence_of};
 pub use flaw::{Evidence, Flaw};
-pub use law::{
-    all_unlisted_states_are_shown, report_proofs_are_right, unlisted_states_are_shown,
-};
+pub use law::{all_unlisted_states_are_shown, report_proofs_are_right, unlisted_states_are_shown};
 pub use words::flaw_text;

@@ -2,7 +2,7 @@
 ghost use Rattle.std.specs.Prelude.{◌≡◌, ◌<◌, ◌+◌, ◌++◌, length, true, None, IfOk, OnOk};
 ghost use Rattle.bs_clause.specs.declared.literal.TheConstants.{VARIABLE_LIMIT};
 ghost use Rattle.bs_log.specs.Refusal.{history_of, IsAccepted};
-ghost use Rattle.bs_log_whole.specs.Walk.{problem_in, history_in, IsReady};
+ghost use Rattle.bs_log_whole.specs.Walk.{problem_in, history_in, IsWritable};
 ghost use Rattle.bs_evidence.specs.Encoded.{problem_with};
 ghost use Rattle.bs_evidence.specs.Evidence.{is_short, whole_text_of};
 
@@ -16,7 +16,7 @@ use std::alloc::Global;
 
 /// Appends the text of all finished lists.
 fn push_whole_text(text: &mut Vec<u8>, kind: Format, log: &WholeLog<'_>) -> Result<(), NoMemory>
-    requires { IsReady log.now }
+    requires { IsWritable log.now }
     ensures { OnOk result (text.new.items ≡ text.old.items ++ whole_text_of kind (problem_in log.now) (history_in log.now)) }
 {
     match kind {
@@ -31,7 +31,7 @@ pub(crate) fn whole_text(
     kind: Format,
     log: &WholeLog<'_>,
 ) -> Result<Vec<u8>, NoMemory>
-    requires { IsReady log.now }
+    requires { IsWritable log.now }
     ensures { IfOk result (λ text. text.items ≡ whole_text_of kind (problem_in log.now) (history_in log.now)) }
 {
     let mut text = Vec::new(alloc);
@@ -48,7 +48,7 @@ pub(crate) fn whole_log<'a>(
     requires room { encoding.now.variables + length assumptions.now < VARIABLE_LIMIT }
     requires accepted { IsAccepted (problem_with encoding.now assumptions.now) log.now }
     requires short { is_short (problem_with encoding.now assumptions.now) log.now None ≡ true }
-    ensures ready { IsReady result }
+    ensures writable { IsWritable result }
     ensures problem { problem_in result ≡ problem_with encoding.now assumptions.now }
     ensures history { history_in result ≡ history_of log.now }
 {

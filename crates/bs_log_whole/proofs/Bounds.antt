@@ -24,7 +24,7 @@ use Rattle.bs_log_whole.specs.declared.walk.Under.{Under}
 use Rattle.bs_log_whole.specs.declared.walk.At.{At}
 use Rattle.bs_log_whole.specs.Cnf.{finish_of, rest_of, said_of, whole_behind, one_of, finished}
 use Rattle.bs_log_whole.specs.Proof.{under_of, so_far, place_of, whole_shown, whole_frame}
-use Rattle.bs_log_whole.specs.Walk.{problem_in, history_in, clauses_in, IsReady, under_behind, given_at, EndFits, IsAt, HasRoom}
+use Rattle.bs_log_whole.specs.Walk.{problem_in, history_in, clauses_in, IsWritable, under_behind, given_at, EndFits, IsAt, HasRoom}
 use Rattle.bs_log_whole.proofs.Finishes.{is_finished}
 use Rattle.bs_log_whole.proofs.Giving.{so_far_next, under_next, behind_is}
 use Rattle.bs_log_whole.proofs.Same.{whole_last}
@@ -71,7 +71,7 @@ module _ (p : Problem) (short : All (λ c. length c < FEW) p.steps) where
       let same : length (so_far p (line ∷ h)) ≡ length (so_far p h ++ given_at p (under_of h) line) = ap length (so_far_next p line h) in
       omega (arith, more, same)
 
-module _ (w : WholeLog) (ok : IsReady w) where
+module _ (w : WholeLog) (ok : IsWritable w) where
   abbrev pub p : Problem
   p = problem_in w
 

@@ -44,7 +44,7 @@ pub record IsSmall (p : Problem) (log : List Line) : Type 0 where
   pub lines : length log < FEW
 
 -- the log is accepted, and its activation literals are variables
-pub record IsReady (w : WholeLog) : Type 0 where
+pub record IsWritable (w : WholeLog) : Type 0 where
   pub accepted : IsAccepted (problem_in w) w.lines.now
   pub room : w.vars + length w.steps.now < VARIABLE_LIMIT
   pub small : IsSmall (problem_in w) w.lines.now

@@ -8,7 +8,7 @@ ghost use Rattle.bs_log.specs.LineText.{literal_text};
 ghost use Rattle.bs_log_dimacs.specs.Cnf.{clause_text};
 ghost use Rattle.bs_log_whole.specs.Cnf.{finished, one_of, whole_behind, whole_cnf_text};
 ghost use Rattle.bs_log_whole.specs.Proof.{ended, ended_at, so_far};
-ghost use Rattle.bs_log_whole.specs.Walk.{history_in, problem_in, EndFits, IsReady};
+ghost use Rattle.bs_log_whole.specs.Walk.{history_in, problem_in, EndFits, IsWritable};
 
 use crate::asked::WholeLog;
 use crate::parts::{count_given, push_given};
@@ -20,7 +20,7 @@ use bs_log_dimacs::{push_clauses, push_header, push_literal};
 
 /// How many clauses the lines give.
 fn count_so_far(asked: &WholeLog<'_>) -> u64
-    requires { IsReady asked.now }
+    requires { IsWritable asked.now }
     ensures { result ≡ length (so_far (problem_in asked.now) (history_in asked.now)) }
 {
     let mut under = start();
@@ -35,7 +35,7 @@ fn count_so_far(asked: &WholeLog<'_>) -> u64
 
 /// How many clauses stand behind the netlist's.
 pub fn count_behind(asked: &WholeLog<'_>) -> u64
-    requires { IsReady asked.now }
+    requires { IsWritable asked.now }
     ensures { result ≡ length (whole_behind (problem_in asked.now) (history_in asked.now)) }
 {
     let count = count_so_far(asked);
@@ -44,7 +44,7 @@ pub fn count_behind(asked: &WholeLog<'_>) -> u64
 
 /// Appends the clauses that the lines give.
 fn push_so_far(text: &mut Vec<u8>, asked: &WholeLog<'_>) -> Result<(), NoMemory>
-    requires { IsReady asked.now }
+    requires { IsWritable asked.now }
     ensures { OnOk result (text.new.items ≡ text.old.items ++ flat_map clause_text (so_far (problem_in asked.now) (history_in asked.now))) }
 {
     let mut under = start();
@@ -87,7 +87,7 @@ fn push_activation(
 
 /// Appends the activation literals of the finished steps.
 fn push_activations(text: &mut Vec<u8>, asked: &WholeLog<'_>) -> Result<(), NoMemory>
-    requires { IsReady asked.now }
+    requires { IsWritable asked.now }
     ensures { OnOk result (text.new.items ≡ text.old.items ++ flat_map literal_text (map (λ e. activation_of (problem_in asked.now) e.1) (ended (history_in asked.now)))) }
 {
     let mut under = start();
@@ -101,7 +101,7 @@ fn push_activations(text: &mut Vec<u8>, asked: &WholeLog<'_>) -> Result<(), NoMe
 
 /// Appends that one of the finished steps is under way.
 fn push_one_of(text: &mut Vec<u8>, asked: &WholeLog<'_>) -> Result<(), NoMemory>
-    requires { IsReady asked.now }
+    requires { IsWritable asked.now }
     ensures { OnOk result (text.new.items ≡ text.old.items ++ clause_text (one_of (problem_in asked.now) (finished (problem_in asked.now) (history_in asked.now)))) }
 {
     push_activations(text, asked)?;
@@ -110,7 +110,7 @@ fn push_one_of(text: &mut Vec<u8>, asked: &WholeLog<'_>) -> Result<(), NoMemory>
 
 /// Appends what stands behind the netlist's clauses.
 fn push_behind(text: &mut Vec<u8>, asked: &WholeLog<'_>) -> Result<(), NoMemory>
-    requires { IsReady asked.now }
+    requires { IsWritable asked.now }
     ensures { OnOk result (text.new.items ≡ text.old.items ++ flat_map clause_text (whole_behind (problem_in asked.now) (history_in asked.now))) }
 {
     push_so_far(text, asked)?;
@@ -119,7 +119,7 @@ fn push_behind(text: &mut Vec<u8>, asked: &WholeLog<'_>) -> Result<(), NoMemory>
 
 /// Appends the clauses that all finished lists of a log stand on, where their number is small enough.
 fn push_counted(text: &mut Vec<u8>, asked: &WholeLog<'_>) -> Result<(), NoMemory>
-    requires ready { IsReady asked.now }
+    requires writable { IsWritable asked.now }
     requires room { asked.now.vars + length asked.now.steps.now < VARIABLE_LIMIT }
     requires count { length asked.now.clauses.now + length (whole_behind (problem_in asked.now) (history_in asked.now)) < 2 ^ 64 }
     ensures { OnOk result (text.new.items ≡ text.old.items ++ whole_cnf_text (problem_in asked.now) (history_in asked.now)) }
@@ -133,7 +133,7 @@ fn push_counted(text: &mut Vec<u8>, asked: &WholeLog<'_>) -> Result<(), NoMemory
 
 /// Appends the clauses that all finished lists of a log stand on, as DIMACS text.
 pub fn push_whole_cnf(text: &mut Vec<u8>, asked: &WholeLog<'_>) -> Result<(), NoMemory>
-    requires { IsReady asked.now }
+    requires { IsWritable asked.now }
     ensures { OnOk result (text.new.items ≡ text.old.items ++ whole_cnf_text (problem_in asked.now) (history_in asked.now)) }
 {
     push_counted(text, asked)

@@ -6,7 +6,7 @@ ghost use Rattle.bs_log.specs.LineText.{id_text};
 ghost use Rattle.bs_log_dimacs.specs.Proof.{proof_line, proof_text, raised};
 ghost use Rattle.bs_log_dimacs.specs.Walk.{last_behind, LineFits};
 ghost use Rattle.bs_log_whole.specs.Proof.{ended, ended_at, under_of, whole_ending, whole_frame, whole_lrat_text, whole_shown};
-ghost use Rattle.bs_log_whole.specs.Walk.{clauses_in, given_at, history_in, problem_in, under_behind, IsReady};
+ghost use Rattle.bs_log_whole.specs.Walk.{clauses_in, given_at, history_in, problem_in, under_behind, IsWritable};
 
 use crate::asked::WholeLog;
 use crate::cnf::count_behind;
@@ -19,7 +19,7 @@ use bs_log_dimacs::{Frame, last_behind, push_id, raised};
 
 /// How far ids go up.
 fn frame(asked: &WholeLog<'_>) -> Frame
-    requires { IsReady asked.now }
+    requires { IsWritable asked.now }
     ensures { result ≡ whole_frame (problem_in asked.now) (history_in asked.now) }
 {
     let by = count_behind(asked);
@@ -72,7 +72,7 @@ fn front(lines: &[Line], i: usize) -> &[Line]
 
 /// Appends the lines of the proof but the last; the id of the newest.
 fn push_lines(text: &mut Vec<u8>, f: &Frame, asked: &WholeLog<'_>) -> Result<u64, NoMemory>
-    requires ready { IsReady asked.now }
+    requires writable { IsWritable asked.now }
     requires frame { f.now ≡ whole_frame (problem_in asked.now) (history_in asked.now) }
     ensures text { OnOk result (text.new.items ≡ text.old.items ++ proof_text (clauses_in asked.now) (whole_shown f.now (problem_in asked.now) (history_in asked.now))) }
     ensures last { IfOk result (λ last. last ≡ last_id (clauses_in asked.now) (whole_shown f.now (problem_in asked.now) (history_in asked.now))) }
@@ -104,7 +104,7 @@ fn push_ended(text: &mut Vec<u8>, f: &Frame, under: &Under, line: &Line) -> Resu
 
 /// Appends the ids of the lines that end finished steps.
 fn push_all_ended(text: &mut Vec<u8>, f: &Frame, asked: &WholeLog<'_>) -> Result<(), NoMemory>
-    requires ready { IsReady asked.now }
+    requires writable { IsWritable asked.now }
     requires frame { f.now ≡ whole_frame (problem_in asked.now) (history_in asked.now) }
     ensures { OnOk result (text.new.items ≡ text.old.items ++ flat_map id_text (map (λ e. raised f.now e.0) (ended (history_in asked.now)))) }
 {
@@ -124,7 +124,7 @@ fn push_ending(
     asked: &WholeLog<'_>,
     last: u64,
 ) -> Result<(), NoMemory>
-    requires ready { IsReady asked.now }
+    requires writable { IsWritable asked.now }
     requires frame { f.now ≡ whole_frame (problem_in asked.now) (history_in asked.now) }
     requires sum { f.now.front + f.now.by < 2 ^ 64 }
     requires last { last + 1 < 2 ^ 64 }
@@ -139,7 +139,7 @@ fn push_ending(
 
 /// Appends the proof that all finished lists of a log are complete, as LRAT text.
 pub fn push_whole_lrat(text: &mut Vec<u8>, asked: &WholeLog<'_>) -> Result<(), NoMemory>
-    requires { IsReady asked.now }
+    requires { IsWritable asked.now }
     ensures { OnOk result (text.new.items ≡ text.old.items ++ whole_lrat_text (problem_in asked.now) (history_in asked.now)) }
 {
     let f = frame(asked);

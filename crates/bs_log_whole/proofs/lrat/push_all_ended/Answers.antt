@@ -11,10 +11,10 @@ push_ended-requires c =
     let lines : List Line = c.args.asked.now.lines.now in
     let line : Line = get_or lines c.lines.i c.index-asked-i.result in
     let same : line ≡ get_or lines c.lines.i line = ap (get_or lines c.lines.i) c.index-asked-i.is in
-    fits_here c.args.asked.now c.requires.ready c.lines.i c.lines.under c.lines.invariant.under line c.lines-test.true same c.args.f.now c.requires.frame
+    fits_here c.args.asked.now c.requires.writable c.lines.i c.lines.under c.lines.invariant.under line c.lines-test.true same c.args.f.now c.requires.frame
 
 pub under_behind-under-requires : goal.under_behind-under-requires
-under_behind-under-requires c = step_fits c.args.asked.now c.requires.ready c.lines.i c.lines.under c.lines.invariant.under
+under_behind-under-requires c = step_fits c.args.asked.now c.requires.writable c.lines.i c.lines.under c.lines.invariant.under
 
 pub lines-preserved : goal.lines-preserved
 lines-preserved c =
@@ -23,7 +23,7 @@ lines-preserved c =
     let same : line ≡ get_or lines c.lines.i line = ap (get_or lines c.lines.i) c.index-asked-i.is in
     record {
       under =
-          under_more c.args.asked.now c.requires.ready c.lines.i c.lines.under c.lines.invariant.under line c.lines-test.true same
+          under_more c.args.asked.now c.requires.writable c.lines.i c.lines.under c.lines.invariant.under line c.lines-test.true same
           c.under_behind-under.result c.under_behind-under.ensures;
       text =
           ended_texts_more id_text (λ e. raised c.args.f.now e.0) lines c.lines.i line c.lines.under

@@ -14,13 +14,13 @@ use Rattle.bs_log_whole.proofs.Texts.{text_more, at_next}
 use Rattle.bs_log_whole.proofs.lrat.push_lines.Goals as goal
 
 pub begin-at-requires : goal.begin-at-requires
-begin-at-requires c = start_fits c.args.asked.now c.requires.ready c.args.f.now c.requires.frame
+begin-at-requires c = start_fits c.args.asked.now c.requires.writable c.args.f.now c.requires.frame
 
 pub lines-init : goal.lines-init
 lines-init c =
     record {
       at =
-          begins c.args.asked.now c.requires.ready c.args.f.now c.requires.frame c.begin-at.result
+          begins c.args.asked.now c.requires.writable c.args.f.now c.requires.frame c.begin-at.result
           (ap (λ (a : At). a.under) c.begin-at.ensures) (ap (λ (a : At). a.place) c.begin-at.ensures) (ap (λ (a : At). a.last) c.begin-at.ensures);
       text = sym (append-nil c.args.text.now.items);
     }
@@ -33,10 +33,10 @@ push_shown-requires c =
     let is : IsAt c.args.f.now (problem_in c.args.asked.now) (clauses_in c.args.asked.now) (history_of (take c.lines.i lines)) c.lines.at = c.lines.invariant.at in
     record {
       fits =
-          fits_here c.args.asked.now c.requires.ready c.lines.i c.lines.at.under is.under_is line c.lines-test.true same c.args.f.now c.requires.frame;
-      room = room_here c.args.asked.now c.requires.ready c.args.f.now c.requires.frame c.lines.i c.lines.at is;
-      first = first c.args.asked.now c.requires.ready c.lines.i c.lines.at.under is.under_is;
-      end = end_fits c.args.asked.now c.requires.ready c.lines.i c.lines.at.under is.under_is line c.lines-test.true same;
+          fits_here c.args.asked.now c.requires.writable c.lines.i c.lines.at.under is.under_is line c.lines-test.true same c.args.f.now c.requires.frame;
+      room = room_here c.args.asked.now c.requires.writable c.args.f.now c.requires.frame c.lines.i c.lines.at is;
+      first = first c.args.asked.now c.requires.writable c.lines.i c.lines.at.under is.under_is;
+      end = end_fits c.args.asked.now c.requires.writable c.lines.i c.lines.at.under is.under_is line c.lines-test.true same;
     }
 
 pub at_behind-at-requires : goal.at_behind-at-requires
@@ -47,10 +47,10 @@ at_behind-at-requires c =
     let is : IsAt c.args.f.now (problem_in c.args.asked.now) (clauses_in c.args.asked.now) (history_of (take c.lines.i lines)) c.lines.at = c.lines.invariant.at in
     record {
       fits =
-          fits_here c.args.asked.now c.requires.ready c.lines.i c.lines.at.under is.under_is line c.lines-test.true same c.args.f.now c.requires.frame;
-      first = first c.args.asked.now c.requires.ready c.lines.i c.lines.at.under is.under_is;
-      step = step_fits c.args.asked.now c.requires.ready c.lines.i c.lines.at.under is.under_is;
-      place = place_fits c.args.asked.now c.requires.ready c.args.f.now c.requires.frame c.lines.i c.lines.at is line c.lines-test.true same;
+          fits_here c.args.asked.now c.requires.writable c.lines.i c.lines.at.under is.under_is line c.lines-test.true same c.args.f.now c.requires.frame;
+      first = first c.args.asked.now c.requires.writable c.lines.i c.lines.at.under is.under_is;
+      step = step_fits c.args.asked.now c.requires.writable c.lines.i c.lines.at.under is.under_is;
+      place = place_fits c.args.asked.now c.requires.writable c.args.f.now c.requires.frame c.lines.i c.lines.at is line c.lines-test.true same;
     }
 
 pub lines-preserved : goal.lines-preserved
@@ -64,7 +64,7 @@ lines-preserved c =
     let more : history_of (take (c.lines.i + 1) lines) ≡ line ∷ h = history_more lines c.lines.i line c.lines-test.true same in
     let place =
     c.at_behind-at.ensures.place
-    ∙ place_more c.args.asked.now c.requires.ready c.args.f.now c.requires.frame c.lines.i c.lines.at c.lines.invariant.at line c.lines-test.true same in
+    ∙ place_more c.args.asked.now c.requires.writable c.args.f.now c.requires.frame c.lines.i c.lines.at c.lines.invariant.at line c.lines-test.true same in
     record {
       at =
           subst (λ (h : History). IsAt c.args.f.now p q h c.at_behind-at.result) (sym more)
