@@ -17,8 +17,8 @@ use crate::sources::{
 };
 use crate::telling::{
     tell_dump, tell_evidence, tell_flops, tell_inputs, tell_keys, tell_length, tell_novel,
-    tell_page, tell_runs, tell_signature, tell_state, tell_stats, tell_steps, tell_steps_table, tell_table, tell_trace,
-    tell_usage, tell_version, tell_wave,
+    tell_page, tell_runs, tell_signature, tell_state, tell_stats, tell_steps, tell_steps_table,
+    tell_table, tell_trace, tell_usage, tell_version, tell_wave,
 };
 use bs_evidence::Format;
 use bs_inspect_answers::load_answered;

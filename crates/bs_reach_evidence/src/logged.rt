@@ -207,11 +207,7 @@ fn all_finished_evidence(
 }
 
 /// The evidence for all finished steps of a log that is accepted.
-fn all_evidence(
-    alloc: Global,
-    kind: Format,
-    logged: &Logged<'_>,
-) -> Result<Evidence, NoMemory>
+fn all_evidence(alloc: Global, kind: Format, logged: &Logged<'_>) -> Result<Evidence, NoMemory>
     requires room { logged.now.vars + length logged.now.steps.now < VARIABLE_LIMIT }
     requires accepted { IsAccepted (problem_of logged.now) logged.now.log.now }
     ensures { IfOk result (IsLogEvidence kind (problem_of logged.now) logged.now.log.now None) }
@@ -252,13 +248,7 @@ pub(crate) fn log_evidence(
     requires room { logged.now.vars + length logged.now.steps.now < VARIABLE_LIMIT }
     ensures { IfOk result (IsLogEvidence kind (problem_of logged.now) logged.now.log.now asked) }
 {
-    let verdict = check(
-        alloc,
-        logged.vars,
-        logged.clauses,
-        logged.steps,
-        logged.log,
-    )?;
+    let verdict = check(alloc, logged.vars, logged.clauses, logged.steps, logged.log)?;
     match verdict {
         Verdict::Rejected { line, why } => Ok(Evidence::Flawed(Flaw::Log(line, why))),
         Verdict::Accepted => accepted_evidence(alloc, kind, logged, asked),
