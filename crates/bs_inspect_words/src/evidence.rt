@@ -32,10 +32,7 @@ fn step_in(word: Option<&str>) -> Option<Option<u64>>
 }
 
 /// What is asked of lists by what the words say.
-fn evidence_at<'a>(
-    positions: &[&'a str],
-    step: Option<Option<u64>>,
-) -> Option<EvidenceRequest<'a>>
+fn evidence_at<'a>(positions: &[&'a str], step: Option<Option<u64>>) -> Option<EvidenceRequest<'a>>
     ensures { option_map evidence_in result ≡ evidence_of (map (λ s. s.now) positions.now) step }
 {
     match (positions, step) {

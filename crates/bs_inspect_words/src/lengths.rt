@@ -30,10 +30,7 @@ fn length_in(word: Option<&str>) -> Option<Option<u64>>
 }
 
 /// What is asked of lengths by what the words say.
-fn length_of<'a>(
-    positions: &[&'a str],
-    step: Option<Option<u64>>,
-) -> Option<LengthRequest<'a>>
+fn length_of<'a>(positions: &[&'a str], step: Option<Option<u64>>) -> Option<LengthRequest<'a>>
     ensures { option_map lengths_in result ≡ length_of (map (λ s. s.now) positions.now) step }
 {
     match (positions, step) {

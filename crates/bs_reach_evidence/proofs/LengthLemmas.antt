@@ -51,7 +51,6 @@ steps_count e reset k p count = length-map-range_with_len (length_assumes e k p)
 abbrev pub problem_with : ℕ → List Clause → List Clause → Problem
 problem_with vars clauses steps = record { vars = vars; clauses = clauses; steps = steps }
 
-pub same_problem : (e : Encoded) (reset : List Bool) (k : ℕ) (p : List Bool) (count : ℕ) (clauses steps : List Clause) → clauses ≡ unrolled e reset k →
-    steps ≡ map (length_assumes e k p) (range_with_len 1 count) →
-    problem_with (k * e.variables) clauses steps ≡ reach_problem e reset k p count
-same_problem e reset k p count clauses steps a b = λ i. problem_with (k * e.variables) (a i) (b i)
+pub same_problem : (e : Encoded) (reset : List Bool) (k : ℕ) (p : List Bool) (count vars : ℕ) (clauses steps : List Clause) → vars ≡ k * e.variables →
+    clauses ≡ unrolled e reset k → steps ≡ map (length_assumes e k p) (range_with_len 1 count) → problem_with vars clauses steps ≡ reach_problem e reset k p count
+same_problem e reset k p count vars clauses steps n a b = λ i. problem_with (n i) (a i) (b i)

@@ -117,16 +117,7 @@ fn unrolled_evidence(
     match all_clauses(alloc, encoding, reset, k) {
         Ok(clauses) => {
             let evidence = clauses_evidence(
-                alloc,
-                kind,
-                encoding,
-                &clauses,
-                state,
-                log,
-                reset,
-                k,
-                count,
-                asked,
+                alloc, kind, encoding, &clauses, state, log, reset, k, count, asked,
             );
             drop_clauses(clauses);
             evidence
@@ -194,15 +185,7 @@ fn tried_evidence(
     match Encoding::plain(alloc, net) {
         Ok(encoding) => {
             let evidence = encoded_evidence(
-                alloc,
-                kind,
-                net,
-                &encoding,
-                state,
-                log,
-                k,
-                count,
-                asked,
+                alloc, kind, net, &encoding, state, log, k, count, asked,
             );
             drop_encoding(encoding);
             evidence

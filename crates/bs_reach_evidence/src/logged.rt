@@ -6,7 +6,7 @@ ghost use Rattle.bs_log.specs.Refusal.{history_of, IsAccepted};
 ghost use Rattle.bs_log_dimacs.specs.Law.{IsFinishAt};
 ghost use Rattle.bs_log_dimacs.specs.Walk.{problem_in, IsOneOf, IsProvable};
 ghost use Rattle.bs_log_dimacs.specs.declared.frame.TheConstants.{FEW};
-ghost use Rattle.bs_log_whole.specs.Walk.{problem_in as whole_problem, history_in, has_finish, IsReady};
+ghost use Rattle.bs_log_whole.specs.Walk.{problem_in as whole_problem, history_in, has_finish, IsWritable};
 ghost use Rattle.bs_evidence.specs.Evidence.{text_of, whole_text_of, assumes_few, is_short, IsLogEvidence};
 ghost use Rattle.bs_reach_evidence.specs.Logged.{problem_of};
 
@@ -51,7 +51,7 @@ fn text_of(alloc: Global, kind: Format, asked: &Refuted<'_>) -> Result<Vec<u8>, 
 
 /// Appends the text of all finished steps.
 fn push_whole_text(text: &mut Vec<u8>, kind: Format, log: &WholeLog<'_>) -> Result<(), NoMemory>
-    requires { IsReady log.now }
+    requires { IsWritable log.now }
     ensures { OnOk result (text.new.items ≡ text.old.items ++ whole_text_of kind (whole_problem log.now) (history_in log.now)) }
 {
     match kind {
@@ -62,7 +62,7 @@ fn push_whole_text(text: &mut Vec<u8>, kind: Format, log: &WholeLog<'_>) -> Resu
 
 /// The text of all finished steps.
 fn whole_text(alloc: Global, kind: Format, log: &WholeLog<'_>) -> Result<Vec<u8>, NoMemory>
-    requires { IsReady log.now }
+    requires { IsWritable log.now }
     ensures { IfOk result (λ text. text.items ≡ whole_text_of kind (whole_problem log.now) (history_in log.now)) }
 {
     let mut text = Vec::new(alloc);
@@ -78,13 +78,13 @@ fn are_few(clauses: &[Lits]) -> bool
 }
 
 /// Whether what is asked for assumes less than 2^32 literals a step.
-fn assumes_few(logged: &Logged<'_>, asked: Option<u64>) -> bool
-    requires { IfSome asked (IsOneOf (length logged.now.steps.now)) }
-    ensures { result ≡ assumes_few (problem_of logged.now) asked }
+fn assumes_few(steps: &List<Lits>, asked: Option<u64>) -> bool
+    requires { IfSome asked (IsOneOf (length steps.now)) }
+    ensures { result ≡ assumes_few steps.now asked }
 {
     match asked {
-        Some(step) => logged.steps.get((step - 1) as usize).len() < FEW,
-        None => are_few(logged.steps.slice()),
+        Some(step) => steps.get((step - 1) as usize).len() < FEW,
+        None => are_few(steps.slice()),
     }
 }
 
@@ -94,7 +94,7 @@ fn is_short(logged: &Logged<'_>, asked: Option<u64>) -> bool
     ensures { result ≡ is_short (problem_of logged.now) logged.now.log.now asked }
 {
     let clauses = logged.clauses.len();
-    clauses < FEW && (assumes_few(logged, asked) && logged.log.len() < FEW)
+    clauses < FEW && (assumes_few(logged.steps, asked) && logged.log.len() < FEW)
 }
 
 /// The lines before a place.
@@ -174,7 +174,7 @@ fn whole_log<'a>(logged: &Logged<'a>) -> WholeLog<'a>
     requires room { logged.now.vars + length logged.now.steps.now < VARIABLE_LIMIT }
     requires accepted { IsAccepted (problem_of logged.now) logged.now.log.now }
     requires short { is_short (problem_of logged.now) logged.now.log.now None ≡ true }
-    ensures ready { IsReady result }
+    ensures writable { IsWritable result }
     ensures problem { whole_problem result ≡ problem_of logged.now }
     ensures history { history_in result ≡ history_of logged.now.log.now }
 {
@@ -207,11 +207,7 @@ fn all_finished_evidence(
 }
 
 /// The evidence for all finished steps of a log that is accepted.
-fn all_evidence(
-    alloc: Global,
-    kind: Format,
-    logged: &Logged<'_>,
-) -> Result<Evidence, NoMemory>
+fn all_evidence(alloc: Global, kind: Format, logged: &Logged<'_>) -> Result<Evidence, NoMemory>
     requires room { logged.now.vars + length logged.now.steps.now < VARIABLE_LIMIT }
     requires accepted { IsAccepted (problem_of logged.now) logged.now.log.now }
     ensures { IfOk result (IsLogEvidence kind (problem_of logged.now) logged.now.log.now None) }
@@ -252,13 +248,7 @@ pub(crate) fn log_evidence(
     requires room { logged.now.vars + length logged.now.steps.now < VARIABLE_LIMIT }
     ensures { IfOk result (IsLogEvidence kind (problem_of logged.now) logged.now.log.now asked) }
 {
-    let verdict = check(
-        alloc,
-        logged.vars,
-        logged.clauses,
-        logged.steps,
-        logged.log,
-    )?;
+    let verdict = check(alloc, logged.vars, logged.clauses, logged.steps, logged.log)?;
     match verdict {
         Verdict::Rejected { line, why } => Ok(Evidence::Flawed(Flaw::Log(line, why))),
         Verdict::Accepted => accepted_evidence(alloc, kind, logged, asked),

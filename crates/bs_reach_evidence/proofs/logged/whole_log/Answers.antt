@@ -1,11 +1,11 @@
 use Rattle.std.proofs.Common.{refl}
-use Rattle.bs_evidence.proofs.LogLemmas.{is_ready}
+use Rattle.bs_evidence.proofs.LogLemmas.{is_writable}
 use Rattle.bs_reach_evidence.specs.Logged.{problem_of}
 use Rattle.bs_reach_evidence.proofs.logged.whole_log.Goals as goal
 
-pub returns-clause-ready : goal.returns-clause-ready
-returns-clause-ready c =
-    is_ready
+pub returns-clause-writable : goal.returns-clause-writable
+returns-clause-writable c =
+    is_writable
     (record {
       vars = c.args.logged.now.vars;
       clauses = c.args.logged.now.clauses;
