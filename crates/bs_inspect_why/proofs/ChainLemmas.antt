@@ -52,9 +52,21 @@ before_by later a may again e on is =
     ∙ all_five (later.block.since == a.block.at + 1) (a.block.since == a.block.at) (same_nets a.block.bits later.block.bits) (is_step a) (is_step later)
     (come_again (other_causes a) (other_causes later)) (sym e ∙ on)
 
+pub again_is : (later a : Account) (facts others : List Fact) (same : Bool) → facts ≡ other_causes a → others ≡ other_causes later →
+    same ≡ come_again facts others → same ≡ come_again (other_causes a) (other_causes later)
+again_is later a facts others same e o is =
+    is ∙ (ap (λ (fs : List Fact). come_again fs others) e ∙ ap (come_again (other_causes a)) o)
+
 -- the account at a place
-pub account_is : (accounts : List Account) (i : ℕ) (a : Account) → i < length accounts → a ≡ get_or accounts i a → a ≡ account_at accounts i
+account_is : (accounts : List Account) (i : ℕ) (a : Account) → i < length accounts → a ≡ get_or accounts i a → a ≡ account_at accounts i
 account_is accounts i a lt e = e ∙ get_or_default accounts i a no_account lt
+
+pub on_is : (accounts : List Account) (number : ℕ) (c : Chain) (later a : Account) (on : Bool) → c.last < length accounts → number < length accounts →
+    later ≡ get_or accounts c.last later → a ≡ get_or accounts number a → on ≡ is_before later a → on ≡ goes_on accounts number c
+on_is accounts number c later a on last_lt lt at_last at is =
+    is
+    ∙ (ap (λ (x : Account). is_before x a) (account_is accounts c.last later last_lt at_last)
+    ∙ ap (is_before (account_at accounts c.last)) (account_is accounts number a lt at))
 
 -- ---- the first chain
 
@@ -104,10 +116,19 @@ pub chain_within : (number : ℕ) (chains : List Chain) (k : ℕ) (c : Chain) �
     IsWithin number c
 chain_within number chains k c within lt e = subst (IsWithin number) (sym e) (within k c lt)
 
-pub found_there : (accounts : List Account) (number : ℕ) (chains : List Chain) (found : Option ℕ) → found ≡ position (goes_on accounts number) chains →
-    IfSome found (λ k. k < length chains)
-found_there accounts number chains None e = tt
-found_there accounts number chains (Some k) e = (position-Some (goes_on accounts number) chains k (alone 0) (sym e)).0
+pub found_there : (accounts : List Account) (number : ℕ) (chains slice : List Chain) (found : Option ℕ) → slice ≡ chains →
+    found ≡ position (goes_on accounts number) slice → IfSome found (λ k. k < length chains)
+found_there accounts number chains slice None same e = tt
+found_there accounts number chains slice (Some k) same e =
+    let at = position-Some (goes_on accounts number) slice k (alone 0) (sym e) in
+    let long : length slice ≡ length chains = ap length same in
+    omega (arith, at.0, long)
+
+pub first_within : (count : ℕ) (c : Chain) → IsWithin count c → c.first < count
+first_within count c within = within.first
+
+pub last_within : (count : ℕ) (c : Chain) → IsWithin count c → c.last < count
+last_within count c within = within.last
 
 more_within : (number : ℕ) (c : Chain) → IsWithin number c → IsWithin (number + 1) c
 more_within number c within = record { first = omega (arith, within.first); last = omega (arith, within.last); steps = omega (arith, within.steps) }
@@ -144,9 +165,10 @@ push_within chains after number goes within =
     one zero d less = record { first = omega arith; last = omega arith; steps = omega arith }
     one (suc j) d less = absurd (omega (arith, less))
 
-pub chained_by : (accounts : List Account) (chains after : List Chain) (number : ℕ) (found : Option ℕ) →
-    found ≡ position (goes_on accounts number) chains → after ≡ chained_at found chains number → after ≡ chained accounts chains number
-chained_by accounts chains after number found e goes = goes ∙ ap (λ (o : Option ℕ). chained_at o chains number) e
+pub chained_by : (accounts : List Account) (chains slice after : List Chain) (number : ℕ) (found : Option ℕ) → slice ≡ chains →
+    found ≡ position (goes_on accounts number) slice → after ≡ chained_at found chains number → after ≡ chained accounts chains number
+chained_by accounts chains slice after number found same e goes =
+    goes ∙ ap (λ (o : Option ℕ). chained_at o chains number) (e ∙ ap (position (goes_on accounts number)) same)
 
 pub chains_more : (accounts : List Account) (chains after : List Chain) (i : ℕ) → chains ≡ chains_of accounts i → after ≡ chained accounts chains i →
     after ≡ chains_of accounts (i + 1)

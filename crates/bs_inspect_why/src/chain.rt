@@ -1,7 +1,7 @@
 //! Accounts that step a vector on for the same reasons, as one.
 ghost use Rattle.std.specs.Prelude.{◌≡◌, ◌<◌, ◌+◌, ◌^◌, ◌∷◌, [], ◌++◌, not, length, filter, All, IfOk, IfSome, OnOk, None, Some, if◌then◌else◌};
 ghost use Rattle.std.specs.Bool.{beq};
-ghost use Rattle.std.specs.List.{position};
+ghost use Rattle.std.specs.List.{list_all, position};
 ghost use Rattle.bs_inspect_why.specs.Chains.{are_among, chained, chained_at, chains_of, come_again, comes_again, extended, goes_on, has_fact, is_again, is_before, is_step, IsWithin, may_be_before, other_causes, same_nets};
 
 use bs_bits::NoMemory;
@@ -98,11 +98,18 @@ fn comes_again(later: &[Fact], fact: Fact) -> bool
     later.iter().any(|other| is_again(fact, *other))
 }
 
+/// Whether each of some facts comes again a cycle later.
+fn all_again(facts: &[Fact], later: &[Fact]) -> bool
+    ensures { result ≡ list_all (comes_again later.now) facts.now }
+{
+    facts.iter().all(|fact| comes_again(later, *fact))
+}
+
 /// Whether each of some facts comes again a cycle later, and no others.
 fn come_again(facts: &[Fact], later: &[Fact]) -> bool
     ensures { result ≡ come_again facts.now later.now }
 {
-    facts.len() == later.len() && facts.iter().all(|fact| comes_again(later, *fact))
+    facts.len() == later.len() && all_again(facts, later)
 }
 
 /// Whether an account sets each of its bits from the bits before.
@@ -113,12 +120,14 @@ fn is_step(account: &Account) -> bool
 }
 
 /// Whether accounts have the same other causes, a cycle later.
+#[tactic(auto, using(crate::proofs::ChainLemmas::again_is))]
 fn repeats(alloc: Global, later: &Account, account: &Account) -> Result<bool, NoMemory>
     ensures { IfOk result (λ same. same ≡ come_again (other_causes account.now) (other_causes later.now)) }
 {
     let facts = other_causes(alloc, account)?;
     let others = other_causes(alloc, later)?;
-    Ok(come_again(facts.as_slice(), others.as_slice()))
+    let same = come_again(facts.as_slice(), others.as_slice());
+    Ok(same)
 }
 
 /// Whether an account may be the step before another one, but for the other causes.
@@ -144,7 +153,7 @@ fn is_before(alloc: Global, later: &Account, account: &Account) -> Result<bool, 
 }
 
 /// Whether an account goes on a chain of those before it.
-#[tactic(auto, using(crate::proofs::ChainLemmas::account_is, crate::proofs::ChainLemmas::last_there))]
+#[tactic(auto, using(crate::proofs::ChainLemmas::on_is, crate::proofs::ChainLemmas::last_there))]
 fn goes_on(
     alloc: Global,
     accounts: &[Account],
@@ -252,7 +261,8 @@ fn add_account(
     ensures within { OnOk result (All (IsWithin (number + 1)) chains.new.items) }
 {
     let found = chain_of(alloc, accounts, chains.as_slice(), number)?;
-    put_account(chains, found, number)
+    put_account(chains, found, number)?;
+    Ok(())
 }
 
 /// The chains of accounts.

@@ -23,7 +23,10 @@ fn stops_by(alloc: Global, keys: &[&str], flops: bool) -> Result<Vec<bool>, NoMe
 
 /// Whether a gate shows its one input.
 fn is_buf(gate: &Gate) -> bool {
-    matches!(gate.kind, Kind::Buf)
+    match gate.kind {
+        Kind::Buf => true,
+        _ => false,
+    }
 }
 
 /// Lets cones go on through gates that show their one input.

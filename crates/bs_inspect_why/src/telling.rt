@@ -56,7 +56,7 @@ fn push_accounts(
 }
 
 /// Appends the text of a chain.
-#[tactic(auto, using(crate::proofs::TellingLemmas::chain_told, crate::proofs::TellingLemmas::account_there))]
+#[tactic(auto, using(crate::proofs::TellingLemmas::chain_told, crate::proofs::TellingLemmas::account_there, crate::proofs::ChainLemmas::first_within, crate::proofs::ChainLemmas::last_within))]
 fn push_chain(
     text: &mut Vec<u8>,
     moments: &Moments<'_>,
