@@ -94,19 +94,19 @@ word_text number word name what known =
 
 -- ---- numbers out of their bounds
 
-abbrev pub bounds : ℕ → ℕ → Bounds
-bounds least most = record { least = least; most = most }
+abbrev pub between : ℕ → ℕ → Bounds
+between least most = record { least = least; most = most }
 
 -- the bounds of the number behind an option, where it takes one
 abbrev pub bounds_of : List ℕ → Option Bounds
 bounds_of name =
-    if bytes_eq name (codes "--bits") then Some (bounds 1 256)
-    else (if bytes_eq name (codes "--cycle") || bytes_eq name (codes "--from") then Some (bounds 0 65536)
-    else (if bytes_eq name (codes "--step") || bytes_eq name (codes "--most") then Some (bounds 1 65536)
-    else (if bytes_eq name (codes "--time") then Some (bounds 0 18446744073709551615) else None)))
+    if bytes_eq name (codes "--bits") then Some (between 1 256)
+    else (if bytes_eq name (codes "--cycle") || bytes_eq name (codes "--from") then Some (between 0 65536)
+    else (if bytes_eq name (codes "--step") || bytes_eq name (codes "--most") then Some (between 1 65536)
+    else (if bytes_eq name (codes "--time") then Some (between 0 18446744073709551615) else None)))
 
 abbrev pub bounds_or : List ℕ → Bounds
-bounds_or name = unwrap_or (bounds_of name) (bounds 0 0)
+bounds_or name = unwrap_or (bounds_of name) (between 0 0)
 
 abbrev pub behind_sign : List ℕ → Option Halves → List ℕ
 behind_sign next None = next

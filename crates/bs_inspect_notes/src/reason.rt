@@ -3,7 +3,7 @@ ghost use Rattle.std.specs.Prelude.{◌≡◌, ◌<◌, ◌≤◌, [], drop, len
 ghost use Rattle.std.specs.List.{list_any};
 ghost use Rattle.std.specs.Str.{bytes_eq};
 ghost use Rattle.bs_bits.specs.Lines.{number_in};
-ghost use Rattle.bs_inspect_notes.specs.Usages.{bad_text, bound_text, bounds, bounds_of, bounds_or, first_bad, gives, is_bad, is_between, lack_if, lack_of, number_text, option_name, reason_of, stand_sentence, value_of};
+ghost use Rattle.bs_inspect_notes.specs.Usages.{bad_text, between, bound_text, bounds_of, bounds_or, first_bad, gives, is_bad, is_between, lack_if, lack_of, number_text, option_name, reason_of, stand_sentence, value_of};
 
 use crate::listing::push_name;
 use crate::usage::option_name;
@@ -40,8 +40,8 @@ fn word_or(words: &[String], at: usize) -> &[u8]
 // ---- a number
 
 /// Two bounds.
-fn bounds(least: u64, most: u64) -> Bounds
-    ensures { result ≡ bounds least most }
+fn between(least: u64, most: u64) -> Bounds
+    ensures { result ≡ between least most }
 {
     Bounds { least, most }
 }
@@ -51,16 +51,16 @@ fn bounds_of(name: &[u8]) -> Option<Bounds>
     ensures { result ≡ bounds_of name.now }
 {
     if is_name(name, b"--bits") {
-        return Some(bounds(1, 256));
+        return Some(between(1, 256));
     }
     if is_name(name, b"--cycle") || is_name(name, b"--from") {
-        return Some(bounds(0, 65_536));
+        return Some(between(0, 65_536));
     }
     if is_name(name, b"--step") || is_name(name, b"--most") {
-        return Some(bounds(1, 65_536));
+        return Some(between(1, 65_536));
     }
     if is_name(name, b"--time") {
-        return Some(bounds(0, 18_446_744_073_709_551_615));
+        return Some(between(0, 18_446_744_073_709_551_615));
     }
     None
 }
@@ -71,7 +71,7 @@ fn bounds_or(name: &[u8]) -> Bounds
 {
     match bounds_of(name) {
         Some(bounds) => bounds,
-        None => bounds(0, 0),
+        None => between(0, 0),
     }
 }
 
