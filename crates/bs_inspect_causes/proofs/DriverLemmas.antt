@@ -1,6 +1,6 @@
 -- Which nets are marked.
 use Rattle.std.proofs.Common.{◌≡◌, ℕ, ◌<◌, ◌≤◌, ◌+◌, Bool, true, false, ◌||◌, ◌==◌, List, [], ◌∷◌, ◌++◌, map, length, get_or, set, take, replicate, refl, subst, ap, sym, ◌∙◌, ◌⊎◌, inl, inr, ⊎_elim, arith}
-use Rattle.std.specs.List.{All, list_any}
+use Rattle.std.specs.List.{All}
 use Rattle.std.proofs.lemmas.Bool.{cases_eq, cases_lt, eq-eqb, ne_eqb, or_right}
 use Rattle.std.proofs.lemmas.List.{get_or-map, get_or-replicate, get_or-set_other, get_or-set_same, get_or_default, get_or_past, length-map, length-replicate, map_more, take_all}
 use Rattle.std.proofs.lemmas.List.Folds.{list_any_more}
@@ -15,7 +15,7 @@ use Rattle.bs_net.specs.Order.{IsChecked}
 use Rattle.bs_net.specs.Parts.{Parts}
 use Rattle.bs_net_facts.proofs.PassLemmas.{all_left, all_right}
 use Rattle.bs_inspect_causes.specs.Accounts.{has_net}
-use Rattle.bs_inspect_causes.specs.Layers.{AreDrivers, MarksThese, marks_net}
+use Rattle.bs_inspect_causes.specs.Layers.{AreDrivers, MarksThese}
 
 or_none : (x y : Bool) → y ≡ false → (x || y) ≡ x
 or_none true y e = refl

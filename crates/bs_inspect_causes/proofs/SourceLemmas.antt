@@ -3,7 +3,7 @@ use Rattle.std.proofs.Common.{◌≡◌, ℕ, ◌<◌, ◌+◌, Bool, List, [], 
 use Rattle.std.specs.List.{All, AllByRecursion}
 use Rattle.std.proofs.lemmas.List.Elements.{All-append, recursion_from_All}
 use Rattle.bs_net.specs.declared.net.NetId.{NetId}
-use Rattle.bs_net.specs.Circuit.{Circuit, Fits, bit_at, shown, state_nets}
+use Rattle.bs_net.specs.Circuit.{Fits, bit_at, shown, state_nets}
 use Rattle.bs_net.specs.Netlist.{Checked, circuit}
 use Rattle.bs_net.proofs.CallerLemmas.{exactly_one_fits}
 use Rattle.bs_net_facts.specs.declared.fact.Fact.{Fact}

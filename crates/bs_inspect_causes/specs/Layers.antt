@@ -1,5 +1,5 @@
 -- What the functions that tell layers of accounts promise each other.
-use Rattle.std.specs.Prelude.{◌≡◌, ◌⊎◌, ℕ, ◌+◌, ◌-◌, ◌<◌, ◌≤◌, Bool, true, false, List, [], ◌∷◌, ◌++◌, length, map, take, All, Contains, Option, Some, None, slice_index_or}
+use Rattle.std.specs.Prelude.{◌≡◌, ◌⊎◌, ℕ, ◌+◌, ◌-◌, ◌<◌, ◌≤◌, Bool, true, false, List, [], ◌++◌, length, map, take, All, Contains, slice_index_or}
 use Rattle.std.specs.List.{AllWithin}
 use Rattle.bs_net.specs.declared.net.NetId.{NetId}
 use Rattle.bs_net.specs.Circuit.{Circuit, state_nets}
@@ -8,7 +8,6 @@ use Rattle.bs_net.specs.Order.{IsChecked}
 use Rattle.bs_net_facts.specs.declared.fact.Fact.{Fact}
 use Rattle.bs_net_facts.specs.Facts.{IsReal, IsWayOf}
 use Rattle.bs_net_facts.specs.Seen.{Seen}
-use Rattle.bs_net_facts.specs.Sources.{sources}
 use Rattle.bs_inspect_causes.specs.declared.units.Unit.{Unit as CodeUnit}
 use Rattle.bs_inspect_causes.specs.declared.account.Account.{Account}
 use Rattle.bs_inspect_causes.specs.declared.drivers.Drivers.{Drivers}

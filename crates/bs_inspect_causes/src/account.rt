@@ -44,7 +44,6 @@ fn push_wanted(facts: &mut List<Fact>, fact: Fact, wanted: bool) -> Result<(), N
 }
 
 /// Those of a block's given facts that set its bits.
-#[tactic(auto, using(crate::proofs::AccountLemmas::kind_more, crate::proofs::AccountLemmas::kind_all))]
 fn causes_of(alloc: Global, block: &Block, given: &[Fact]) -> Result<List<Fact>, NoMemory>
     ensures { IfOk result (λ facts. facts ≡ filter (is_cause block.now) given.now) }
 {
@@ -57,7 +56,6 @@ fn causes_of(alloc: Global, block: &Block, given: &[Fact]) -> Result<List<Fact>,
 }
 
 /// Those of a block's given facts that keep them.
-#[tactic(auto, using(crate::proofs::AccountLemmas::kind_more, crate::proofs::AccountLemmas::kind_all))]
 fn holds_of(alloc: Global, block: &Block, given: &[Fact]) -> Result<List<Fact>, NoMemory>
     ensures { IfOk result (λ facts. facts ≡ filter (λ f. not (is_cause block.now f)) given.now) }
 {

@@ -9,19 +9,18 @@ use crate::account::Account;
 use crate::drivers::Drivers;
 use crate::further::further_facts;
 use crate::layer::tell_facts;
-use crate::memory::Memory;
+use crate::ledger::Ledger;
 use bs_bits::{List, NoMemory};
 use bs_inspect_cones::Scene;
 use bs_net_facts::Fact;
 use std::alloc::Global;
 
 /// Tells due facts in a layer.
-#[tactic(auto, using(crate::proofs::ExplainLemmas::explain_more))]
 fn tell_due(
     alloc: Global,
     scene: &Scene<'_>,
     drivers: &Drivers,
-    memory: &mut Memory,
+    ledger: &mut Ledger,
     asked: &[Fact],
     accounts: &mut List<Account>,
     facts: Vec<Fact>,
@@ -33,7 +32,7 @@ fn tell_due(
     ensures { OnOk result (ExplainSoFar scene.now.moments.now asked.now (layer + 1) accounts.new) }
 {
     let _ = asked;
-    tell_facts(alloc, scene, drivers, memory, accounts, facts, layer)?;
+    tell_facts(alloc, scene, drivers, ledger, accounts, facts, layer)?;
     Ok(())
 }
 
@@ -43,7 +42,7 @@ fn due_next(
     alloc: Global,
     scene: &Scene<'_>,
     drivers: &Drivers,
-    memory: &mut Memory,
+    ledger: &mut Ledger,
     asked: &[Fact],
     accounts: &List<Account>,
     from: usize,
@@ -58,7 +57,7 @@ fn due_next(
         alloc,
         scene,
         drivers,
-        memory,
+        ledger,
         accounts.slice(),
         from,
         layer,
@@ -72,7 +71,7 @@ fn tell_layer(
     alloc: Global,
     scene: &Scene<'_>,
     drivers: &Drivers,
-    memory: &mut Memory,
+    ledger: &mut Ledger,
     asked: &[Fact],
     accounts: &mut List<Account>,
     facts: Vec<Fact>,
@@ -86,9 +85,9 @@ fn tell_layer(
     ensures due { IfOk result (λ next. AreDue scene.now.moments.now drivers.now asked.now (layer + 1) accounts.new next.items) }
 {
     let from = accounts.len();
-    tell_due(alloc, scene, drivers, memory, asked, accounts, facts, layer)?;
+    tell_due(alloc, scene, drivers, ledger, asked, accounts, facts, layer)?;
     let next = due_next(
-        alloc, scene, drivers, memory, asked, accounts, from, layer, all,
+        alloc, scene, drivers, ledger, asked, accounts, from, layer, all,
     )?;
     Ok(next)
 }
@@ -99,7 +98,7 @@ fn tell_layers(
     alloc: Global,
     scene: &Scene<'_>,
     drivers: &Drivers,
-    memory: &mut Memory,
+    ledger: &mut Ledger,
     asked: &[Fact],
     accounts: &mut List<Account>,
     first: Vec<Fact>,
@@ -115,7 +114,7 @@ fn tell_layers(
     let mut facts = first;
     'layers: for layer in 0..depth {
         facts = tell_layer(
-            alloc, scene, drivers, memory, asked, accounts, facts, layer, all,
+            alloc, scene, drivers, ledger, asked, accounts, facts, layer, all,
         )?;
         if facts.len() == 0 {
             return Ok(());
@@ -125,12 +124,12 @@ fn tell_layers(
 }
 
 /// The accounts of asked facts, with the drivers of the nets.
-#[tactic(auto, using(crate::proofs::ExplainLemmas::none_so_far, crate::proofs::ExplainLemmas::asked_due))]
+#[tactic(auto, using(crate::proofs::ExplainLemmas::none_so_far))]
 fn accounts_with(
     alloc: Global,
     scene: &Scene<'_>,
     drivers: &Drivers,
-    memory: &mut Memory,
+    ledger: &mut Ledger,
     asked: &[Fact],
     depth: u32,
     all: bool,
@@ -147,7 +146,7 @@ fn accounts_with(
         alloc,
         scene,
         drivers,
-        memory,
+        ledger,
         asked,
         &mut accounts,
         first,
@@ -182,7 +181,7 @@ pub fn accounts_of(
     ensures { IfOk result (λ accounts. Explain (circuit scene.now.moments.now.net) scene.now.moments.now.states scene.now.moments.now.inputs asked.now depth accounts) }
 {
     let drivers = Drivers::of(alloc, scene.moments.net())?;
-    let mut memory = Memory::new(alloc, scene.nets())?;
-    let accounts = accounts_with(alloc, scene, &drivers, &mut memory, asked, depth, all)?;
+    let mut ledger = Ledger::new(alloc, scene.nets())?;
+    let accounts = accounts_with(alloc, scene, &drivers, &mut ledger, asked, depth, all)?;
     Ok(accounts)
 }

@@ -52,7 +52,7 @@ fn facts_at(
 }
 
 /// All flip-flops and data inputs at a cycle that has an input.
-#[tactic(auto, using(crate::proofs::SourceLemmas::flops_there, crate::proofs::SourceLemmas::inputs_there, crate::proofs::SourceLemmas::sources_are, crate::proofs::SourceLemmas::sources_real))]
+#[tactic(auto, using(crate::proofs::SourceLemmas::flops_there, crate::proofs::SourceLemmas::inputs_there))]
 pub(crate) fn sources_at(
     alloc: Global,
     moments: &Moments<'_>,

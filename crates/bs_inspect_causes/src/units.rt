@@ -50,7 +50,6 @@ fn is_repeated(facts: &[Fact], place: usize) -> bool
 }
 
 /// Puts the fact at a place at the end, unless it is that before it.
-#[tactic(auto, using(crate::proofs::UnitLemmas::keeps_more, crate::proofs::UnitLemmas::keeps_same))]
 fn push_new(facts: &[Fact], place: usize, kept: &mut List<Fact>) -> Result<(), NoMemory>
     requires there { place < length facts.now }
     requires so_far { KeepsFirst facts.now place kept.old }
@@ -76,7 +75,6 @@ fn distinct(alloc: Global, facts: &[Fact]) -> Result<List<Fact>, NoMemory>
 }
 
 /// Facts in the order of their units, each once.
-#[tactic(auto, using(crate::proofs::UnitLemmas::ordered_keeps))]
 pub(crate) fn ordered(
     alloc: Global,
     scene: &Scene<'_>,
