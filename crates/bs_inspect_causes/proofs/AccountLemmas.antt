@@ -1,6 +1,8 @@
 -- The account of a block.
-use Rattle.std.proofs.Common.{◌≡◌, ℕ, Bool, not, List, map, filter, subst, ap, ◌∙◌}
+use Rattle.std.proofs.Common.{◌≡◌, ℕ, ◌<◌, ◌≤◌, ◌+◌, Bool, not, cond, List, [], ◌∷◌, ◌++◌, map, filter, length, get_or, take, ap, sym, ◌∙◌}
 use Rattle.std.specs.List.{All}
+use Rattle.std.proofs.lemmas.List.{take_all}
+use Rattle.std.proofs.lemmas.List.Elements.{filter_more}
 use Rattle.bs_net.specs.Netlist.{circuit}
 use Rattle.bs_net_facts.specs.declared.fact.Fact.{Fact}
 use Rattle.bs_net_facts.specs.declared.block.Block.{Block}
@@ -22,3 +24,18 @@ pub bits_last : (m : Seen) (d : Drivers) (at : ℕ) (flop : Bool) (facts : List 
 bits_last m d at flop facts a block unit e bits ends =
     ap (λ (b : Block). map (moved b.at) b.bits) e
     ∙ (ap (λ (t : ℕ). map (moved t) block.bits) ends ∙ (ap (λ (bs : List Fact). map (moved at) bs) bits ∙ moved_same at facts unit.at_cycle))
+
+-- ---- facts of one kind
+
+pub kind_more : (test : Fact → Bool) (given : List Fact) (i : ℕ) (d : Fact) (wanted : Bool) (old new : List Fact) → i < length given →
+    wanted ≡ test (get_or given i d) → new ≡ old ++ cond wanted (get_or given i d ∷ []) [] → old ≡ filter test (take i given) →
+    new ≡ filter test (take (i + 1) given)
+kind_more test given i d wanted old new lt is goes before =
+    let f : Fact = get_or given i d in
+    goes
+    ∙ (ap (λ (b : Bool). old ++ cond b (f ∷ []) []) is
+    ∙ (ap (λ (fs : List Fact). fs ++ cond (test f) (f ∷ []) []) before ∙ sym (filter_more test given i d lt)))
+
+pub kind_all : (test : Fact → Bool) (given : List Fact) (i : ℕ) (facts : List Fact) → length given ≤ i → facts ≡ filter test (take i given) →
+    facts ≡ filter test given
+kind_all test given i facts le e = e ∙ ap (λ (fs : List Fact). filter test fs) (take_all i given le)

@@ -1,6 +1,6 @@
 -- All flip-flops and data inputs of a cycle force a unit.
-use Rattle.std.proofs.Common.{◌≡◌, ℕ, zero, suc, ◌<◌, ◌≤◌, ◌+◌, ◌-◌, ◌==◌, Bool, true, false, not, ◌&&◌, ◌||◌, List, [], ◌∷◌, ◌++◌, map, length, get_or, Option, Some, None}
-use Rattle.std.proofs.Common.{refl, subst, ap, sym, ◌∙◌, ◌⊎◌, inl, inr, ⊎_elim, append-nil, le_refl, arith}
+use Rattle.std.proofs.Common.{◌≡◌, ℕ, zero, suc, ◌<◌, ◌≤◌, ◌+◌, ◌-◌, ◌==◌, Bool, true, false, not, ◌&&◌, List, [], ◌∷◌, ◌++◌, map, length, get_or, Option, Some, None}
+use Rattle.std.proofs.Common.{refl, subst, ap, sym, ◌∙◌, ◌⊎◌, inl, inr, ⊎_elim, le_refl, arith}
 use Rattle.std.specs.Prelude.{IsTrue, MatchOption, nat_lt}
 use Rattle.std.specs.List.{All, AllByRecursion, list_any}
 use Rattle.std.proofs.lemmas.Bool.{and_from, cases_lt, eqb-false, eqb-true, false≢true, le-ltb, lt-ltb, ne_eqb, not_from_false, or_cases, or_left, or_parts, or_right}
@@ -11,9 +11,8 @@ use Rattle.bs_net.specs.Circuit.{Circuit, Fits, bit_at, shown, state_nets, next_
 use Rattle.bs_net.specs.Netlist.{circuit}
 use Rattle.bs_net.proofs.CallerLemmas.{next_from_fits}
 use Rattle.bs_net_facts.specs.declared.fact.Fact.{Fact}
-use Rattle.bs_net_facts.specs.declared.block.Block.{Block}
 use Rattle.bs_net_facts.specs.Facts.{FitsMoment, FitsSome, Follow, Force, HoldsIn, valuation_at}
-use Rattle.bs_net_facts.specs.Blocks.{IsBlock, begun, is_earlier, lasting, moved, stretch}
+use Rattle.bs_net_facts.specs.Blocks.{IsBlock, begun, is_earlier, moved, stretch}
 use Rattle.bs_net_facts.specs.Seen.{Seen}
 use Rattle.bs_net_facts.specs.Sources.{facts_of, sources}
 use Rattle.bs_net_facts.proofs.LawLemmas.{fits_there, sources_force}
@@ -44,7 +43,7 @@ forces_early m d at flop t ready lt (inr h) = omega (arith, h.0, lt, ready.way.o
 
 -- ---- a unit
 
-no_fact : Fact
+pub no_fact : Fact
 no_fact = record { net = record { 0 = 0 }; cycle = 0; bit = false }
 
 pub unit_there : (m : Seen) (d : Drivers) (at : ℕ) (flop : Bool) (facts : List Fact) → IsUnit m d at flop facts → at < length m.states
@@ -72,11 +71,11 @@ lasting_one at facts h =
 
 -- ---- nets that are shown alike
 
-head_of : List Bool → Bool
+abbrev head_of : List Bool → Bool
 head_of [] = false
 head_of (b ∷ bs) = b
 
-tail_of : List Bool → List Bool
+abbrev tail_of : List Bool → List Bool
 tail_of [] = []
 tail_of (b ∷ bs) = bs
 

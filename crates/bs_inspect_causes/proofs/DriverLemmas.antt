@@ -1,10 +1,11 @@
 -- Which nets are marked.
-use Rattle.std.proofs.Common.{◌≡◌, ℕ, ◌<◌, ◌≤◌, ◌+◌, Bool, true, false, ◌||◌, ◌==◌, List, [], ◌++◌, map, length, get_or, set, take, replicate, refl, subst, ap, sym, ◌∙◌, ◌⊎◌, inl, inr, ⊎_elim, arith}
-use Rattle.std.specs.List.{All, list_any}
+use Rattle.std.proofs.Common.{◌≡◌, ℕ, ◌<◌, ◌≤◌, ◌+◌, Bool, true, false, ◌||◌, ◌==◌, List, [], ◌∷◌, ◌++◌, map, length, get_or, set, take, replicate, refl, subst, ap, sym, ◌∙◌, ◌⊎◌, inl, inr, ⊎_elim, arith}
+use Rattle.std.specs.List.{All}
 use Rattle.std.proofs.lemmas.Bool.{cases_eq, cases_lt, eq-eqb, ne_eqb, or_right}
-use Rattle.std.proofs.lemmas.List.{get_or-map, get_or-replicate, get_or-set_other, get_or-set_same, get_or_default, get_or_past, length-map, length-replicate, take_all}
+use Rattle.std.proofs.lemmas.List.{get_or-map, get_or-replicate, get_or-set_other, get_or-set_same, get_or_default, get_or_past, length-map, length-replicate, map_more, take_all}
 use Rattle.std.proofs.lemmas.List.Folds.{list_any_more}
 use Rattle.bs_net.specs.declared.net.NetId.{NetId}
+use Rattle.bs_net.specs.declared.net.Flop.{Flop}
 use Rattle.bs_net.specs.declared.net.Gate.{Gate}
 use Rattle.bs_net.specs.declared.net.Const.{Const}
 use Rattle.bs_net.specs.declared.raw.Raw.{Raw}
@@ -14,7 +15,7 @@ use Rattle.bs_net.specs.Order.{IsChecked}
 use Rattle.bs_net.specs.Parts.{Parts}
 use Rattle.bs_net_facts.proofs.PassLemmas.{all_left, all_right}
 use Rattle.bs_inspect_causes.specs.Accounts.{has_net}
-use Rattle.bs_inspect_causes.specs.Layers.{AreDrivers, MarksThese, marks_net}
+use Rattle.bs_inspect_causes.specs.Layers.{AreDrivers, MarksThese}
 
 or_none : (x y : Bool) → y ≡ false → (x || y) ≡ x
 or_none true y e = refl
@@ -91,6 +92,17 @@ pub flops_placed : (n : Checked) (r : Raw) (nets : List NetId) (count : ℕ) →
 flops_placed n r nets count checked same e are =
     subst (λ (ns : List NetId). All (λ (m : NetId). m.0 < count) ns) (sym are)
     (subst (λ (k : ℕ). All (λ (m : NetId). m.0 < k) (state_nets (circuit n))) (count_is n r count same e) (flops_below (circuit n) checked))
+
+-- ---- the outputs of flip-flops
+
+pub outputs_more : (flops : List Flop) (i : ℕ) (d : Flop) (old new : List NetId) → i < length flops → new ≡ old ++ (get_or flops i d).q ∷ [] →
+    old ≡ map (λ (f : Flop). f.q) (take i flops) → new ≡ map (λ (f : Flop). f.q) (take (i + 1) flops)
+outputs_more flops i d old new lt goes before =
+    goes ∙ (ap (λ (ns : List NetId). ns ++ (get_or flops i d).q ∷ []) before ∙ sym (map_more (λ (f : Flop). f.q) flops i d lt))
+
+pub outputs_all : (flops : List Flop) (i : ℕ) (nets : List NetId) → length flops ≤ i → nets ≡ map (λ (f : Flop). f.q) (take i flops) →
+    nets ≡ map (λ (f : Flop). f.q) flops
+outputs_all flops i nets le e = e ∙ ap (λ (fs : List Flop). map (λ (f : Flop). f.q) fs) (take_all i flops le)
 
 -- ---- all together
 

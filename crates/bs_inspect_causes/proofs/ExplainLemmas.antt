@@ -1,5 +1,5 @@
 -- Layers of accounts explain what is asked.
-use Rattle.std.proofs.Common.{◌≡◌, ℕ, ◌<◌, ◌≤◌, ◌+◌, Bool, false, List, [], ◌++◌, length, get_or, subst, sym, ◌∙◌, ⊎_elim, arith}
+use Rattle.std.proofs.Common.{◌≡◌, ℕ, ◌<◌, ◌≤◌, ◌+◌, false, List, [], ◌++◌, get_or, subst, sym, ◌∙◌, ⊎_elim, arith}
 use Rattle.std.specs.Prelude.{Contains}
 use Rattle.std.specs.List.{All}
 use Rattle.std.proofs.lemmas.Bool.{cases_eq}
@@ -100,10 +100,15 @@ explain_more m d asked layer facts old new so_far due tells = record { none = λ
       answered = answered;
     }
 
+pub each_in : (m : Seen) (asked : List Fact) (layers : ℕ) (accounts slice : List Account) → ExplainSoFar m asked layers accounts → slice ≡ accounts →
+    All (IsAccount (circuit m.net) m.states m.inputs) slice
+each_in m asked layers accounts slice so_far e =
+    subst (λ (l : List Account). All (IsAccount (circuit m.net) m.states m.inputs) l) (sym e) (each_account m asked layers accounts so_far)
+
 -- what is asked further is due in the next layer
-pub next_due : (m : Seen) (d : Drivers) (asked : List Fact) (layer : ℕ) (accounts : List Account) (facts : List Fact) →
+due_behind : (m : Seen) (d : Drivers) (asked : List Fact) (layer : ℕ) (accounts : List Account) (facts : List Fact) →
     All (IsNext m d accounts layer) facts → AreDue m d asked (layer + 1) accounts facts
-next_due m d asked layer accounts facts h = record {
+due_behind m d asked layer accounts facts h = record {
   real = λ k x lt. (h k x lt).real;
   driven = λ k x lt. (h k x lt).driven;
   due = λ k x lt.
@@ -115,6 +120,11 @@ next_due m d asked layer accounts facts h = record {
       };
   whole = λ e. absurd (omega (arith, e));
 }
+
+pub next_due : (m : Seen) (d : Drivers) (asked : List Fact) (layer : ℕ) (accounts slice : List Account) (facts : List Fact) → slice ≡ accounts →
+    All (IsNext m d slice layer) facts → AreDue m d asked (layer + 1) accounts facts
+next_due m d asked layer accounts slice facts e h =
+    due_behind m d asked layer accounts facts (subst (λ (l : List Account). All (IsNext m d l layer) facts) e h)
 
 -- ---- the ends
 

@@ -1,5 +1,5 @@
 -- Facts that are asked further.
-use Rattle.std.proofs.Common.{◌≡◌, ℕ, ◌<◌, Bool, false, List, [], ◌∷◌, ◌++◌, length, get_or, subst, ap, sym, ◌∙◌, append_assoc, append-nil}
+use Rattle.std.proofs.Common.{◌≡◌, ℕ, ◌<◌, false, List, [], ◌∷◌, ◌++◌, length, get_or, subst, ap, sym, ◌∙◌, append_assoc, append-nil}
 use Rattle.std.specs.Prelude.{Contains}
 use Rattle.std.specs.List.{All}
 use Rattle.std.proofs.lemmas.List.Elements.{All-append, All-cons, All-contains, All-nil, Contains-get_or}
@@ -56,6 +56,6 @@ next_more m d accounts i a layer old new lt is at each asks before =
     record {
       real = All-contains (IsRealIn m) a.block.given f account.block.real own;
       driven = asks.driven k x less;
-      given = record { account = a; among = (i, (lt, sym is)); of_layer = at; given = own };
+      given = record { account = a; among = (i, lt, sym is); of_layer = at; given = own };
     } in
     subst (λ (fs : List Fact). All (IsNext m d accounts layer) fs) (sym asks.are) (All-append (IsNext m d accounts layer) old asks.more before after)

@@ -3,7 +3,7 @@ use Rattle.std.proofs.Common.{◌≡◌, ℕ, ◌<◌, ◌+◌, Bool, List, [], 
 use Rattle.std.specs.List.{All, AllByRecursion}
 use Rattle.std.proofs.lemmas.List.Elements.{All-append, recursion_from_All}
 use Rattle.bs_net.specs.declared.net.NetId.{NetId}
-use Rattle.bs_net.specs.Circuit.{Circuit, Fits, bit_at, shown, state_nets}
+use Rattle.bs_net.specs.Circuit.{Fits, bit_at, shown, state_nets}
 use Rattle.bs_net.specs.Netlist.{Checked, circuit}
 use Rattle.bs_net.proofs.CallerLemmas.{exactly_one_fits}
 use Rattle.bs_net_facts.specs.declared.fact.Fact.{Fact}
@@ -44,7 +44,7 @@ fits_moment m d t ready lt =
     let one =
     exactly_one_fits (circuit m.net) (get_or m.states t []) (get_or m.inputs t []) ready.drivers.checked
     (state_wide m d t ready (in_states m d t ready lt)) (input_wide m d t ready lt) in
-    (one.0, one.1.0)
+    (one.0, one.1)
 
 pub at_moment : (m : Seen) (t : ℕ) (v : List Bool) → Fits (circuit m.net) (get_or m.states t []) (get_or m.inputs t []) v →
     FitsMoment (circuit m.net) m.states m.inputs t v

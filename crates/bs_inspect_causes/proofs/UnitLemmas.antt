@@ -1,15 +1,14 @@
 -- Facts in order, each once, and units of them.
-use Rattle.std.proofs.Common.{◌≡◌, ℕ, ◌<◌, ◌≤◌, ◌+◌, ◌-◌, ◌==◌, Bool, true, List, [], ◌∷◌, ◌++◌, length, get_or, take, IsPermutation, refl, subst, ap, sym, ◌∙◌, le_refl, arith}
+use Rattle.std.proofs.Common.{◌≡◌, ℕ, ◌<◌, ◌≤◌, ◌+◌, ◌-◌, Bool, List, [], ◌∷◌, ◌++◌, length, get_or, take, IsPermutation, refl, subst, sym, ◌∙◌, le_refl, arith}
 use Rattle.std.specs.Prelude.{Contains}
 use Rattle.std.specs.List.{All, AllWithin}
 use Rattle.std.proofs.lemmas.List.{get_or-take, get_or_default, length-take-le, take_all}
 use Rattle.std.proofs.lemmas.List.Elements.{All-more, All-nil, All-push, All-weaker, AllWithin-more, AllWithin-none, Contains-append_left, Contains-get_or, Contains-push}
 use Rattle.std.proofs.lemmas.List.Sorted.{All-permutation, Contains-permutation, IsPermutation-sym}
-use Rattle.bs_net.specs.declared.net.NetId.{NetId}
 use Rattle.bs_net_facts.specs.declared.fact.Fact.{Fact}
 use Rattle.bs_inspect_causes.specs.declared.drivers.Drivers.{Drivers}
-use Rattle.bs_inspect_causes.specs.declared.units.Unit.{Unit as CodeUnit}
-use Rattle.bs_inspect_causes.specs.Layers.{IsLike, IsUnitAt, KeepsFirst, marks_net}
+use Rattle.bs_inspect_causes.specs.Layers.{IsLike, IsUnitAt, KeepsFirst, Repeats, marks_net}
+use Rattle.bs_inspect_causes.proofs.BlockLemmas.{no_fact}
 
 pub same_fact : (f g : Fact) → f.net.0 ≡ g.net.0 → f.cycle ≡ g.cycle → f.bit ≡ g.bit → f ≡ g
 same_fact f g n t b = λ i. record { net = record { 0 = n i }; cycle = t i; bit = b i }
@@ -32,14 +31,19 @@ keeps_more facts kept after i d lt h e =
       only = All-push (Contains facts) kept f h.only (Contains-get_or facts i d lt);
     })
 
-pub keeps_same : (facts kept : List Fact) (i : ℕ) (d e : Fact) → 0 < i → i < length facts → get_or facts (i - 1) d ≡ get_or facts i e → KeepsFirst facts i kept →
-    KeepsFirst facts (i + 1) kept
-keeps_same facts kept i d e positive lt same h =
-    let before : i - 1 < i = omega (arith, positive) in
+pub repeats_of : (facts : List Fact) (i : ℕ) (d e : Fact) → 0 < i → i < length facts → get_or facts (i - 1) d ≡ get_or facts i e → Repeats facts i
+repeats_of facts i d e positive lt same =
+    let before : i - 1 < length facts = omega (arith, positive, lt) in
+    record { behind = positive; same = λ x. get_or_default facts (i - 1) x d before ∙ (same ∙ get_or_default facts i e x lt) }
+
+pub keeps_same : (facts kept : List Fact) (i : ℕ) → i < length facts → Repeats facts i → KeepsFirst facts i kept → KeepsFirst facts (i + 1) kept
+keeps_same facts kept i lt repeats h =
+    let x : Fact = no_fact in
+    let before : i - 1 < i = omega (arith, repeats.behind) in
     let le : i ≤ length facts = omega (arith, lt) in
     let there : i - 1 < length (take i facts) = omega (arith, before, length-take-le i facts le) in
-    let kept_before : Contains kept (get_or facts (i - 1) d) = subst (Contains kept) (get_or-take i facts (i - 1) d before) (h.all (i - 1) d there) in
-    record { all = All-more (Contains kept) facts i e lt h.all (subst (Contains kept) same kept_before); only = h.only }
+    let kept_before : Contains kept (get_or facts (i - 1) x) = subst (Contains kept) (get_or-take i facts (i - 1) x before) (h.all (i - 1) x there) in
+    record { all = All-more (Contains kept) facts i x lt h.all (subst (Contains kept) (repeats.same x) kept_before); only = h.only }
 
 pub keeps_all : (facts kept : List Fact) (i : ℕ) → length facts ≤ i → KeepsFirst facts i kept → KeepsFirst facts (length facts) kept
 keeps_all facts kept i le h =

@@ -1,5 +1,5 @@
 -- Accounts: what set the bits that are asked, what has kept them, and the same of these facts (docs/DEFINITIONS.md, "Account").
-use Rattle.std.specs.Prelude.{◌≡◌, ◌≢◌, ℕ, ◌+◌, ◌<◌, ◌||◌, ◌==◌, Bool, not, nat_lt, List, [], length, map, filter, All, Contains, slice_index_or}
+use Rattle.std.specs.Prelude.{◌≡◌, ℕ, ◌+◌, ◌<◌, ◌||◌, ◌==◌, Bool, not, nat_lt, List, [], length, map, filter, All, Contains, slice_index_or}
 use Rattle.std.specs.List.{list_any}
 use Rattle.bs_net.specs.declared.net.NetId.{NetId}
 use Rattle.bs_net.specs.Circuit.{Circuit, next}
@@ -11,9 +11,13 @@ use Rattle.bs_inspect_causes.specs.declared.account.Account.{Account}
 
 -- ---- what is asked
 
--- each of the first states of a trace, with its input, leads to the state behind it
+-- a state of a trace leads to the one behind it, under its input
+abbrev pub LeadsAt : Circuit → List (List Bool) → List (List Bool) → ℕ → Type 0
+LeadsAt c states inputs t = slice_index_or states (t + 1) [] ≡ next c (slice_index_or states t []) (slice_index_or inputs t [])
+
+-- each of the first states does
 pub record LeadsBefore (c : Circuit) (states inputs : List (List Bool)) (count : ℕ) : Type 0 where
-  pub each : (t : ℕ) → t < count → slice_index_or states (t + 1) [] ≡ next c (slice_index_or states t []) (slice_index_or inputs t [])
+  pub each : (t : ℕ) → t < count → LeadsAt c states inputs t
 
 -- each state but the last one does
 abbrev pub LeadsOn : Circuit → List (List Bool) → List (List Bool) → Type 0
@@ -22,7 +26,7 @@ LeadsOn c states inputs = LeadsBefore c states inputs (length inputs)
 -- the first state that does not
 pub record IsBreak (c : Circuit) (states inputs : List (List Bool)) (t : ℕ) : Type 0 where
   pub there : t < length inputs
-  pub other : slice_index_or states (t + 1) [] ≢ next c (slice_index_or states t []) (slice_index_or inputs t [])
+  pub other : LeadsAt c states inputs t → ⊥
   pub before : LeadsBefore c states inputs t
 
 -- whether one of some nets is this one

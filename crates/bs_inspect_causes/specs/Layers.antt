@@ -1,5 +1,5 @@
 -- What the functions that tell layers of accounts promise each other.
-use Rattle.std.specs.Prelude.{◌≡◌, ◌⊎◌, ℕ, ◌+◌, ◌<◌, ◌≤◌, Bool, true, false, List, [], ◌∷◌, ◌++◌, length, map, take, All, Contains, Option, Some, None, slice_index_or}
+use Rattle.std.specs.Prelude.{◌≡◌, ◌⊎◌, ℕ, ◌+◌, ◌-◌, ◌<◌, ◌≤◌, Bool, true, false, List, [], ◌++◌, length, map, take, All, Contains, slice_index_or}
 use Rattle.std.specs.List.{AllWithin}
 use Rattle.bs_net.specs.declared.net.NetId.{NetId}
 use Rattle.bs_net.specs.Circuit.{Circuit, state_nets}
@@ -8,7 +8,6 @@ use Rattle.bs_net.specs.Order.{IsChecked}
 use Rattle.bs_net_facts.specs.declared.fact.Fact.{Fact}
 use Rattle.bs_net_facts.specs.Facts.{IsReal, IsWayOf}
 use Rattle.bs_net_facts.specs.Seen.{Seen}
-use Rattle.bs_net_facts.specs.Sources.{sources}
 use Rattle.bs_inspect_causes.specs.declared.units.Unit.{Unit as CodeUnit}
 use Rattle.bs_inspect_causes.specs.declared.account.Account.{Account}
 use Rattle.bs_inspect_causes.specs.declared.drivers.Drivers.{Drivers}
@@ -53,6 +52,11 @@ pub record AreFactsOf (m : Seen) (nets : List NetId) (t : ℕ) (facts : List Fac
 pub record KeepsFirst (facts : List Fact) (count : ℕ) (kept : List Fact) : Type 0 where
   pub all : All (Contains kept) (take count facts)
   pub only : All (Contains facts) kept
+
+-- the fact at a place is the same as the one before it
+pub record Repeats (facts : List Fact) (place : ℕ) : Type 0 where
+  pub behind : 0 < place
+  pub same : (d : Fact) → slice_index_or facts (place - 1) d ≡ slice_index_or facts place d
 
 -- Facts that one account tells: the trace's, at one cycle, all of flip-flops or none, and of no data inputs.
 pub record IsUnit (m : Seen) (d : Drivers) (at : ℕ) (flop : Bool) (facts : List Fact) : Type 0 where

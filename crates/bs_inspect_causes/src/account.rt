@@ -1,5 +1,5 @@
 //! An account: a block with its facts by kind.
-ghost use Rattle.std.specs.Prelude.{◌≡◌, not, filter, All, IfOk};
+ghost use Rattle.std.specs.Prelude.{◌≡◌, [], ◌∷◌, ◌++◌, not, filter, if◌then◌else◌, All, IfOk, OnOk};
 ghost use Rattle.bs_net.specs.Netlist.{circuit};
 ghost use Rattle.bs_net_facts.specs.Blocks.{IsBlock};
 ghost use Rattle.bs_inspect_causes.specs.Accounts.{IsAccount, is_cause};
@@ -33,28 +33,36 @@ pub(crate) fn is_cause(block: &Block, fact: Fact) -> bool
     before || once
 }
 
-/// The given facts that set a block's bits.
-fn causes_of(alloc: Global, block: &Block) -> Result<List<Fact>, NoMemory>
-    ensures { IfOk result (λ facts. facts ≡ filter (is_cause block.now) block.now.given) }
+/// Puts a fact at the end where it is wanted.
+fn push_wanted(facts: &mut List<Fact>, fact: Fact, wanted: bool) -> Result<(), NoMemory>
+    ensures { OnOk result (facts.new ≡ facts.old ++ (if wanted then fact ∷ [] else [])) }
+{
+    if wanted {
+        facts.push(fact)?;
+    }
+    Ok(())
+}
+
+/// Those of a block's given facts that set its bits.
+fn causes_of(alloc: Global, block: &Block, given: &[Fact]) -> Result<List<Fact>, NoMemory>
+    ensures { IfOk result (λ facts. facts ≡ filter (is_cause block.now) given.now) }
 {
     let mut facts = List::new(alloc);
-    for fact in block.given.slice() {
-        if is_cause(block, *fact) {
-            facts.push(*fact)?;
-        }
+    'given: for fact in given {
+        let cause = is_cause(block, *fact);
+        push_wanted(&mut facts, *fact, cause)?;
     }
     Ok(facts)
 }
 
-/// The given facts that keep them.
-fn holds_of(alloc: Global, block: &Block) -> Result<List<Fact>, NoMemory>
-    ensures { IfOk result (λ facts. facts ≡ filter (λ f. not (is_cause block.now f)) block.now.given) }
+/// Those of a block's given facts that keep them.
+fn holds_of(alloc: Global, block: &Block, given: &[Fact]) -> Result<List<Fact>, NoMemory>
+    ensures { IfOk result (λ facts. facts ≡ filter (λ f. not (is_cause block.now f)) given.now) }
 {
     let mut facts = List::new(alloc);
-    for fact in block.given.slice() {
-        if !is_cause(block, *fact) {
-            facts.push(*fact)?;
-        }
+    'given: for fact in given {
+        let cause = is_cause(block, *fact);
+        push_wanted(&mut facts, *fact, !cause)?;
     }
     Ok(facts)
 }
@@ -78,8 +86,8 @@ fn kinds_of(
     ensures holds { IfOk result (λ k. k.holds ≡ filter (λ f. not (is_cause block.now f)) block.now.given) }
     ensures idle { IfOk result (λ k. All (IsRealIn moments.now) k.idle) }
 {
-    let causes = causes_of(alloc, block)?;
-    let holds = holds_of(alloc, block)?;
+    let causes = causes_of(alloc, block, block.given.slice())?;
+    let holds = holds_of(alloc, block, block.given.slice())?;
     let idle = real_facts(alloc, moments, idle)?;
     Ok(Kinds {
         causes,

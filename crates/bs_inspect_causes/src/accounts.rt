@@ -3,25 +3,75 @@ ghost use Rattle.std.specs.Prelude.{◌≡◌, ◌≤◌, ◌+◌, false, All, I
 ghost use Rattle.bs_net.specs.Netlist.{circuit};
 ghost use Rattle.bs_net_facts.specs.Facts.{IsWayOf, IsReal};
 ghost use Rattle.bs_inspect_causes.specs.Accounts.{Explain, LeadsOn, has_net};
-ghost use Rattle.bs_inspect_causes.specs.Layers.{AreDue, AreDrivers, ExplainSoFar, IsReady};
+ghost use Rattle.bs_inspect_causes.specs.Layers.{AreDue, ExplainSoFar, IsReady};
 
 use crate::account::Account;
 use crate::drivers::Drivers;
 use crate::further::further_facts;
 use crate::layer::tell_facts;
-use crate::memory::Memory;
+use crate::ledger::Ledger;
 use bs_bits::{List, NoMemory};
 use bs_inspect_cones::Scene;
 use bs_net_facts::Fact;
 use std::alloc::Global;
 
+/// Tells due facts in a layer.
+fn tell_due(
+    alloc: Global,
+    scene: &Scene<'_>,
+    drivers: &Drivers,
+    ledger: &mut Ledger,
+    asked: &[Fact],
+    accounts: &mut List<Account>,
+    facts: Vec<Fact>,
+    layer: u32,
+) -> Result<(), NoMemory>
+    requires ready { IsReady scene.now.moments.now drivers.now }
+    requires so_far { ExplainSoFar scene.now.moments.now asked.now layer accounts.old }
+    requires due { AreDue scene.now.moments.now drivers.now asked.now layer accounts.old facts.items }
+    ensures { OnOk result (ExplainSoFar scene.now.moments.now asked.now (layer + 1) accounts.new) }
+{
+    let _ = asked;
+    tell_facts(alloc, scene, drivers, ledger, accounts, facts, layer)?;
+    Ok(())
+}
+
+/// The facts that are due in the layer behind one, whose accounts stand from a place on.
+#[tactic(auto, using(crate::proofs::ExplainLemmas::each_in, crate::proofs::ExplainLemmas::next_due))]
+fn due_next(
+    alloc: Global,
+    scene: &Scene<'_>,
+    drivers: &Drivers,
+    ledger: &mut Ledger,
+    asked: &[Fact],
+    accounts: &List<Account>,
+    from: usize,
+    layer: u32,
+    all: bool,
+) -> Result<Vec<Fact>, NoMemory>
+    requires { ExplainSoFar scene.now.moments.now asked.now (layer + 1) accounts.now }
+    ensures { IfOk result (λ next. AreDue scene.now.moments.now drivers.now asked.now (layer + 1) accounts.now next.items) }
+{
+    let _ = asked;
+    let next = further_facts(
+        alloc,
+        scene,
+        drivers,
+        ledger,
+        accounts.slice(),
+        from,
+        layer,
+        all,
+    )?;
+    Ok(next)
+}
+
 /// Tells due facts in a layer, and gives those that are due in the next one.
-#[tactic(auto, using(crate::proofs::ExplainLemmas::explain_more, crate::proofs::ExplainLemmas::each_account, crate::proofs::ExplainLemmas::next_due))]
 fn tell_layer(
     alloc: Global,
     scene: &Scene<'_>,
     drivers: &Drivers,
-    memory: &mut Memory,
+    ledger: &mut Ledger,
     asked: &[Fact],
     accounts: &mut List<Account>,
     facts: Vec<Fact>,
@@ -34,19 +84,12 @@ fn tell_layer(
     ensures so_far { OnOk result (ExplainSoFar scene.now.moments.now asked.now (layer + 1) accounts.new) }
     ensures due { IfOk result (λ next. AreDue scene.now.moments.now drivers.now asked.now (layer + 1) accounts.new next.items) }
 {
-    let _ = asked;
     let from = accounts.len();
-    tell_facts(alloc, scene, drivers, memory, accounts, facts, layer)?;
-    further_facts(
-        alloc,
-        scene,
-        drivers,
-        memory,
-        accounts.slice(),
-        from,
-        layer,
-        all,
-    )
+    tell_due(alloc, scene, drivers, ledger, asked, accounts, facts, layer)?;
+    let next = due_next(
+        alloc, scene, drivers, ledger, asked, accounts, from, layer, all,
+    )?;
+    Ok(next)
 }
 
 /// Tells due facts in so many layers.
@@ -55,7 +98,7 @@ fn tell_layers(
     alloc: Global,
     scene: &Scene<'_>,
     drivers: &Drivers,
-    memory: &mut Memory,
+    ledger: &mut Ledger,
     asked: &[Fact],
     accounts: &mut List<Account>,
     first: Vec<Fact>,
@@ -71,7 +114,7 @@ fn tell_layers(
     let mut facts = first;
     'layers: for layer in 0..depth {
         facts = tell_layer(
-            alloc, scene, drivers, memory, asked, accounts, facts, layer, all,
+            alloc, scene, drivers, ledger, asked, accounts, facts, layer, all,
         )?;
         if facts.len() == 0 {
             return Ok(());
@@ -81,12 +124,12 @@ fn tell_layers(
 }
 
 /// The accounts of asked facts, with the drivers of the nets.
-#[tactic(auto, using(crate::proofs::ExplainLemmas::none_so_far, crate::proofs::ExplainLemmas::asked_due))]
+#[tactic(auto, using(crate::proofs::ExplainLemmas::none_so_far))]
 fn accounts_with(
     alloc: Global,
     scene: &Scene<'_>,
     drivers: &Drivers,
-    memory: &mut Memory,
+    ledger: &mut Ledger,
     asked: &[Fact],
     depth: u32,
     all: bool,
@@ -103,7 +146,7 @@ fn accounts_with(
         alloc,
         scene,
         drivers,
-        memory,
+        ledger,
         asked,
         &mut accounts,
         first,
@@ -138,7 +181,7 @@ pub fn accounts_of(
     ensures { IfOk result (λ accounts. Explain (circuit scene.now.moments.now.net) scene.now.moments.now.states scene.now.moments.now.inputs asked.now depth accounts) }
 {
     let drivers = Drivers::of(alloc, scene.moments.net())?;
-    let mut memory = Memory::new(alloc, scene.nets())?;
-    let accounts = accounts_with(alloc, scene, &drivers, &mut memory, asked, depth, all)?;
+    let mut ledger = Ledger::new(alloc, scene.nets())?;
+    let accounts = accounts_with(alloc, scene, &drivers, &mut ledger, asked, depth, all)?;
     Ok(accounts)
 }

@@ -49,11 +49,12 @@ fn marks_of(alloc: Global, count: usize, nets: &[NetId]) -> Result<List<bool>, N
 }
 
 /// The outputs of flip-flops.
+#[tactic(auto, using(crate::proofs::DriverLemmas::outputs_more, crate::proofs::DriverLemmas::outputs_all))]
 fn flop_nets(alloc: Global, flops: &[Flop]) -> Result<List<NetId>, NoMemory>
     ensures { IfOk result (λ nets. nets ≡ map (λ f. f.q) flops.now) }
 {
     let mut nets = List::new(alloc);
-    for flop in flops {
+    'flops: for flop in flops {
         nets.push(flop.q)?;
     }
     Ok(nets)

@@ -52,7 +52,7 @@ fn facts_at(
 }
 
 /// All flip-flops and data inputs at a cycle that has an input.
-#[tactic(auto, using(crate::proofs::SourceLemmas::flops_there, crate::proofs::SourceLemmas::inputs_there, crate::proofs::SourceLemmas::sources_are))]
+#[tactic(auto, using(crate::proofs::SourceLemmas::flops_there, crate::proofs::SourceLemmas::inputs_there))]
 pub(crate) fn sources_at(
     alloc: Global,
     moments: &Moments<'_>,
@@ -61,7 +61,8 @@ pub(crate) fn sources_at(
 ) -> Result<List<Fact>, NoMemory>
     requires ready { IsReady moments.now drivers.now }
     requires early { cycle < length moments.now.inputs }
-    ensures { IfOk result (λ facts. facts ≡ sources (circuit moments.now.net) moments.now.states moments.now.inputs cycle) }
+    ensures are { IfOk result (λ facts. facts ≡ sources (circuit moments.now.net) moments.now.states moments.now.inputs cycle) }
+    ensures real { IfOk result (λ facts. All (IsRealIn moments.now) facts) }
 {
     let net = moments.net();
     let mut facts = facts_at(alloc, moments, drivers.flops.slice(), cycle)?;
@@ -117,11 +118,12 @@ pub(crate) fn copied(alloc: Global, facts: &[Fact]) -> Result<List<Fact>, NoMemo
 }
 
 /// The nets of some facts.
+#[tactic(auto, using(crate::proofs::FactLemmas::nets_more, crate::proofs::FactLemmas::nets_all))]
 pub(crate) fn nets_of(alloc: Global, facts: &[Fact]) -> Result<List<NetId>, NoMemory>
     ensures { IfOk result (λ nets. nets ≡ map (λ f. f.net) facts.now) }
 {
     let mut nets = List::new(alloc);
-    for fact in facts {
+    'facts: for fact in facts {
         nets.push(fact.net)?;
     }
     Ok(nets)

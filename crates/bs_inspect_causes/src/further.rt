@@ -7,7 +7,7 @@ ghost use Rattle.bs_inspect_causes.specs.Layers.{AsksMore, IsNext, marks_net};
 use crate::account::{Account, is_cause};
 use crate::drivers::{Drivers, is_marked};
 use crate::facts::is_real;
-use crate::memory::Memory;
+use crate::ledger::Ledger;
 use bs_bits::NoMemory;
 use bs_inspect_cones::{Driver, Scene};
 use bs_net::NetId;
@@ -60,12 +60,12 @@ fn is_driven(scene: &Scene<'_>, net: NetId) -> bool {
 }
 
 /// Whether a fact of a flip-flop or a gate is asked further: a cause, or what has kept the bits all through.
-fn is_chosen(scene: &Scene<'_>, memory: &Memory, account: &Account, fact: Fact, all: bool) -> bool {
-    if memory.tells(fact) {
+fn is_chosen(scene: &Scene<'_>, ledger: &Ledger, account: &Account, fact: Fact, all: bool) -> bool {
+    if ledger.tells(fact) {
         return false;
     }
     if !is_cause(&account.block, fact) {
-        return memory.is_steady(&account.block, fact);
+        return ledger.is_steady(&account.block, fact);
     }
     all || !is_left_out(scene, account, fact)
 }
@@ -74,7 +74,7 @@ fn is_chosen(scene: &Scene<'_>, memory: &Memory, account: &Account, fact: Fact, 
 fn is_asked(
     scene: &Scene<'_>,
     drivers: &Drivers,
-    memory: &Memory,
+    ledger: &Ledger,
     account: &Account,
     fact: Fact,
     all: bool,
@@ -87,7 +87,7 @@ fn is_asked(
     if !is_driven(scene, fact.net) {
         return false;
     }
-    is_chosen(scene, memory, account, fact, all)
+    is_chosen(scene, ledger, account, fact, all)
 }
 
 /// Puts a given fact of an account at the end, if it is asked further.
@@ -96,7 +96,7 @@ fn push_fact(
     facts: &mut Vec<Fact>,
     scene: &Scene<'_>,
     drivers: &Drivers,
-    memory: &Memory,
+    ledger: &Ledger,
     account: &Account,
     fact: Fact,
     all: bool,
@@ -104,7 +104,7 @@ fn push_fact(
     requires { Contains account.now.block.given fact }
     ensures { OnOk result (AsksMore drivers.now account.now facts.old.items facts.new.items) }
 {
-    if is_asked(scene, drivers, memory, account, fact, all) {
+    if is_asked(scene, drivers, ledger, account, fact, all) {
         facts.push(fact)?;
     }
     Ok(())
@@ -116,14 +116,14 @@ fn push_given(
     facts: &mut Vec<Fact>,
     scene: &Scene<'_>,
     drivers: &Drivers,
-    memory: &Memory,
+    ledger: &Ledger,
     account: &Account,
     all: bool,
 ) -> Result<(), NoMemory>
     ensures { OnOk result (AsksMore drivers.now account.now facts.old.items facts.new.items) }
 {
     'given: for fact in account.block.given.slice() {
-        push_fact(facts, scene, drivers, memory, account, *fact, all)?;
+        push_fact(facts, scene, drivers, ledger, account, *fact, all)?;
     }
     Ok(())
 }
@@ -133,25 +133,24 @@ fn push_account(
     facts: &mut Vec<Fact>,
     scene: &Scene<'_>,
     drivers: &Drivers,
-    memory: &mut Memory,
+    ledger: &mut Ledger,
     account: &Account,
     all: bool,
 ) -> Result<(), NoMemory>
     ensures { OnOk result (AsksMore drivers.now account.now facts.old.items facts.new.items) }
 {
-    memory.count(account.holds.slice());
-    push_given(facts, scene, drivers, memory, account, all)?;
-    memory.clear(account.holds.slice());
+    ledger.count(account.holds.slice());
+    push_given(facts, scene, drivers, ledger, account, all)?;
+    ledger.clear(account.holds.slice());
     Ok(())
 }
 
 /// The same of an account of a layer, and of another one nothing.
-#[tactic(auto, using(crate::proofs::FurtherLemmas::next_more))]
 fn push_layer(
     facts: &mut Vec<Fact>,
     scene: &Scene<'_>,
     drivers: &Drivers,
-    memory: &mut Memory,
+    ledger: &mut Ledger,
     accounts: &[Account],
     place: usize,
     layer: u32,
@@ -166,7 +165,7 @@ fn push_layer(
     if account.layer != layer {
         return Ok(());
     }
-    push_account(facts, scene, drivers, memory, account, all)?;
+    push_account(facts, scene, drivers, ledger, account, all)?;
     Ok(())
 }
 
@@ -176,7 +175,7 @@ pub(crate) fn further_facts(
     alloc: Global,
     scene: &Scene<'_>,
     drivers: &Drivers,
-    memory: &mut Memory,
+    ledger: &mut Ledger,
     accounts: &[Account],
     from: usize,
     layer: u32,
@@ -187,7 +186,7 @@ pub(crate) fn further_facts(
 {
     let mut facts = Vec::new(alloc);
     'accounts: for i in from..accounts.len() {
-        push_layer(&mut facts, scene, drivers, memory, accounts, i, layer, all)?;
+        push_layer(&mut facts, scene, drivers, ledger, accounts, i, layer, all)?;
     }
     Ok(facts)
 }

@@ -1,10 +1,10 @@
 //! The accounts of one layer.
-ghost use Rattle.std.specs.Prelude.{◌≡◌, ◌<◌, ◌≤◌, false, length, All, OnOk, slice_range};
+ghost use Rattle.std.specs.Prelude.{◌≡◌, false, All, OnOk, slice_range};
 ghost use Rattle.bs_inspect_causes.specs.Layers.{IsReady, IsRealIn, IsUnit, IsUnitAt, Tells, marks_net};
 
 use crate::account::Account;
 use crate::drivers::Drivers;
-use crate::memory::Memory;
+use crate::ledger::Ledger;
 use crate::telling::account_of;
 use crate::units::{Unit, ordered, unit_at};
 use bs_bits::{List, NoMemory};
@@ -18,7 +18,7 @@ fn push_account(
     alloc: Global,
     scene: &Scene<'_>,
     drivers: &Drivers,
-    memory: &mut Memory,
+    ledger: &mut Ledger,
     accounts: &mut List<Account>,
     facts: &[Fact],
     at: u32,
@@ -30,19 +30,19 @@ fn push_account(
     ensures { OnOk result (Tells scene.now.moments.now layer facts.now accounts.old accounts.new) }
 {
     let account = account_of(alloc, scene, drivers, facts, at, flop, layer)?;
-    memory.note(&account.block);
+    ledger.note(&account.block);
     accounts.push(account)?;
     Ok(())
 }
 
 /// Whether the facts of a later layer than the first are told already.
-fn is_told(memory: &Memory, facts: &[Fact], layer: u32) -> bool
+fn is_told(ledger: &Ledger, facts: &[Fact], layer: u32) -> bool
     ensures { layer ≡ 0 → result ≡ false }
 {
     if layer == 0 {
         return false;
     }
-    memory.tells_all(facts)
+    ledger.tells_all(facts)
 }
 
 /// Tells a unit, unless it is told already.
@@ -51,7 +51,7 @@ fn tell_unit(
     alloc: Global,
     scene: &Scene<'_>,
     drivers: &Drivers,
-    memory: &mut Memory,
+    ledger: &mut Ledger,
     accounts: &mut List<Account>,
     facts: &[Fact],
     at: u32,
@@ -62,11 +62,11 @@ fn tell_unit(
     requires unit { IsUnit scene.now.moments.now drivers.now at flop facts.now }
     ensures { OnOk result (Tells scene.now.moments.now layer facts.now accounts.old accounts.new) }
 {
-    if is_told(memory, facts, layer) {
+    if is_told(ledger, facts, layer) {
         return Ok(());
     }
     push_account(
-        alloc, scene, drivers, memory, accounts, facts, at, flop, layer,
+        alloc, scene, drivers, ledger, accounts, facts, at, flop, layer,
     )?;
     Ok(())
 }
@@ -77,7 +77,7 @@ fn tell_unit_at(
     alloc: Global,
     scene: &Scene<'_>,
     drivers: &Drivers,
-    memory: &mut Memory,
+    ledger: &mut Ledger,
     accounts: &mut List<Account>,
     facts: &[Fact],
     from: usize,
@@ -92,7 +92,7 @@ fn tell_unit_at(
 {
     let part = &facts[from..unit.stop];
     tell_unit(
-        alloc, scene, drivers, memory, accounts, part, unit.at, unit.flop, layer,
+        alloc, scene, drivers, ledger, accounts, part, unit.at, unit.flop, layer,
     )?;
     Ok(())
 }
@@ -103,7 +103,7 @@ fn tell_units(
     alloc: Global,
     scene: &Scene<'_>,
     drivers: &Drivers,
-    memory: &mut Memory,
+    ledger: &mut Ledger,
     accounts: &mut List<Account>,
     facts: &[Fact],
     layer: u32,
@@ -117,7 +117,7 @@ fn tell_units(
     'units: while from < facts.len() {
         let unit = unit_at(scene, drivers, facts, from);
         tell_unit_at(
-            alloc, scene, drivers, memory, accounts, facts, from, unit, layer,
+            alloc, scene, drivers, ledger, accounts, facts, from, unit, layer,
         )?;
         from = unit.stop;
     }
@@ -125,12 +125,11 @@ fn tell_units(
 }
 
 /// Tells facts in a layer, the latest cycle first and in it by vectors.
-#[tactic(auto, using(crate::proofs::LayerLemmas::kept_real, crate::proofs::LayerLemmas::kept_driven, crate::proofs::LayerLemmas::tells_kept))]
 pub(crate) fn tell_facts(
     alloc: Global,
     scene: &Scene<'_>,
     drivers: &Drivers,
-    memory: &mut Memory,
+    ledger: &mut Ledger,
     accounts: &mut List<Account>,
     facts: Vec<Fact>,
     layer: u32,
@@ -141,6 +140,6 @@ pub(crate) fn tell_facts(
     ensures { OnOk result (Tells scene.now.moments.now layer facts.items accounts.old accounts.new) }
 {
     let kept = ordered(alloc, scene, drivers, facts)?;
-    tell_units(alloc, scene, drivers, memory, accounts, kept.slice(), layer)?;
+    tell_units(alloc, scene, drivers, ledger, accounts, kept.slice(), layer)?;
     Ok(())
 }

@@ -2,7 +2,7 @@
 //!
 //! Modules: `breaks` (`first_break`: whether a trace is of an execution), `drivers` (which nets flip-flops and data inputs drive), `facts`,
 //! `account` (`Account`: a block with its facts by kind), `sourced` (the block by all flip-flops and data inputs of a cycle),
-//! `telling` (the account of a unit), `units` (facts of one vector and cycle), `layer`, `memory` and `further` (what is told
+//! `telling` (the account of a unit), `units` (facts of one vector and cycle), `layer`, `ledger` and `further` (what is told
 //! already, and asked further), `accounts` (`accounts_of`). Used above: `Explain` (`specs/Accounts`). By which facts a unit is told
 //! is chosen below (bs_inspect_cones), and `is_block` (bs_net_facts) decides; where it does not know, `sources_force` does.
 #![tactic(auto)]
@@ -14,7 +14,7 @@ mod drivers;
 mod facts;
 mod further;
 mod layer;
-mod memory;
+mod ledger;
 mod sourced;
 mod telling;
 mod units;

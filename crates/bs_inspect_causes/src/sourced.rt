@@ -1,5 +1,5 @@
 //! A block by all flip-flops and data inputs of a cycle, which always force it.
-ghost use Rattle.std.specs.Prelude.{◌≡◌, ◌<◌, ◌+◌, ◌^◌, length, IfOk, MatchOption};
+ghost use Rattle.std.specs.Prelude.{◌≡◌, ◌<◌, ◌+◌, length, IfOk, MatchOption};
 ghost use Rattle.bs_net.specs.Netlist.{circuit};
 ghost use Rattle.bs_net_facts.specs.Blocks.{IsBlock};
 ghost use Rattle.bs_inspect_causes.specs.Layers.{ForcesAt, IsReady, IsUnit};
@@ -38,7 +38,6 @@ fn source_cycle(moments: &Moments<'_>, flop: bool, at: u32) -> Option<u32>
 }
 
 /// The block of a unit by the flip-flops and data inputs of a cycle.
-#[tactic(auto, using(crate::proofs::BlockLemmas::forces_early, crate::proofs::BlockLemmas::sourced_block))]
 fn block_from(
     alloc: Global,
     moments: &Moments<'_>,
@@ -68,7 +67,6 @@ fn block_from(
 }
 
 /// The block of a unit of the first moment.
-#[tactic(auto, using(crate::proofs::BlockLemmas::begun_block))]
 fn first_block(
     alloc: Global,
     moments: &Moments<'_>,
@@ -97,7 +95,7 @@ fn first_block(
 }
 
 /// The block of a unit by all flip-flops and data inputs: of the cycle before for flip-flops, else of the cycle itself.
-#[tactic(auto, using(crate::proofs::BlockLemmas::unit_there, crate::proofs::BlockLemmas::one_more))]
+#[tactic(auto, using(crate::proofs::BlockLemmas::one_more))]
 pub(crate) fn sourced_block(
     alloc: Global,
     moments: &Moments<'_>,

@@ -40,7 +40,6 @@ fn proposed(alloc: Global, scene: &Scene<'_>, facts: &[Fact], at: u32) -> Result
 }
 
 /// The account of a unit by all flip-flops and data inputs.
-#[tactic(auto, using(crate::proofs::AccountLemmas::bits_last))]
 fn sourced_account(
     alloc: Global,
     scene: &Scene<'_>,
@@ -61,7 +60,6 @@ fn sourced_account(
 }
 
 /// The account of a unit by what is proposed, if that is a block.
-#[tactic(auto, using(crate::proofs::AccountLemmas::bits_last))]
 fn judged(
     alloc: Global,
     scene: &Scene<'_>,

@@ -2,7 +2,7 @@
 ghost use Rattle.std.specs.Prelude.{◌≡◌, ◌<◌, ◌≤◌, ◌+◌, true, length, IfOk, OnOk};
 ghost use Rattle.std.specs.List.{AllWithin};
 ghost use Rattle.std.specs.List.Sorted.{IsPermutation};
-ghost use Rattle.bs_inspect_causes.specs.Layers.{IsLike, IsUnitAt, KeepsFirst};
+ghost use Rattle.bs_inspect_causes.specs.Layers.{IsLike, IsUnitAt, KeepsFirst, Repeats};
 
 use crate::drivers::{Drivers, is_marked};
 use bs_bits::{List, NoMemory};
@@ -37,17 +37,26 @@ fn is_same(one: Fact, other: Fact) -> bool
     net && cycle && bit
 }
 
+/// Whether the fact at a place is the same as the one before it.
+#[tactic(auto, using(crate::proofs::UnitLemmas::repeats_of))]
+fn is_repeated(facts: &[Fact], place: usize) -> bool
+    requires { place < length facts.now }
+    ensures { result ≡ true → Repeats facts.now place }
+{
+    if place == 0 {
+        return false;
+    }
+    is_same(facts[place - 1], facts[place])
+}
+
 /// Puts the fact at a place at the end, unless it is that before it.
-#[tactic(auto, using(crate::proofs::UnitLemmas::keeps_more, crate::proofs::UnitLemmas::keeps_same))]
 fn push_new(facts: &[Fact], place: usize, kept: &mut List<Fact>) -> Result<(), NoMemory>
     requires there { place < length facts.now }
     requires so_far { KeepsFirst facts.now place kept.old }
     ensures { OnOk result (KeepsFirst facts.now (place + 1) kept.new) }
 {
-    if place > 0 {
-        if is_same(facts[place - 1], facts[place]) {
-            return Ok(());
-        }
+    if is_repeated(facts, place) {
+        return Ok(());
     }
     kept.push(facts[place])?;
     Ok(())
@@ -66,7 +75,6 @@ fn distinct(alloc: Global, facts: &[Fact]) -> Result<List<Fact>, NoMemory>
 }
 
 /// Facts in the order of their units, each once.
-#[tactic(auto, using(crate::proofs::UnitLemmas::ordered_keeps))]
 pub(crate) fn ordered(
     alloc: Global,
     scene: &Scene<'_>,

@@ -1,54 +1,39 @@
 //! What is told so far, and what the choice of further facts counts. Nothing is promised of it.
 
 use bs_bits::NoMemory;
+use bs_inspect_cones::{put_word, word_at};
 use bs_net_facts::{Block, Fact};
 use std::alloc::Global;
 
-/// What is told so far, and counts by nets.
+/// What is told so far, and counts, by nets.
 #[derive(Drop)]
-pub(crate) struct Memory {
-    /// The cycles of the block that told a net last.
-    since: Vec<u32>,
-    until: Vec<u32>,
+pub(crate) struct Ledger {
+    /// The first cycle of the block that told a net last, and the cycle behind its last one.
+    since: Vec<u64>,
+    until: Vec<u64>,
     /// In how many cycles a net keeps the bits of the present account.
-    holds: Vec<u32>,
+    holds: Vec<u64>,
 }
 
-/// So many equal numbers.
-fn numbers(alloc: Global, count: usize, number: u32) -> Result<Vec<u32>, NoMemory> {
-    let numbers = vec![in alloc; number; count]?;
-    Ok(numbers)
-}
-
-/// Puts a number at a place, if there is one.
-fn put(numbers: &mut Vec<u32>, place: u32, number: u32) {
-    if (place as usize) < numbers.len() {
-        numbers[place as usize] = number;
-    }
-}
-
-/// The number at a place, and 0 where there is none.
-fn number_at(numbers: &[u32], place: u32) -> u32 {
-    if (place as usize) < numbers.len() {
-        numbers[place as usize]
-    } else {
-        0
-    }
+/// So many words of zeros.
+fn zeros(alloc: Global, count: usize) -> Result<Vec<u64>, NoMemory> {
+    let words = vec![in alloc; 0; count]?;
+    Ok(words)
 }
 
 /// One more at a place.
-fn count_at(numbers: &mut Vec<u32>, place: u32) {
-    let count = number_at(numbers.as_slice(), place).saturating_add(1);
-    put(numbers, place, count);
+fn count_at(words: &mut Vec<u64>, place: u32) {
+    let count = word_at(words.as_slice(), place).saturating_add(1);
+    put_word(words, place, count);
 }
 
-impl Memory {
+impl Ledger {
     /// Of so many nets nothing is told.
-    pub(crate) fn new(alloc: Global, nets: usize) -> Result<Memory, NoMemory> {
-        let since = numbers(alloc, nets, 1)?;
-        let until = numbers(alloc, nets, 0)?;
-        let holds = numbers(alloc, nets, 0)?;
-        Ok(Memory {
+    pub(crate) fn new(alloc: Global, nets: usize) -> Result<Ledger, NoMemory> {
+        let since = zeros(alloc, nets)?;
+        let until = zeros(alloc, nets)?;
+        let holds = zeros(alloc, nets)?;
+        Ok(Ledger {
             since,
             until,
             holds,
@@ -57,16 +42,19 @@ impl Memory {
 
     /// Notes the cycles of a block.
     pub(crate) fn note(&mut self, block: &Block) {
+        let since = u64::from(block.since);
+        let until = u64::from(block.at) + 1;
         for fact in block.bits.slice() {
-            put(&mut self.since, fact.net.0, block.since);
-            put(&mut self.until, fact.net.0, block.at);
+            put_word(&mut self.since, fact.net.0, since);
+            put_word(&mut self.until, fact.net.0, until);
         }
     }
 
     /// Whether the block that told a fact's net last tells it in the fact's cycle.
     pub(crate) fn tells(&self, fact: Fact) -> bool {
-        let begun = number_at(self.since.as_slice(), fact.net.0) <= fact.cycle;
-        let lasts = fact.cycle <= number_at(self.until.as_slice(), fact.net.0);
+        let cycle = u64::from(fact.cycle);
+        let begun = word_at(self.since.as_slice(), fact.net.0) <= cycle;
+        let lasts = cycle < word_at(self.until.as_slice(), fact.net.0);
         begun && lasts
     }
 
@@ -90,7 +78,7 @@ impl Memory {
     /// Takes the counts back.
     pub(crate) fn clear(&mut self, holds: &[Fact]) {
         for fact in holds {
-            put(&mut self.holds, fact.net.0, 0);
+            put_word(&mut self.holds, fact.net.0, 0);
         }
     }
 
@@ -98,7 +86,7 @@ impl Memory {
     pub(crate) fn is_steady(&self, block: &Block, fact: Fact) -> bool {
         let cycles = block.at.saturating_sub(block.since);
         let last = block.at.saturating_sub(fact.cycle) == 1;
-        let all = number_at(self.holds.as_slice(), fact.net.0) == cycles;
+        let all = word_at(self.holds.as_slice(), fact.net.0) == u64::from(cycles);
         last && all && cycles > 1
     }
 }

@@ -1,0 +1,15 @@
+use Rattle.bs_inspect_causes.proofs.BlockLemmas.{forces_early, sourced_block, unit_there}
+use Rattle.bs_inspect_causes.proofs.sourced.block_from.Goals as goal
+
+pub sources_at-requires-clause-early : goal.sources_at-requires-clause-early
+sources_at-requires-clause-early c =
+    forces_early c.args.moments.now c.args.drivers.now c.args.at c.args.flop c.args.cycle c.requires.ready
+    (unit_there c.args.moments.now c.args.drivers.now c.args.at c.args.flop c.args.facts.now c.requires.unit) c.requires.forces
+
+pub returns-clause-block : goal.returns-clause-block
+returns-clause-block c =
+    let early =
+    forces_early c.args.moments.now c.args.drivers.now c.args.at c.args.flop c.args.cycle c.requires.ready
+    (unit_there c.args.moments.now c.args.drivers.now c.args.at c.args.flop c.args.facts.now c.requires.unit) c.requires.forces in
+    sourced_block c.args.moments.now c.args.drivers.now c.args.at c.args.flop c.args.facts.now c.requires.unit c.requires.ready c.args.cycle early _ _
+    c.requires.forces c.in_ok-bits.ensures c.in_ok-given.ensures.are c.in_ok-given.ensures.real
