@@ -7,6 +7,7 @@ use Rattle.std.proofs.lemmas.Grind.{flat_map-append}
 use Rattle.std.proofs.lemmas.List.{append-nil, get_or_append_left, get_or_push, length_push}
 use Rattle.std.proofs.lemmas.List.Elements.{All-drop, All-nil, All-take}
 use Rattle.bs_net.specs.Circuit.{Circuit}
+use Rattle.bs_net.specs.Parts.{Parts}
 use Rattle.bs_net_facts.specs.declared.fact.Fact.{Fact}
 use Rattle.bs_net_facts.specs.Facts.{IsReal}
 use Rattle.bs_net_facts.specs.Seen.{Seen}
@@ -93,6 +94,12 @@ stretch_real c states inputs facts part begins j h e =
     (cut_all (IsReal c states inputs) (get_or begins (length begins - (j + 1)) 0) (get_or begins (length begins - (j + 1) + 1) (length facts)) facts h)
 
 -- ---- the block
+
+-- the parts of the netlist
+pub raw_is : {raw own : Parts} {lead : List ℕ} {facts_most most spans : ℕ} {facts : List Fact} {old new : List ℕ} → raw ≡ own →
+    Appends (TellsGroups raw lead facts_most most spans facts) old new → Appends (TellsGroups own lead facts_most most spans facts) old new
+raw_is {lead = lead} {facts_most = facts_most} {most = most} {spans = spans} {facts = facts} {old = old} {new = new} e told =
+    subst (λ (r : Parts). Appends (TellsGroups r lead facts_most most spans facts) old new) e told
 
 pub block_told : (m : Seen) (r : Report) (limits : Limits) (steps : ℕ) (first last : Episode) (t₀ t₁ t₂ t₃ t₄ : List ℕ) →
     Appends (TellsHead m r steps first last) t₀ t₁ → Appends (TellsCauses m limits last.causes) t₁ t₂ →

@@ -1,5 +1,5 @@
 -- The first line of a block.
-use Rattle.std.proofs.Common.{◌≡◌, ◌≢◌, ℕ, ◌<◌, ◌≤◌, ◌+◌, ◌-◌, Bool, false, List, [], ◌∷◌, ◌++◌, length, get_or, refl, ap, sym, subst, ◌∙◌, ◌⊎◌, inl, inr, arith, zero, suc}
+use Rattle.std.proofs.Common.{◌≡◌, ◌≢◌, ℕ, ◌<◌, ◌≤◌, ◌+◌, ◌-◌, Bool, false, List, [], ◌∷◌, ◌++◌, length, get_or, refl, ap, sym, subst, ◌∙◌, ◌⊎◌, inl, inr, arith, append_assoc}
 use Rattle.std.specs.List.{All}
 use Rattle.std.specs.Prelude.{◌==◌, if◌then◌else◌}
 use Rattle.std.proofs.lemmas.Bool.{cases_lt, ne_eqb}
@@ -61,6 +61,15 @@ befores_all c states inputs facts since befores some are =
     subst (λ (b : Bool). AreBefore c states inputs facts since (if b then 0 else length facts) befores) (sym (ne_eqb since 0 other)) are
 
 -- ---- the line
+
+-- five pieces, one behind another
+pub steps_told : (t a b c d e t₁ t₂ t₃ t₄ t₅ : List ℕ) → t₁ ≡ t ++ a → t₂ ≡ t₁ ++ b → t₃ ≡ t₂ ++ c → t₄ ≡ t₃ ++ d → t₅ ≡ t₄ ++ e →
+    t₅ ≡ t ++ (a ++ (b ++ (c ++ (d ++ e))))
+steps_told t a b c d e t₁ t₂ t₃ t₄ t₅ h₁ h₂ h₃ h₄ h₅ =
+    h₅
+    ∙ (ap (λ (x : List ℕ). x ++ e) (h₄ ∙ ap (λ (x : List ℕ). x ++ d) (h₃ ∙ ap (λ (x : List ℕ). x ++ c) (h₂ ∙ ap (λ (x : List ℕ). x ++ b) h₁)))
+    ∙ (append_assoc (((t ++ a) ++ b) ++ c) d e
+    ∙ (append_assoc ((t ++ a) ++ b) c (d ++ e) ∙ (append_assoc (t ++ a) b (c ++ (d ++ e)) ∙ append_assoc t a (b ++ (c ++ (d ++ e)))))))
 
 pub line_told : (m : Seen) (r : Report) (steps : ℕ) (signals : List Signal) (first last : Episode) (bits befores : List Bool)
     (old new : List ℕ) → bits ≡ fact_bits first.bits →

@@ -97,7 +97,6 @@ fn push_idle(
 }
 
 /// Appends the text of a block, or of a chain of so many, from the one that ends last to the first step.
-#[tactic(auto, using(crate::proofs::BlockLemmas::block_told))]
 pub fn push_block(
     text: &mut Vec<u8>,
     moments: &Moments<'_>,

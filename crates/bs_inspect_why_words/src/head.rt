@@ -112,7 +112,8 @@ fn push_steps(
     push_number(text, steps as u64)?;
     push_piece(text, b" steps from")?;
     push_values(text, befores, signals)?;
-    push_at(text, cycle)
+    push_at(text, cycle)?;
+    Ok(())
 }
 
 /// Appends the first value of a chain of so many steps, or the value before.
