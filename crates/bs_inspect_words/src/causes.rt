@@ -1,5 +1,6 @@
 //! What `why` asks.
 ghost use Rattle.std.specs.Prelude.{◌≤◌};
+ghost use Rattle.bs_inspect_words.specs.declared.causes.TheConstants.{MAX_DEPTH};
 
 /// How many layers of accounts may be asked for.
 pub const MAX_DEPTH: u64 = 256;
