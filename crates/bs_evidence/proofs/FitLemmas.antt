@@ -1,8 +1,7 @@
 -- Steps that fit.
-use Rattle.std.proofs.Common.{◌≡◌, ℕ, ◌+◌, ◌<◌, arith, Bool, true, false, List, [], ◌∷◌, map, length, get_or, take, refl, ap, sym, subst, ◌∙◌, eqb, Option, Some, None, inl, inr, ◌⊎◌}
-use Rattle.std.specs.Prelude.{All, IsTrue, ◌&&◌, ◌==◌, if◌then◌else◌, is_none, slice_get, cond}
-use Rattle.std.specs.Option.{option_to_list}
-use Rattle.std.proofs.lemmas.Bool.{and_parts, and_from, eqb-true, eq-eqb, false≢true}
+use Rattle.std.proofs.Common.{◌≡◌, ℕ, ◌+◌, ◌<◌, Bool, true, false, List, [], ◌∷◌, length, get_or, take, refl, ap, sym, subst, ◌∙◌, eqb, Option, Some, None, inl, inr}
+use Rattle.std.specs.Prelude.{All, IsTrue, ◌&&◌, is_none, cond}
+use Rattle.std.proofs.lemmas.Bool.{and_parts, eqb-true, eq-eqb, false≢true}
 use Rattle.std.proofs.lemmas.List.Elements.{All-more, All-from_recursion, All-weaker}
 use Rattle.std.proofs.lemmas.Option.{slice_get-get_or}
 use Rattle.bs_encode.specs.Assuming.{AreWide}

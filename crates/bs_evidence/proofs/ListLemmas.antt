@@ -1,10 +1,10 @@
 -- A state that is not listed.
-use Rattle.std.proofs.Common.{◌≡◌, ℕ, ◌+◌, ◌-◌, ◌<◌, ◌≤◌, arith, true, List, [], ◌∷◌, length, map, drop, get_or, refl, ap, sym, subst, ◌∙◌, Option, Some, None}
+use Rattle.std.proofs.Common.{◌≡◌, ℕ, ◌+◌, ◌-◌, ◌≤◌, arith, true, List, [], length, drop, get_or, refl, ap, sym, subst, ◌∙◌, Option, Some, None}
 use Rattle.std.specs.Prelude.{All, Contains, slice_get, unwrap_or, Bool}
 use Rattle.std.proofs.lemmas.List.Elements.{All-contains, All-weaker}
 use Rattle.std.proofs.lemmas.Option.{slice_get_within, slice_get-get_or}
-use Rattle.bs_clause.specs.Literal.{Literal, Clause, negation}
-use Rattle.bs_log.specs.History.{Problem, History, activation_of}
+use Rattle.bs_clause.specs.Literal.{Clause}
+use Rattle.bs_log.specs.History.{Problem, activation_of}
 use Rattle.bs_log.specs.Refusal.{assumptions_of, has_distinct_variables}
 use Rattle.bs_log.specs.Refutation.{blocks_of}
 use Rattle.bs_log.specs.Shown.{Basis, Shown}
@@ -19,7 +19,7 @@ use Rattle.bs_scan.specs.Present.{Present}
 use Rattle.bs_scan.specs.Signature.{agrees}
 use Rattle.bs_encode.specs.Tables.{lit}
 use Rattle.bs_encode.specs.Encoded.{Encoded}
-use Rattle.bs_encode.specs.Assuming.{assumptions_for, block_for, steps_from}
+use Rattle.bs_encode.specs.Assuming.{assumptions_for, block_for}
 use Rattle.bs_encode.specs.Depth.{basis_of, encoding_by}
 use Rattle.bs_encode.specs.Listing.{IsTidy, PredecessorsAreShown}
 use Rattle.bs_encode.proofs.AssumingLemmas.{length_steps_from, assumptions_at}

@@ -1,6 +1,6 @@
 -- A step that a log finishes.
-use Rattle.std.proofs.Common.{◌≡◌, ℕ, ◌+◌, ◌-◌, ◌<◌, ◌≤◌, arith, Bool, true, false, List, [], ◌∷◌, length, take, drop, refl, ap, sym, subst, ◌∙◌, Some, None}
-use Rattle.std.specs.Prelude.{◌&&◌, nat_lt, slice_get}
+use Rattle.std.proofs.Common.{◌≡◌, ℕ, ◌+◌, ◌<◌, ◌≤◌, arith, true, List, [], ◌∷◌, length, take, ap, sym, subst, ◌∙◌, Some, None}
+use Rattle.std.specs.Prelude.{◌&&◌, nat_lt}
 use Rattle.std.specs.List.{list_all, AllByRecursion}
 use Rattle.std.proofs.lemmas.List.Elements.{All-from_recursion}
 use Rattle.std.proofs.lemmas.Bool.{and_parts, ltb-true}
@@ -15,7 +15,7 @@ use Rattle.bs_log.specs.Refusal.{NoneRefused, IsAccepted, history_of, assumption
 use Rattle.bs_log_dimacs.specs.declared.frame.Refuted.{Refuted}
 use Rattle.bs_log_dimacs.specs.declared.frame.TheConstants.{FEW}
 use Rattle.bs_log_dimacs.specs.Law.{IsFinishAt}
-use Rattle.bs_log_dimacs.specs.Walk.{problem_in, IsAsked, IsOneOf, IsProvable}
+use Rattle.bs_log_dimacs.specs.Walk.{problem_in, IsOneOf, IsProvable}
 use Rattle.bs_log_dimacs.proofs.Laws.{right_lines}
 use Rattle.bs_log_whole.specs.declared.asked.WholeLog.{WholeLog}
 use Rattle.bs_log_whole.specs.Walk.{problem_in as whole_problem, IsWritable, IsSmall}

@@ -1,5 +1,5 @@
 -- The problem of a report's log.
-use Rattle.std.proofs.Common.{◌≡◌, ℕ, ◌+◌, ◌<◌, ◌≤◌, arith, Bool, true, false, cond, eqb, leb, List, length, map, refl, ap, subst, sym, ◌∙◌, Option, Some, None, inl, inr, ◌⊎◌}
+use Rattle.std.proofs.Common.{◌≡◌, ℕ, ◌+◌, ◌<◌, ◌≤◌, arith, Bool, true, false, cond, eqb, leb, List, length, refl, ap, subst, sym, ◌∙◌, Option, Some, None, inl, inr, ◌⊎◌}
 use Rattle.std.specs.Prelude.{All, IfOk, IfSome, IsTrue, MatchOption, Result, Ok, Err, ◌&&◌}
 use Rattle.std.proofs.lemmas.Bool.{and_parts, leb-true, leb-false, true≢false}
 use Rattle.bs_clause.specs.Literal.{Clause}
@@ -20,7 +20,7 @@ use Rattle.bs_evidence.specs.declared.flaw.Flaw.{Flaw}
 use Rattle.bs_evidence.specs.declared.flaw.Flaw.TheVariants as flaws
 use Rattle.bs_evidence.specs.declared.evidence.Format.{Format}
 use Rattle.bs_evidence.specs.Encoded.{problem_with}
-use Rattle.bs_evidence.specs.Evidence.{problem_for, HasFit, HasAsked, IsLogEvidence, IsLogFlaw, IsMisfit, IsUnfit, IsFitOr, IsFlawed, IsMissing, IsNoStep, IsEvidence, is_fit, is_there, has_signatures, misfit_of}
+use Rattle.bs_evidence.specs.Evidence.{problem_for, HasAsked, IsLogEvidence, IsLogFlaw, IsMisfit, IsUnfit, IsFitOr, IsFlawed, IsMissing, IsEvidence, is_fit, is_there, has_signatures, misfit_of}
 
 pub same_problem : (c : Circuit) (choice : Chosen) (presents : List Present) (e : Encoded) (assumptions : List Clause) → e ≡ encoding_by c choice →
     assumptions ≡ steps_from e 1 presents → problem_with e assumptions ≡ (basis_of c choice presents).problem

@@ -1,5 +1,5 @@
 -- The evidence for a list of a report or for all of them, and why there is none.
-use Rattle.std.specs.Prelude.{◌≡◌, ◌≢◌, ◌↔◌, ◌⊎◌, ℕ, ◌+◌, ◌-◌, ◌<◌, ◌≤◌, ◌^◌, List, [], ◌∷◌, length, map, take, All, Contains, Some, None, Option, slice_get, unwrap_or}
+use Rattle.std.specs.Prelude.{◌≡◌, ◌≢◌, ◌⊎◌, ℕ, ◌+◌, ◌-◌, ◌<◌, ◌≤◌, List, [], ◌∷◌, length, map, take, All, Contains, Some, None, Option, slice_get, unwrap_or}
 use Rattle.std.specs.Prelude.{Bool, true, false, ◌==◌, ◌&&◌, nat_lt, nat_le, if◌then◌else◌, is_none, is_some, IsTrue, IfSome}
 use Rattle.std.specs.List.{list_all}
 use Rattle.bs_clause.specs.Literal.{Literal, Clause, negation, Satisfies}

@@ -1,12 +1,12 @@
 -- The clauses of a log are few enough.
-use Rattle.std.proofs.Common.{◌≡◌, ℕ, zero, suc, ◌+◌, ◌-◌, ◌*◌, ◌^◌, ◌<◌, ◌≤◌, arith, Bool, true, false, not, ◌&&◌, eqb, List, [], ◌∷◌, ◌++◌, map, length, take, drop, reverse, get_or}
+use Rattle.std.proofs.Common.{◌≡◌, ℕ, zero, suc, ◌+◌, ◌-◌, ◌*◌, ◌^◌, ◌<◌, ◌≤◌, arith, not, eqb, List, [], ◌∷◌, ◌++◌, length, take, drop, reverse, get_or}
 use Rattle.std.proofs.Common.{refl, sym, ap, subst, ◌∙◌, Option, Some, None}
 use Rattle.std.specs.Prelude.{All, slice_get, unwrap_or, IfSome}
 use Rattle.std.specs.List.{AllByRecursion}
 use Rattle.std.proofs.lemmas.Bool.{not-true, and_parts}
 use Rattle.std.proofs.lemmas.List.{length-append, length-map, length-reverse, length-take}
 use Rattle.std.proofs.lemmas.List.Elements.{recursion_from_All}
-use Rattle.bs_clause.specs.Literal.{Literal, Clause, negation, IsVariable}
+use Rattle.bs_clause.specs.Literal.{Literal, Clause, negation}
 use Rattle.bs_log.specs.declared.line.Line.{Line}
 use Rattle.bs_log.specs.declared.line.Line.TheVariants.{Solve, Lemma, Block, Finish, Retire, Delete}
 use Rattle.bs_log.specs.History.{Problem, History, step_of, activation_of, last_id, state_of, phase_of}

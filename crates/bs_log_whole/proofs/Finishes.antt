@@ -1,7 +1,6 @@
 -- The line that finishes a step stands right before the line that ends it.
-use Rattle.std.proofs.Common.{◌≡◌, ℕ, ◌+◌, ◌<◌, ◌≤◌, arith, Bool, true, false, ◌||◌, ◌&&◌, cond, eqb, leb, List, [], ◌∷◌, length, refl, sym, ap, subst, ◌∙◌, Option, Some, None}
-use Rattle.std.proofs.lemmas.Bool.{eq-eqb, and_parts, false≢true}
-use Rattle.bs_log.specs.declared.line.Line.{Line}
+use Rattle.std.proofs.Common.{◌≡◌, ℕ, ◌+◌, ◌≤◌, arith, true, ◌||◌, ◌&&◌, cond, eqb, leb, [], ◌∷◌, length, refl, sym, ap, subst, ◌∙◌, Some, None}
+use Rattle.std.proofs.lemmas.Bool.{eq-eqb, false≢true}
 use Rattle.bs_log.specs.declared.line.Line.TheVariants.{Solve, Lemma, Block, Finish, Retire, Delete}
 use Rattle.bs_log.specs.declared.phase.Phase.{Phase}
 use Rattle.bs_log.specs.declared.phase.Phase.TheVariants.{AfterFinish}

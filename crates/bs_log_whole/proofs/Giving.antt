@@ -1,6 +1,6 @@
 -- What one more line gives.
-use Rattle.std.proofs.Common.{◌≡◌, ℕ, zero, suc, ◌+◌, ◌-◌, ◌<◌, ◌≤◌, arith, Bool, true, false, ◌&&◌, cond, eqb, List, [], ◌∷◌, ◌++◌, map, length, reverse}
-use Rattle.std.proofs.Common.{refl, sym, ap, subst, ◌∙◌, Option, Some, None}
+use Rattle.std.proofs.Common.{◌≡◌, ℕ, zero, suc, ◌+◌, ◌-◌, ◌<◌, arith, Bool, true, false, cond, eqb, List, [], ◌∷◌, ◌++◌, map, length, reverse}
+use Rattle.std.proofs.Common.{refl, sym, ap, ◌∙◌, Option, Some, None}
 use Rattle.std.specs.Prelude.{is_some}
 use Rattle.std.specs.List.{filter, flat_map, range_with_len}
 use Rattle.std.proofs.lemmas.Bool.{eqb-true, eq-eqb, ne_eqb, and_parts, false≢true}
@@ -18,7 +18,6 @@ use Rattle.bs_log.specs.Refutation.{blocks_of}
 use Rattle.bs_log.proofs.Laws.{step_of-positive}
 use Rattle.bs_log.proofs.Tests.{right_from_none}
 use Rattle.bs_log_dimacs.proofs.Behind.{range_push}
-use Rattle.bs_log_whole.specs.declared.walk.Under.{Under}
 use Rattle.bs_log_whole.specs.Cnf.{finish_of, finished, said_of, part_of, one_of, whole_behind}
 use Rattle.bs_log_whole.specs.Proof.{under_of, so_far, ended_at, ended}
 use Rattle.bs_log_whole.specs.Walk.{under_behind, given_at}

@@ -1,14 +1,14 @@
 -- Reverse unit propagation while a step is under way.
-use Rattle.std.proofs.Common.{◌≡◌, ◌≢◌, ℕ, Bool, true, false, not, ◌||◌, ◌&&◌, cond, eqb, List, [], ◌∷◌, ◌++◌, map, refl, sym, ap, subst, ◌∙◌, Option, Some, inl, inr}
+use Rattle.std.proofs.Common.{◌≡◌, ℕ, Bool, true, false, not, ◌||◌, cond, eqb, List, [], ◌∷◌, ◌++◌, map, refl, sym, ap, ◌∙◌, Some, inl, inr}
 use Rattle.std.specs.Prelude.{is_some}
 use Rattle.std.specs.Option.{option_and_then}
-use Rattle.std.specs.List.{list_any, filter, AllByRecursion}
+use Rattle.std.specs.List.{list_any, AllByRecursion}
 use Rattle.std.proofs.lemmas.Bool.{not-true, and_parts, and_from, or_left, or_right, or_cases, false≢true, true≢false, eqb-true, eq-eqb}
 use Rattle.bs_clause.specs.Literal.{Literal, Clause, negation, same_literal, has_literal}
 use Rattle.bs_clause.proofs.Literals.{same_literal-true}
 use Rattle.bs_log.specs.Propagation.{sole_unassigned, open_literals, unit_literal, is_false, after_hints, ends_false_after, hints_are_unit, last_is_false}
 use Rattle.bs_log.specs.Refusal.{has_distinct_variables, denies}
-use Rattle.bs_log_dimacs.proofs.Units.{Fresh, same_self, negation_twice, unit_opens, grown, fresher, still_there, last_ends}
+use Rattle.bs_log_dimacs.proofs.Units.{Fresh, same_self, unit_opens, grown, fresher, still_there, last_ends}
 use Rattle.bs_log_whole.specs.Proof.{besides}
 
 module _ (v : ℕ) where

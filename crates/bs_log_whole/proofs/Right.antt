@@ -1,8 +1,8 @@
 -- Each line of the proof is right.
-use Rattle.std.proofs.Common.{◌≡◌, ℕ, zero, suc, ◌+◌, ◌<◌, ◌≤◌, arith, Bool, true, false, not, ◌&&◌, cond, eqb, List, [], ◌∷◌, ◌++◌, map, length, drop, refl, sym, ap, subst, ◌∙◌}
+use Rattle.std.proofs.Common.{◌≡◌, ℕ, ◌+◌, arith, Bool, true, false, not, ◌&&◌, cond, eqb, List, [], ◌∷◌, ◌++◌, map, length, drop, refl, sym, ap, subst, ◌∙◌}
 use Rattle.std.proofs.Common.{Option, Some, None}
 use Rattle.std.specs.Prelude.{option_map, is_some, slice_get, unwrap_or}
-use Rattle.std.specs.List.{list_all, filter_map}
+use Rattle.std.specs.List.{list_all}
 use Rattle.std.proofs.lemmas.Bool.{not-true, and_parts, and_from, false≢true}
 use Rattle.std.proofs.lemmas.List.{length-append, append_assoc}
 use Rattle.std.proofs.lemmas.List.Elements.{filter_map-append}
@@ -28,10 +28,10 @@ use Rattle.bs_log_dimacs.proofs.Raising.{raised_high}
 use Rattle.bs_log_dimacs.proofs.Standing.{Fits, new_entry, last_front}
 use Rattle.bs_log_dimacs.proofs.Units.{follows_from_itself, IsPlace, place_there, ending_is_unit, ending_is_false}
 use Rattle.bs_log_whole.specs.Cnf.{finish_of, finished, rest_of, guarded, said_of, one_of, whole_behind, whole_cnf_of}
-use Rattle.bs_log_whole.specs.Proof.{under_of, so_far, place_of, besides, off_hints, whole_shown, whole_frame, ended, whole_ending, whole_proof_of}
+use Rattle.bs_log_whole.specs.Proof.{under_of, so_far, place_of, besides, off_hints, whole_shown, whole_frame, ended, whole_proof_of}
 use Rattle.bs_log_whole.specs.Law.{IsLed, AreLed, WholeProofsAreRight, AcceptedIsUnmet}
 use Rattle.bs_log_whole.specs.Walk.{given_at}
-use Rattle.bs_log_whole.proofs.Giving.{top, step_in, so_far_next, finished_are, behind_is}
+use Rattle.bs_log_whole.proofs.Giving.{top, so_far_next, finished_are, behind_is}
 use Rattle.bs_log_whole.proofs.Finishes.{IsFinished, is_finished}
 use Rattle.bs_log_whole.proofs.Propagating.{guard, off_is_unit, off_is_false, all_off, besides_denied}
 use Rattle.bs_log_whole.proofs.Same.{whole_named, whole_kept, whole_hints, whole_hints_stand, whole_deleted_stand, whole_last}

@@ -1,8 +1,7 @@
 -- What stands behind the lines of a proof does not depend on their hints.
-use Rattle.std.proofs.Common.{◌≡◌, ℕ, ◌+◌, ◌<◌, ◌≤◌, arith, Bool, true, not, ◌||◌, eqb, List, [], ◌∷◌, ◌++◌, map, length, refl, sym, ap, ◌∙◌, Option, Some, None}
+use Rattle.std.proofs.Common.{◌≡◌, ℕ, ◌+◌, ◌<◌, ◌≤◌, true, not, ◌||◌, eqb, List, [], ◌∷◌, ◌++◌, map, refl, ap, ◌∙◌}
 use Rattle.std.specs.Prelude.{option_map, is_some}
 use Rattle.std.specs.List.{list_any, list_all, filter}
-use Rattle.bs_clause.specs.Literal.{Clause}
 use Rattle.bs_log.specs.declared.line.Line.TheVariants.{Solve, Lemma, Block, Finish, Retire, Delete}
 use Rattle.bs_log.specs.declared.origin.Origin.TheVariants.{Learnt}
 use Rattle.bs_log.specs.History.{Problem, History, Entry, axioms_from, step_of, added, live, is_deleted, last_id}

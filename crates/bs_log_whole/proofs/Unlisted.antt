@@ -1,5 +1,5 @@
 -- A state that is not listed meets the clauses.
-use Rattle.std.proofs.Common.{◌≡◌, ◌≢◌, ℕ, zero, suc, ◌+◌, ◌<◌, ◌≤◌, arith, Bool, true, false, ◌||◌, cond, eqb, List, [], ◌∷◌, ◌++◌, map, length, drop, reverse}
+use Rattle.std.proofs.Common.{◌≡◌, ℕ, zero, suc, ◌+◌, ◌<◌, ◌≤◌, arith, Bool, true, false, ◌||◌, cond, List, [], ◌∷◌, length, drop, reverse}
 use Rattle.std.proofs.Common.{refl, sym, ap, subst, ◌∙◌, Option, Some, None, inl, inr}
 use Rattle.std.specs.Prelude.{All, Contains, is_some}
 use Rattle.std.specs.Bool.{beq}
@@ -11,10 +11,9 @@ use Rattle.bs_log.specs.History.{Problem, History, activation_of}
 use Rattle.bs_log.specs.Refusal.{assumptions_of}
 use Rattle.bs_log.specs.Refutation.{blocks_of}
 use Rattle.bs_log.specs.Shown.{Basis, Shown}
-use Rattle.bs_log_dimacs.specs.Cnf.{closed}
 use Rattle.bs_log_dimacs.specs.Law.{BlocksOther}
 use Rattle.bs_log_dimacs.proofs.Laws.{each_append, each_map, each_weaker, each_reverse, each_range, off_is_true}
-use Rattle.bs_log_whole.specs.Cnf.{finish_of, finished, rest_of, guarded, said_of, part_of, one_of, whole_behind, whole_cnf_of}
+use Rattle.bs_log_whole.specs.Cnf.{finish_of, rest_of, guarded, said_of, part_of, one_of, whole_behind, whole_cnf_of}
 use Rattle.bs_log_whole.specs.Law.{OthersAreGuarded, UnlistedMeetsWhole}
 
 each_tail : {X : Type 0} (P : X → Type 0) (xs : List X) → AllByRecursion P xs → AllByRecursion P (drop 1 xs)

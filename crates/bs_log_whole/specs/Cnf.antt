@@ -2,7 +2,6 @@
 use Rattle.std.specs.Prelude.{ℕ, ◌+◌, ◌==◌, cond, List, [], ◌∷◌, ◌++◌, length, map, reverse, drop, Option, Some, None, is_some}
 use Rattle.std.specs.List.{filter, flat_map, range_with_len}
 use Rattle.bs_clause.specs.Literal.{Clause, negation}
-use Rattle.bs_log.specs.declared.line.Line.{Line}
 use Rattle.bs_log.specs.declared.line.Line.TheVariants.{Finish}
 use Rattle.bs_log.specs.History.{Problem, History, step_of, activation_of}
 use Rattle.bs_log.specs.Refusal.{assumptions_of}

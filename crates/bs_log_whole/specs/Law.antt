@@ -1,5 +1,5 @@
 -- What the clauses and the proof of all finished lists show.
-use Rattle.std.specs.Prelude.{◌≡◌, ◌≢◌, ◌≤◌, ℕ, Bool, true, List, ◌∷◌, length, All, Contains, is_some, IsTrue}
+use Rattle.std.specs.Prelude.{◌≡◌, ◌≢◌, ◌≤◌, ℕ, Bool, List, ◌∷◌, length, All, Contains, is_some, IsTrue}
 use Rattle.bs_clause.specs.Literal.{Clause, negation, Satisfies}
 use Rattle.bs_log.specs.declared.line.Line.{Line}
 use Rattle.bs_log.specs.History.{Problem, History, activation_of}

@@ -1,5 +1,5 @@
 -- The proof that all finished lists are complete, over their clauses, and its text as LRAT has it (docs/FORMATS.md, "Clauses for other checkers").
-use Rattle.std.specs.Prelude.{ℕ, ◌+◌, ◌-◌, ◌==◌, Bool, not, cond, List, [], ◌∷◌, ◌++◌, length, map, reverse, Option, Some, None, is_some}
+use Rattle.std.specs.Prelude.{ℕ, ◌+◌, ◌-◌, ◌==◌, not, cond, List, [], ◌∷◌, ◌++◌, length, map, reverse, Option, Some, None, is_some}
 use Rattle.std.specs.List.{filter, flat_map, range_with_len}
 use Rattle.bs_clause.specs.Literal.{Clause}
 use Rattle.bs_log.specs.declared.line.Line.{Line}

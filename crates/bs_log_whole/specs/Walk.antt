@@ -1,5 +1,5 @@
 -- A walk over the lines of a log, and what a log must be for its texts.
-use Rattle.std.specs.Prelude.{◌≡◌, ℕ, ◌+◌, ◌<◌, ◌^◌, Bool, true, false, List, [], ◌∷◌, length, All, Option, Some, None, IfSome}
+use Rattle.std.specs.Prelude.{◌≡◌, ℕ, ◌+◌, ◌<◌, ◌^◌, Bool, true, false, List, [], ◌∷◌, length, All, Some, None, IfSome}
 use Rattle.std.specs.List.{list_any}
 use Rattle.bs_clause.specs.declared.literal.TheConstants.{VARIABLE_LIMIT}
 use Rattle.bs_clause.specs.Literal.{Clause, IsVariable}

@@ -3,7 +3,6 @@ use Rattle.std.specs.Prelude.{IfSome}
 use Rattle.std.proofs.lemmas.List.{length-map}
 use Rattle.bs_log_dimacs.specs.Walk.{IsOneOf}
 use Rattle.bs_net.specs.Netlist.{circuit}
-use Rattle.bs_encode.specs.Depth.{basis_of}
 use Rattle.bs_encode.proofs.AssumingLemmas.{length_steps_from}
 use Rattle.bs_report_good.specs.Chain.{present_of}
 use Rattle.bs_evidence.specs.Encoded.{problem_with}

@@ -1,5 +1,5 @@
 use Rattle.bs_net.specs.Netlist.{circuit}
-use Rattle.bs_evidence.proofs.ProblemLemmas.{missing_some, missing_none, no_step}
+use Rattle.bs_evidence.proofs.ProblemLemmas.{missing_some}
 use Rattle.bs_evidence.proofs.evidence.missing.Goals as goal
 
 pub returns-in-Some : goal.returns-in-Some

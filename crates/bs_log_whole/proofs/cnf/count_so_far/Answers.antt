@@ -1,4 +1,4 @@
-use Rattle.std.proofs.Common.{◌≡◌, ◌+◌, arith, List, get_or, take, refl, sym, ap, subst, ◌∙◌}
+use Rattle.std.proofs.Common.{◌≡◌, ◌+◌, arith, List, get_or, refl, ap}
 use Rattle.bs_log.specs.declared.line.Line.{Line}
 use Rattle.bs_log_whole.proofs.Bounds.{first, step_fits, under_more, count_more, sum_fits}
 use Rattle.bs_log_whole.proofs.cnf.count_so_far.Goals as goal
