@@ -1,8 +1,8 @@
 -- The texts of small answers, computed, and each flaw.
-use Rattle.std.proofs.Common.{◌≡◌, ℕ, ◌<◌, ◌+◌, zero, suc, true, false, Bool, List, [], ◌∷◌, refl, take, arith, inl, inr, Some, None}
+use Rattle.std.proofs.Common.{◌≡◌, ℕ, zero, suc, true, false, List, [], ◌∷◌, refl, take, arith, Some, None}
 use Rattle.std.specs.Prelude.{codes, slice_get}
 use Rattle.std.specs.Fmt.{digits}
-use Rattle.bs_clause.specs.Literal.{Literal, Clause}
+use Rattle.bs_clause.specs.Literal.{Literal}
 use Rattle.bs_log.specs.declared.line.Line.{Line}
 use Rattle.bs_log.specs.declared.line.Line.TheVariants.{Solve, Lemma, Finish, Retire}
 use Rattle.bs_log.specs.declared.why.Why.TheVariants.{NotFalse, Order}
@@ -10,7 +10,7 @@ use Rattle.bs_log.specs.FirstRefused.{first_refused}
 use Rattle.bs_log.specs.History.{Problem, step_of}
 use Rattle.bs_log.specs.Refusal.{history_of}
 use Rattle.bs_log_dimacs.specs.Cnf.{cnf_text}
-use Rattle.bs_log_dimacs.specs.Law.{HasNoFinish, IsFinishAt}
+use Rattle.bs_log_dimacs.specs.Law.{HasNoFinish}
 use Rattle.bs_log_dimacs.specs.Proof.{lrat_text}
 use Rattle.bs_encode.specs.Encoded.{Encoded, unsigned}
 use Rattle.bs_reach_unrolled.specs.Unrolled.{reach_problem}

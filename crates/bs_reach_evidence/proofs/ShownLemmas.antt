@@ -1,11 +1,11 @@
 -- The clauses of a length say that the state is reached in it.
-use Rattle.std.proofs.Common.{◌≡◌, ℕ, ◌+◌, ◌-◌, ◌*◌, ◌<◌, ◌≤◌, Bool, true, false, eqb, List, [], ◌∷◌, ◌++◌, map, length, take, drop, refl, sym, ap, subst, ◌∙◌}
+use Rattle.std.proofs.Common.{◌≡◌, ℕ, ◌+◌, ◌-◌, ◌*◌, ◌≤◌, Bool, true, false, eqb, List, [], ◌∷◌, ◌++◌, length, take, drop, refl, sym, ap, subst, ◌∙◌}
 use Rattle.std.proofs.Common.{arith, ◌||◌}
 use Rattle.std.specs.Prelude.{All, Contains, IsTrue}
 use Rattle.std.specs.Bool.{beq}
-use Rattle.std.specs.List.{AllByRecursion as Each, range_with_len}
+use Rattle.std.specs.List.{AllByRecursion as Each}
 use Rattle.std.proofs.lemmas.Bool.{eq-eqb, ne_eqb, false≢true}
-use Rattle.std.proofs.lemmas.List.{take-append-drop, append_assoc}
+use Rattle.std.proofs.lemmas.List.{take-append-drop}
 use Rattle.std.proofs.lemmas.List.Elements.{All-nil, All-cons, All-from_recursion, recursion_from_All}
 use Rattle.bs_clause.specs.Literal.{Literal, Clause, literal_value, negation, Satisfies}
 use Rattle.bs_net.specs.Circuit.{Circuit, reset_state}
@@ -15,7 +15,7 @@ use Rattle.bs_log.specs.Refutation.{blocks_of}
 use Rattle.bs_log.specs.Shown.{Basis, Shown}
 use Rattle.bs_log.specs.Steps.{HasNoBlock}
 use Rattle.bs_log.proofs.Finishes.{no_blocks, no_block_before, no_block_reversed}
-use Rattle.bs_log_dimacs.specs.Cnf.{units, behind, closed, others, cnf_of}
+use Rattle.bs_log_dimacs.specs.Cnf.{units, behind, cnf_of}
 use Rattle.bs_log_dimacs.specs.Law.{BlocksOther}
 use Rattle.bs_log_dimacs.proofs.Laws.{unlisted_meets, finished_is_unmet}
 use Rattle.bs_log_whole.specs.Law.{AreLed}

@@ -1,11 +1,10 @@
 -- Texts of answers, read by computation, and each refusal.
-use Rattle.std.proofs.Common.{◌≡◌, ℕ, true, false, List, [], ◌∷◌, ◌++◌, refl, Ok, Err}
+use Rattle.std.proofs.Common.{◌≡◌, ℕ, true, false, [], ◌∷◌, ◌++◌, refl, Ok, Err}
 use Rattle.std.specs.Prelude.{codes}
 use Rattle.bs_clause.specs.Literal.{Literal}
 use Rattle.bs_log.specs.declared.line.Line.TheVariants as lines
 use Rattle.bs_report.specs.declared.fault.ReportFault.TheVariants as faults
 use Rattle.bs_reach.specs.declared.reach.Outcome.TheVariants.{Reached, Unreached, Unknown}
-use Rattle.bs_reach.specs.declared.reach.Reach.{Reach}
 use Rattle.bs_reach_text.specs.Reading.{answer_in}
 
 abbrev not_ : ℕ → Literal

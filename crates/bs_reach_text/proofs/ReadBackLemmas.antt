@@ -1,6 +1,6 @@
 -- An answer that has a text is read back from it.
-use Rattle.std.proofs.Common.{◌≡◌, ℕ, suc, ◌<◌, ◌≤◌, ◌+◌, ◌-◌, ◌^◌, Bool, true, false, cond, List, [], ◌∷◌, ◌++◌, length, get_or, refl, arith, ap, sym, subst}
-use Rattle.std.proofs.Common.{◌∙◌, Option, Some, None, append_assoc}
+use Rattle.std.proofs.Common.{◌≡◌, ℕ, suc, ◌<◌, ◌+◌, ◌-◌, ◌^◌, Bool, false, cond, List, [], ◌∷◌, ◌++◌, length, get_or, refl, arith, ap, sym, subst}
+use Rattle.std.proofs.Common.{◌∙◌, Option, Some, append_assoc}
 use Rattle.std.specs.Prelude.{codes, decimal, option_map, Err}
 use Rattle.std.specs.List.{AllByRecursion as Each, flat_map, range_with_len}
 use Rattle.std.proofs.lemmas.Bool.{ne_eqb}
@@ -15,11 +15,10 @@ use Rattle.bs_log.specs.LineForms.{HasText}
 use Rattle.bs_log.specs.LineText.{line_text}
 use Rattle.bs_report.specs.declared.fault.ReportFault.TheVariants as faults
 use Rattle.bs_report.proofs.FormLemmas.{count_again, bits_line_again, words_of_count, words_of_bits, log_line_lacks}
-use Rattle.bs_reach_unrolled.specs.declared.limits.TheConstants.{MAX_FRAMES}
 use Rattle.bs_reach.specs.declared.reach.Outcome.{Outcome}
 use Rattle.bs_reach.specs.declared.reach.Outcome.TheVariants.{Reached, Unreached, Unknown}
 use Rattle.bs_reach.specs.declared.reach.Reach.{Reach}
-use Rattle.bs_reach.specs.Text.{asked_text, outcome_text, state_text, cycle_text, states_text, execution_text, head_text, log_text, reach_text}
+use Rattle.bs_reach.specs.Text.{asked_text, outcome_text, state_text, cycle_text, states_text, execution_text, head_text, log_text}
 use Rattle.bs_reach_text.specs.declared.place.Place.{Place}
 use Rattle.bs_reach_text.specs.declared.place.Place.TheVariants as places
 use Rattle.bs_reach_text.specs.Reading.{Progress, behind_outcome, behind_state, log_place, taken, is_done, line_or_fault, answer_from, nothing_read, answer_in}

@@ -1,7 +1,7 @@
 -- What is read of a text has that text.
-use Rattle.std.proofs.Common.{◌≡◌, ℕ, suc, ◌<◌, ◌≤◌, ◌+◌, ◌-◌, ◌^◌, Bool, true, false, cond, List, [], ◌∷◌, ◌++◌, length, refl, arith, ap}
+use Rattle.std.proofs.Common.{◌≡◌, ℕ, ◌<◌, ◌≤◌, ◌+◌, ◌-◌, ◌^◌, Bool, true, false, cond, List, [], ◌∷◌, ◌++◌, length, refl, arith, ap}
 use Rattle.std.proofs.Common.{sym, subst, ◌∙◌, Option, Some, None, append_assoc}
-use Rattle.std.specs.Prelude.{◌==◌, codes, decimal, option_map, Result, Ok, Err}
+use Rattle.std.specs.Prelude.{◌==◌, codes, decimal, Result, Ok, Err}
 use Rattle.std.specs.List.{AllByRecursion as Each, flat_map}
 use Rattle.std.specs.Str.{bytes_eq}
 use Rattle.std.proofs.lemmas.Bool.{false≢true, eqb-true, eqb-false}
@@ -31,7 +31,7 @@ use Rattle.bs_reach_text.specs.Forms.{asked_in, outcome_in, plain_line_in}
 use Rattle.bs_reach_text.specs.Reading.{Progress, behind_outcome, behind_state, log_place, taken, is_done, line_or_fault, ended, answer_from, nothing_read}
 use Rattle.bs_reach_text.specs.Reading.{answer_in}
 use Rattle.bs_reach_text.specs.ReadingLaw.{HasExecution, HasAnswerText, TextsAreAnswers}
-use Rattle.bs_reach_text.proofs.FormLemmas.{outcome_words, Within, HasPlainText, plain_texts, plain_no_block}
+use Rattle.bs_reach_text.proofs.FormLemmas.{Within, HasPlainText, plain_texts, plain_no_block}
 use Rattle.bs_reach_text.proofs.ReadBackLemmas.{cycles_text, first_state, outcome_line}
 use Rattle.bs_reach_text.proofs.SpellingLemmas.{asked_is, outcome_is, plain_line_is}
 

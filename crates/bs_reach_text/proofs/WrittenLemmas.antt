@@ -1,18 +1,15 @@
 -- A right answer is read as it was written.
-use Rattle.std.proofs.Common.{◌≡◌, ℕ, ◌+◌, ◌<◌, ◌≤◌, ◌^◌, Bool, List, [], ◌++◌, length, map, refl, ap, sym, subst, ◌∙◌, arith}
-use Rattle.std.specs.Prelude.{Ok}
+use Rattle.std.proofs.Common.{◌≡◌, ℕ, ◌+◌, Bool, List, ◌++◌, length, refl, ap, sym, subst, ◌∙◌, arith}
 use Rattle.std.proofs.lemmas.List.FromFn.{length-map-range_with_len}
 use Rattle.bs_net.specs.Circuit.{Circuit}
-use Rattle.bs_report.specs.declared.limits.TheConstants.{MAX_CONFLICTS}
-use Rattle.bs_reach_unrolled.specs.declared.limits.TheConstants.{MAX_FRAMES}
 use Rattle.bs_scan.specs.Moments.{state_at}
 use Rattle.bs_reach.specs.declared.reach.Outcome.{Outcome}
 use Rattle.bs_reach.specs.declared.reach.Outcome.TheVariants.{Reached, Unreached, Unknown}
 use Rattle.bs_reach.specs.declared.reach.Reach.{Reach}
-use Rattle.bs_reach.specs.Reach.{IsOutcome, IsReach}
+use Rattle.bs_reach.specs.Reach.{IsOutcome}
 use Rattle.bs_reach.specs.Text.{execution_text, head_text, log_text, reach_text}
 use Rattle.bs_reach_text.specs.Reading.{answer_in}
-use Rattle.bs_reach_text.specs.ReadingLaw.{HasExecution, HasAnswerText, where_reached, written, IsReadBack, RightAnswersAreRead}
+use Rattle.bs_reach_text.specs.ReadingLaw.{HasExecution, HasAnswerText, where_reached, written, RightAnswersAreRead}
 use Rattle.bs_reach_text.proofs.ReadBackLemmas.{read_back}
 
 -- with such states and inputs as an outcome has
