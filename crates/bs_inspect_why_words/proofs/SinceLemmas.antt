@@ -111,3 +111,9 @@ ages_more c states inputs facts i f since ages after lt at are stood goes =
         subst (λ (n : ℕ). StoodSince c states inputs (get_or facts n d) (get_or (ages ++ since ∷ []) n 0)) same
         (subst (StoodSince c states inputs (get_or facts i d)) (sym (get_or_push ages since 0 i are.size))
         (subst (λ (g : Fact). StoodSince c states inputs g since) (at ∙ get_or_default facts i f d lt) stood))
+
+-- the same, with what is known first
+pub ages_push : (c : Circuit) (states inputs : List (List Bool)) (facts : List Fact) (i since : ℕ) (ages after : List ℕ) (f : Fact) →
+    AreAges c states inputs facts i ages → StoodSince c states inputs f since → after ≡ ages ++ since ∷ [] → i < length facts → f ≡ get_or facts i f →
+    AreAges c states inputs facts (i + 1) after
+ages_push c states inputs facts i since ages after f are stood goes lt at = ages_more c states inputs facts i f since ages after lt at are stood goes
