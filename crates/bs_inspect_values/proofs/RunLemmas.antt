@@ -91,13 +91,15 @@ text_by text runs e = e ∙ ap runs_text (runs_by runs)
 
 -- ---- values that begin late
 
+late_step : (b : Bool) (r : CodeSimulatedRun) (rs : List CodeSimulatedRun) →
+    option_map run_in (find (λ x. nat_lt 0 x.begin) rs) ≡ find is_late (map run_in rs) →
+    option_map run_in (cond b (Some r) (find (λ x. nat_lt 0 x.begin) rs)) ≡ cond b (Some (run_in r)) (find is_late (map run_in rs))
+late_step true r rs h = refl
+late_step false r rs h = h
+
 late_as : (runs : List CodeSimulatedRun) → option_map run_in (find (λ r. nat_lt 0 r.begin) runs) ≡ find is_late (map run_in runs)
 late_as [] = refl
-late_as (r ∷ rs) = by (nat_lt 0 r.begin)
-  where
-    by : (b : Bool) → option_map run_in (cond b (Some r) (find (λ x. nat_lt 0 x.begin) rs)) ≡ cond b (Some (run_in r)) (find is_late (map run_in rs))
-    by true = refl
-    by false = late_as rs
+late_as (r ∷ rs) = late_step (nat_lt 0 r.begin) r rs (late_as rs)
 
 seen : (found : Option (Bor CodeSimulatedRun)) → option_map (λ r. run_in r.now) found ≡ option_map run_in (option_map (λ r. r.now) found)
 seen None = refl
