@@ -91,13 +91,14 @@ text_by text runs e = e ∙ ap runs_text (runs_by runs)
 
 -- ---- values that begin late
 
+late_if : (b : Bool) (r : CodeSimulatedRun) (rest : Option CodeSimulatedRun) (later : Option SimulatedRun) → option_map run_in rest ≡ later →
+    option_map run_in (cond b (Some r) rest) ≡ cond b (Some (run_in r)) later
+late_if true r rest later e = refl
+late_if false r rest later e = e
+
 late_as : (runs : List CodeSimulatedRun) → option_map run_in (find (λ r. nat_lt 0 r.begin) runs) ≡ find is_late (map run_in runs)
 late_as [] = refl
-late_as (r ∷ rs) = by (nat_lt 0 r.begin)
-  where
-    by : (b : Bool) → option_map run_in (cond b (Some r) (find (λ x. nat_lt 0 x.begin) rs)) ≡ cond b (Some (run_in r)) (find is_late (map run_in rs))
-    by true = refl
-    by false = late_as rs
+late_as (r ∷ rs) = late_if (nat_lt 0 r.begin) r (find (λ x. nat_lt 0 x.begin) rs) (find is_late (map run_in rs)) (late_as rs)
 
 seen : (found : Option (Bor CodeSimulatedRun)) → option_map (λ r. run_in r.now) found ≡ option_map run_in (option_map (λ r. r.now) found)
 seen None = refl
