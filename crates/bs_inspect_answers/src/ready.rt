@@ -1,6 +1,6 @@
 //! What the files of an answer made ready.
 ghost use Rattle.std.specs.Prelude.{◌≡◌};
-ghost use Rattle.bs_reach_text.specs.ReadingLaw.{HasAnswerText};
+ghost use Rattle.bs_log.specs.Steps.{HasNoBlock};
 
 use bs_reach::Reach;
 use bs_target::Target;
@@ -10,6 +10,6 @@ use bs_target::Target;
 pub struct Answered {
     pub target: Target,
     pub answer: Reach,
-    ghost text: { HasAnswerText answer },
+    ghost no_block: { HasNoBlock answer.log },
     ghost same: { target.cycles ≡ answer.asked },
 }
