@@ -94,8 +94,8 @@ none_more accounts number chains k c on lt at is off none = record {
 
 pub first_is : (accounts : List Account) (number : ℕ) (chains : List Chain) (k : ℕ) (c : Chain) (on : Bool) → k < length chains → c ≡ get_or chains k c →
     on ≡ goes_on accounts number c → on ≡ true → NoneOn accounts number chains k → Some k ≡ position (goes_on accounts number) chains
-first_is accounts number chains k c on lt at is yes none =
-    let here : goes_on accounts number (get_or chains k c) ≡ true = ap (goes_on accounts number) (sym at) ∙ (sym is ∙ yes) in
+first_is accounts number chains k c on lt at is goes none =
+    let here : goes_on accounts number (get_or chains k c) ≡ true = ap (goes_on accounts number) (sym at) ∙ (sym is ∙ goes) in
     let at_k : position_or_len (goes_on accounts number) chains ≡ k =
     position_or_len_is (goes_on accounts number) chains k c (omega (arith, lt)) (λ j less. none.each j c less) (λ less. here) in
     let below : nat_lt k (length chains) ≡ true = lt-ltb k (length chains) lt in

@@ -112,24 +112,26 @@ made_there accounts chains count = λ k d lt.
     let there : k < count = omega (arith, lt, length-map-range_with_len (place_of accounts chains) 0 count) in
     subst (Stands count) (sym (get_or-map-range_with_len (place_of accounts chains) 0 count k k d there (let z : 0 + k ≡ k = omega arith in z))) there
 
-pub place_there : (accounts : List Account) (chains : List Chain) (ordered : List Place) (i : ℕ) (p : Place) → ArePlaces accounts chains ordered →
-    i < length ordered → p ≡ get_or ordered i p → p.place < length chains
-place_there accounts chains ordered i p are lt e =
-    subst (Stands (length chains)) (sym e)
+pub place_read : (ordered : List Place) (i : ℕ) (p : Place) → i < length ordered → p ≡ get_or ordered i p → p.place ≡ ordered_at ordered i
+place_read ordered i p lt e = ap (λ (x : Place). x.place) (e ∙ get_or_default ordered i p (record { at = 0; layer = 0; place = 0 }) lt)
+
+pub place_there : (accounts : List Account) (chains : List Chain) (ordered : List Place) (i place : ℕ) → ArePlaces accounts chains ordered →
+    i < length ordered → place ≡ ordered_at ordered i → place < length chains
+place_there accounts chains ordered i place are lt e =
+    subst (λ (n : ℕ). n < length chains) (sym e)
     (All-permutation (Stands (length chains)) (places_of accounts chains (length chains)) ordered are.same
-    (made_there accounts chains (length chains)) i p lt)
+    (made_there accounts chains (length chains)) i (record { at = 0; layer = 0; place = 0 }) lt)
 
 pub places_begin : (m : Seen) (r : Report) (few : Limits) (accounts : List Account) (chains : List Chain) (ordered : List Place) (text : List ℕ) →
     Appends (TellsPlaces m r few accounts chains ordered 0) text text
 places_begin m r few accounts chains ordered text = parts_begin (λ i. TellsChain m r few accounts (chain_at chains (ordered_at ordered i))) text
 
-pub places_more : (m : Seen) (r : Report) (few : Limits) (accounts : List Account) (chains : List Chain) (ordered : List Place) (i : ℕ) (p : Place)
-    (old mid new : List ℕ) → i < length ordered → p ≡ get_or ordered i p → Appends (TellsPlaces m r few accounts chains ordered i) old mid →
-    Appends (TellsChain m r few accounts (chain_at chains p.place)) mid new → Appends (TellsPlaces m r few accounts chains ordered (i + 1)) old new
-places_more m r few accounts chains ordered i p old mid new lt e so_far told =
+pub places_more : (m : Seen) (r : Report) (few : Limits) (accounts : List Account) (chains : List Chain) (ordered : List Place) (i place : ℕ)
+    (old mid new : List ℕ) → place ≡ ordered_at ordered i → Appends (TellsPlaces m r few accounts chains ordered i) old mid →
+    Appends (TellsChain m r few accounts (chain_at chains place)) mid new → Appends (TellsPlaces m r few accounts chains ordered (i + 1)) old new
+places_more m r few accounts chains ordered i place old mid new e so_far told =
     parts_more (λ k. TellsChain m r few accounts (chain_at chains (ordered_at ordered k))) i old mid new so_far
-    (subst (λ (n : ℕ). Appends (TellsChain m r few accounts (chain_at chains n)) mid new)
-    (ap (λ (x : Place). x.place) (e ∙ get_or_default ordered i p (record { at = 0; layer = 0; place = 0 }) lt)) told)
+    (subst (λ (n : ℕ). Appends (TellsChain m r few accounts (chain_at chains n)) mid new) e told)
 
 pub places_all : (m : Seen) (r : Report) (few : Limits) (accounts : List Account) (chains : List Chain) (ordered : List Place) (i : ℕ)
     (old new : List ℕ) → i ≡ length ordered → Appends (TellsPlaces m r few accounts chains ordered i) old new →

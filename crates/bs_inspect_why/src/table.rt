@@ -8,7 +8,7 @@ ghost use Rattle.bs_net_names.specs.Rtl.{rtl_name};
 ghost use Rattle.bs_net_names.specs.Signals.{range_text};
 ghost use Rattle.bs_inspect_report.specs.Table.{field};
 ghost use Rattle.bs_inspect_causes.specs.Accounts.{last_bits};
-ghost use Rattle.bs_inspect_why.specs.Table.{account_cells, account_rows, accounts_table, fact_row, fact_rows};
+ghost use Rattle.bs_inspect_why.specs.Table.{account_cells, account_rows, accounts_table, fact_cells, fact_row, fact_rows};
 
 use crate::field::push_field;
 use bs_bits::{NoMemory, end_line, push_line, push_number, push_piece};
@@ -60,6 +60,18 @@ fn push_net(text: &mut Vec<u8>, raw: &Raw, net: NetId) -> Result<(), NoMemory>
     push_field(text, name.as_slice())
 }
 
+/// Appends the cycle of a fact, its net's name and its bit.
+fn push_cells(text: &mut Vec<u8>, raw: &Raw, fact: Fact) -> Result<(), NoMemory>
+    ensures { OnOk result (text.new.items ≡ text.old.items ++ fact_cells (parts_of raw.now) fact) }
+{
+    push_number(text, u64::from(fact.cycle))?;
+    push_piece(text, b",")?;
+    push_net(text, raw, fact.net)?;
+    push_piece(text, b",")?;
+    push_value(text, &[fact.bit])?;
+    Ok(())
+}
+
 /// Appends the row of a fact.
 fn push_fact(
     text: &mut Vec<u8>,
@@ -72,11 +84,7 @@ fn push_fact(
 {
     push_account(text, account)?;
     push_piece(text, kind)?;
-    push_number(text, u64::from(fact.cycle))?;
-    push_piece(text, b",")?;
-    push_net(text, raw, fact.net)?;
-    push_piece(text, b",")?;
-    push_value(text, &[fact.bit])?;
+    push_cells(text, raw, fact)?;
     end_line(text)
 }
 

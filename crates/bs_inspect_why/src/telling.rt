@@ -7,7 +7,7 @@ ghost use Rattle.bs_inspect_why_words.specs.Blocks.{Appends, TellsBlock};
 ghost use Rattle.bs_inspect_why_words.specs.Heads.{episode_in};
 ghost use Rattle.bs_inspect_why_words.specs.Limits.{limits_of as all_limits};
 ghost use Rattle.bs_inspect_why.specs.Chains.{ArePlaces, chain_at, chains_of as all_chains, IsWithin};
-ghost use Rattle.bs_inspect_why.specs.Why.{episode_of, TellsAccounts, TellsChain, TellsChains, TellsPlaces};
+ghost use Rattle.bs_inspect_why.specs.Why.{episode_of, ordered_at, TellsAccounts, TellsChain, TellsChains, TellsPlaces};
 
 use crate::chain::{Chain, Place, chains_of};
 use crate::order::ordered_chains;
@@ -97,8 +97,18 @@ fn push_place(
     Ok(())
 }
 
+/// The place of the chain that stands at a place of their order.
+#[tactic(auto, using(crate::proofs::TellingLemmas::place_read))]
+fn place_at(ordered: &[Place], i: usize) -> usize
+    requires { i < length ordered.now }
+    ensures { result ≡ ordered_at ordered.now i }
+{
+    let place = &ordered[i];
+    place.place
+}
+
 /// Appends the text of chains in their order.
-#[tactic(auto, using(crate::proofs::TellingLemmas::places_begin, crate::proofs::TellingLemmas::places_more, crate::proofs::TellingLemmas::places_all, crate::proofs::TellingLemmas::place_there))]
+#[tactic(auto, using(crate::proofs::TellingLemmas::places_begin, crate::proofs::TellingLemmas::places_all))]
 fn push_places(
     text: &mut Vec<u8>,
     moments: &Moments<'_>,
@@ -115,15 +125,8 @@ fn push_places(
     ensures { OnOk result (Appends (TellsPlaces moments.now report.now few accounts.now chains.now ordered.now (length ordered.now)) text.old.items text.new.items) }
 {
     'places: for i in 0..ordered.len() {
-        push_place(
-            text,
-            moments,
-            report,
-            few,
-            accounts,
-            chains,
-            ordered[i].place,
-        )?;
+        let place = place_at(ordered, i);
+        push_place(text, moments, report, few, accounts, chains, place)?;
     }
     Ok(())
 }
