@@ -1,9 +1,9 @@
 -- Accounts that step a vector on.
-use Rattle.std.proofs.Common.{◌≡◌, ℕ, ◌<◌, ◌≤◌, ◌+◌, Bool, true, false, not, List, [], ◌∷◌, ◌++◌, length, filter, take, get_or, set, refl, ap, sym, subst, ◌∙◌, ◌⊎◌, inl, inr, ⊎_elim, arith, zero, suc, Option, Some, None}
+use Rattle.std.proofs.Common.{◌≡◌, ℕ, ◌<◌, ◌≤◌, ◌+◌, Bool, true, false, not, List, [], ◌∷◌, ◌++◌, length, filter, take, get_or, set, refl, ap, sym, subst, ◌∙◌, ⊎_elim, arith, zero, suc, Option, Some, None}
 use Rattle.std.specs.Prelude.{fold, ◌&&◌, ◌==◌, nat_lt, IfSome, if◌then◌else◌}
 use Rattle.std.specs.List.{All, position, position_or_len, range_with_len}
 use Rattle.std.proofs.lemmas.Bool.{cases_eq, le-ltb, lt-ltb}
-use Rattle.std.proofs.lemmas.List.{get_or-set_same, get_or-set_other, get_or_append_left, get_or_default, get_or_push, length-set, length_push, take_more, take_all}
+use Rattle.std.proofs.lemmas.List.{get_or-set_same, get_or-set_other, get_or_default, length-set}
 use Rattle.std.proofs.lemmas.List.Quantifiers.{position-Some}
 use Rattle.std.proofs.lemmas.List.Elements.{All-append, All-nil, filter_more}
 use Rattle.std.proofs.lemmas.List.Sums.{fold-append, position_or_len_is}
@@ -11,7 +11,7 @@ use Rattle.bs_bits.proofs.RangeLemmas.{range_push}
 use Rattle.bs_net_facts.specs.declared.fact.Fact.{Fact}
 use Rattle.bs_inspect_causes.specs.declared.account.Account.{Account}
 use Rattle.bs_inspect_why.specs.declared.chain.Chain.{Chain}
-use Rattle.bs_inspect_why.specs.Chains.{IsWithin, account_at, alone, chained, chained_at, chains_of, come_again, extended, goes_on, has_fact, is_before, is_step, may_be_before, no_account, other_causes, same_nets}
+use Rattle.bs_inspect_why.specs.Chains.{IsWithin, account_at, alone, chain_at, chained, chained_at, chains_of, come_again, extended, goes_on, has_fact, is_before, is_step, may_be_before, no_account, other_causes, same_nets}
 
 -- ---- one account before another
 
@@ -80,7 +80,7 @@ pub record NoneOn (accounts : List Account) (number : ℕ) (chains : List Chain)
 pub none_begin : (accounts : List Account) (number : ℕ) (chains : List Chain) → NoneOn accounts number chains 0
 none_begin accounts number chains = record { each = λ k d lt. absurd (omega (arith, lt)) }
 
-pub none_more : (accounts : List Account) (number : ℕ) (chains : List Chain) (k : ℕ) (c : Chain) (on : Bool) → k < length chains → c ≡ get_or chains k c →
+none_more : (accounts : List Account) (number : ℕ) (chains : List Chain) (k : ℕ) (c : Chain) (on : Bool) → k < length chains → c ≡ get_or chains k c →
     on ≡ goes_on accounts number c → on ≡ false → NoneOn accounts number chains k → NoneOn accounts number chains (k + 1)
 none_more accounts number chains k c on lt at is off none = record {
   each = λ j d less.
@@ -92,7 +92,7 @@ none_more accounts number chains k c on lt at is off none = record {
       (cases_eq j k);
 }
 
-pub first_is : (accounts : List Account) (number : ℕ) (chains : List Chain) (k : ℕ) (c : Chain) (on : Bool) → k < length chains → c ≡ get_or chains k c →
+first_is : (accounts : List Account) (number : ℕ) (chains : List Chain) (k : ℕ) (c : Chain) (on : Bool) → k < length chains → c ≡ get_or chains k c →
     on ≡ goes_on accounts number c → on ≡ true → NoneOn accounts number chains k → Some k ≡ position (goes_on accounts number) chains
 first_is accounts number chains k c on lt at is goes none =
     let here : goes_on accounts number (get_or chains k c) ≡ true = ap (goes_on accounts number) (sym at) ∙ (sym is ∙ goes) in
@@ -100,6 +100,22 @@ first_is accounts number chains k c on lt at is goes none =
     position_or_len_is (goes_on accounts number) chains k c (omega (arith, lt)) (λ j less. none.each j c less) (λ less. here) in
     let below : nat_lt k (length chains) ≡ true = lt-ltb k (length chains) lt in
     sym (rw (at_k, below) refl)
+
+pub on_at : (accounts : List Account) (number : ℕ) (chains : List Chain) (place : ℕ) (c : Chain) (on : Bool) → place < length chains →
+    c ≡ get_or chains place c → on ≡ goes_on accounts number c → on ≡ goes_on accounts number (chain_at chains place)
+on_at accounts number chains place c on lt at is = is ∙ ap (goes_on accounts number) (at ∙ get_or_default chains place c (alone 0) lt)
+
+-- the chain at a place, as what is read there
+chain_read : (chains : List Chain) (k : ℕ) → k < length chains → chain_at chains k ≡ get_or chains k (chain_at chains k)
+chain_read chains k lt = get_or_default chains k (alone 0) (chain_at chains k) lt
+
+pub more_at : (accounts : List Account) (number : ℕ) (chains : List Chain) (k : ℕ) (on : Bool) → k < length chains →
+    on ≡ goes_on accounts number (chain_at chains k) → on ≡ false → NoneOn accounts number chains k → NoneOn accounts number chains (k + 1)
+more_at accounts number chains k on lt is off none = none_more accounts number chains k (chain_at chains k) on lt (chain_read chains k lt) is off none
+
+pub first_at : (accounts : List Account) (number : ℕ) (chains : List Chain) (k : ℕ) (on : Bool) → k < length chains →
+    on ≡ goes_on accounts number (chain_at chains k) → on ≡ true → NoneOn accounts number chains k → Some k ≡ position (goes_on accounts number) chains
+first_at accounts number chains k on lt is goes none = first_is accounts number chains k (chain_at chains k) on lt (chain_read chains k lt) is goes none
 
 pub none_all : (accounts : List Account) (number : ℕ) (chains : List Chain) (k : ℕ) → length chains ≤ k → NoneOn accounts number chains k →
     None ≡ position (goes_on accounts number) chains

@@ -1,14 +1,12 @@
 -- The answer, part by part.
-use Rattle.std.proofs.Common.{◌≡◌, ℕ, ◌<◌, ◌≤◌, ◌+◌, ◌-◌, Bool, true, false, List, [], ◌∷◌, length, get_or, refl, ap, sym, subst, ◌∙◌, arith, Option, Some, None}
-use Rattle.std.specs.Prelude.{Result, IfOk, ◌==◌}
+use Rattle.std.proofs.Common.{◌≡◌, ℕ, ◌<◌, ◌≤◌, ◌-◌, Bool, true, false, List, [], ◌∷◌, length, refl, ap, sym, subst, ◌∙◌, arith, Option, Some, None}
+use Rattle.std.specs.Prelude.{Result, IfOk, MatchOption, ◌==◌}
 use Rattle.std.specs.List.{All}
 use Rattle.std.proofs.lemmas.Bool.{eqb-false, eqb-true}
 use Rattle.std.proofs.lemmas.Result.{IfOk-weaker}
-use Rattle.std.proofs.lemmas.List.{get_or_default}
 use Rattle.bs_bits.specs.declared.memory.NoMemory.{NoMemory}
 use Rattle.bs_net.specs.Circuit.{Circuit}
 use Rattle.bs_net.specs.Netlist.{Checked, circuit}
-use Rattle.bs_net.specs.Parts.{Parts}
 use Rattle.bs_net.specs.declared.net.NetId.{NetId}
 use Rattle.bs_net_facts.specs.declared.fact.Fact.{Fact}
 use Rattle.bs_net_facts.specs.Facts.{IsReal, IsWayOf}
@@ -18,7 +16,7 @@ use Rattle.bs_inspect_causes.specs.Accounts.{Explain, IsBreak, LeadsOn, has_net}
 use Rattle.bs_inspect_causes.specs.declared.account.Account.{Account}
 use Rattle.bs_inspect_why_words.specs.Limits.{limits_of}
 use Rattle.bs_inspect_why.specs.declared.denial.Denial.{Denial}
-use Rattle.bs_inspect_why.specs.declared.denial.Denial.TheVariants.{Moment, Input, Trace, Open}
+use Rattle.bs_inspect_why.specs.declared.denial.Denial.TheVariants.{Input, Trace, Open}
 use Rattle.bs_inspect_why.specs.declared.denial.Why.{Why}
 use Rattle.bs_inspect_why.specs.declared.denial.Why.TheVariants.{Text, Denied}
 use Rattle.bs_inspect_why.specs.Question.{AreAsked, Question, asked_nets, moment_in}
@@ -31,16 +29,33 @@ pub facts_told : (m : Seen) (r : Report) (q : Question) (asked : List Fact) (acc
     TellsFacts m r q asked text
 facts_told m r q asked accounts text explain tells = record { accounts = accounts; explain = explain; tells = tells }
 
-pub facts_real : (m : Seen) (nets : List NetId) (at : ℕ) (facts : List Fact) → AreAsked m nets at (length nets) facts →
+facts_real : (m : Seen) (nets : List NetId) (at : ℕ) (facts : List Fact) → AreAsked m nets at (length nets) facts →
     All (IsReal (circuit m.net) m.states m.inputs) facts
 facts_real m nets at facts are = λ k d lt. (are.each k (record { 0 = 0 }) d (omega (arith, lt, are.size))).real
 
-pub facts_driven : (m : Seen) (nets : List NetId) (at : ℕ) (facts : List Fact) → AreAsked m nets at (length nets) facts →
+facts_driven : (m : Seen) (nets : List NetId) (at : ℕ) (facts : List Fact) → AreAsked m nets at (length nets) facts →
     All (λ n. has_net (circuit m.net).inputs n ≡ false) nets → All (λ f. has_net (circuit m.net).inputs f.net ≡ false) facts
 facts_driven m nets at facts are driven = λ k d lt.
     let there : k < length nets = omega (arith, lt, are.size) in
     let n : NetId = record { 0 = 0 } in
     subst (λ (x : NetId). has_net (circuit m.net).inputs x ≡ false) (sym (are.each k n d there).net_is) (driven k n there)
+
+given_asked : (m : Seen) (nets : List NetId) (at : ℕ) (given : Option (List Fact)) (facts : List Fact) → given ≡ Some facts →
+    MatchOption given (length m.inputs ≤ at) (AreAsked m nets at (length nets)) → AreAsked m nets at (length nets) facts
+given_asked m nets at given facts is h =
+    subst (λ (o : Option (List Fact)). MatchOption o (length m.inputs ≤ at) (AreAsked m nets at (length nets))) is h
+
+pub given_real : (m : Seen) (nets : List NetId) (at : ℕ) (given : Option (List Fact)) (facts slice : List Fact) → given ≡ Some facts → slice ≡ facts →
+    MatchOption given (length m.inputs ≤ at) (AreAsked m nets at (length nets)) → All (IsReal (circuit m.net) m.states m.inputs) slice
+given_real m nets at given facts slice is same h =
+    subst (All (IsReal (circuit m.net) m.states m.inputs)) (sym same) (facts_real m nets at facts (given_asked m nets at given facts is h))
+
+pub given_driven : (m : Seen) (nets : List NetId) (at : ℕ) (given : Option (List Fact)) (facts slice : List Fact) → given ≡ Some facts →
+    slice ≡ facts → MatchOption given (length m.inputs ≤ at) (AreAsked m nets at (length nets)) →
+    All (λ n. has_net (circuit m.net).inputs n ≡ false) nets → All (λ f. has_net (circuit m.net).inputs f.net ≡ false) slice
+given_driven m nets at given facts slice is same h driven =
+    subst (All (λ (f : Fact). has_net (circuit m.net).inputs f.net ≡ false)) (sym same)
+    (facts_driven m nets at facts (given_asked m nets at given facts is h) driven)
 
 pub nets_told : (m : Seen) (r : Report) (q : Question) (nets : List NetId) (at : ℕ) (asked : List Fact) (text : List ℕ) →
     AreAsked m nets at (length nets) asked → 0 < length nets → TellsFacts m r q asked text → TellsNets m r q nets at text

@@ -1,5 +1,5 @@
 -- Accounts that step a vector on for the same reasons, as one (docs/DEFINITIONS.md, "Chain").
-use Rattle.std.specs.Prelude.{◌≡◌, ℕ, ◌+◌, ◌<◌, ◌≤◌, ◌==◌, ◌&&◌, not, Bool, false, List, [], ◌∷◌, ◌++◌, length, map, filter, fold, slice_index_or, slice_set, Option, Some, None}
+use Rattle.std.specs.Prelude.{ℕ, ◌+◌, ◌<◌, ◌≤◌, ◌==◌, ◌&&◌, not, Bool, false, List, [], ◌∷◌, ◌++◌, length, map, filter, fold, slice_index_or, slice_set, Option, Some, None}
 use Rattle.std.specs.Bool.{beq}
 use Rattle.std.specs.List.{list_all, list_any, position, range_with_len}
 use Rattle.std.specs.List.Sorted.{IsPermutation, IsSorted}

@@ -1,5 +1,5 @@
 -- Accounts as a table for scripts (docs/FORMATS.md, "Tables"): comma-separated values (RFC 4180), a row for each fact.
-use Rattle.std.specs.Prelude.{ℕ, Bool, List, [], ◌∷◌, ◌++◌, codes, decimal}
+use Rattle.std.specs.Prelude.{ℕ, List, [], ◌∷◌, ◌++◌, codes, decimal}
 use Rattle.std.specs.List.{flat_map}
 use Rattle.bs_bits.specs.Lines.{line}
 use Rattle.bs_net.specs.Parts.{Parts, key_at}

@@ -2,7 +2,7 @@
 ghost use Rattle.std.specs.Prelude.{◌≡◌, ◌<◌, ◌+◌, ◌^◌, ◌∷◌, [], ◌++◌, not, length, filter, All, IfOk, IfSome, OnOk, None, Some, if◌then◌else◌};
 ghost use Rattle.std.specs.Bool.{beq};
 ghost use Rattle.std.specs.List.{list_all, position};
-ghost use Rattle.bs_inspect_why.specs.Chains.{are_among, chained, chained_at, chains_of, come_again, comes_again, extended, goes_on, has_fact, is_again, is_before, is_step, IsWithin, may_be_before, other_causes, same_nets};
+ghost use Rattle.bs_inspect_why.specs.Chains.{are_among, chain_at, chained, chained_at, chains_of, come_again, comes_again, extended, goes_on, has_fact, is_again, is_before, is_step, IsWithin, may_be_before, other_causes, same_nets};
 
 use bs_bits::NoMemory;
 use bs_inspect_causes::Account;
@@ -168,8 +168,26 @@ fn goes_on(
     Ok(on)
 }
 
+/// Whether an account goes on the chain at a place.
+#[tactic(auto, using(crate::proofs::ChainLemmas::chain_within, crate::proofs::ChainLemmas::on_at))]
+fn goes_on_at(
+    alloc: Global,
+    accounts: &[Account],
+    chains: &[Chain],
+    number: usize,
+    place: usize,
+) -> Result<bool, NoMemory>
+    requires number { number < length accounts.now }
+    requires within { All (IsWithin number) chains.now }
+    requires place { place < length chains.now }
+    ensures { IfOk result (λ on. on ≡ goes_on accounts.now number (chain_at chains.now place)) }
+{
+    let on = goes_on(alloc, accounts, number, chains[place])?;
+    Ok(on)
+}
+
 /// The first chain that an account goes on.
-#[tactic(auto, using(crate::proofs::ChainLemmas::none_begin, crate::proofs::ChainLemmas::none_more, crate::proofs::ChainLemmas::none_all, crate::proofs::ChainLemmas::first_is, crate::proofs::ChainLemmas::chain_within))]
+#[tactic(auto, using(crate::proofs::ChainLemmas::none_begin))]
 fn chain_of(
     alloc: Global,
     accounts: &[Account],
@@ -181,7 +199,7 @@ fn chain_of(
     ensures { IfOk result (λ found. found ≡ position (goes_on accounts.now number) chains.now) }
 {
     'chains: for k in 0..chains.len() {
-        if goes_on(alloc, accounts, number, chains[k])? {
+        if goes_on_at(alloc, accounts, chains, number, k)? {
             return Ok(Some(k));
         }
     }

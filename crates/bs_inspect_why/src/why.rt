@@ -96,7 +96,7 @@ fn facts_text(
 }
 
 /// The answer by the facts of nets.
-#[tactic(auto, using(crate::proofs::WhyLemmas::facts_real, crate::proofs::WhyLemmas::facts_driven, crate::proofs::WhyLemmas::nets_told, crate::proofs::WhyLemmas::open_told))]
+#[tactic(auto, using(crate::proofs::WhyLemmas::nets_told, crate::proofs::WhyLemmas::open_told))]
 fn answer_by(
     alloc: Global,
     moments: &Moments<'_>,
