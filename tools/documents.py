@@ -26,7 +26,6 @@ OWNED = r"\b(bs_[a-z_]+)'s? ((?:`[\w:]+`(?:, | and )?)+)"
 SECTION = r"\bdocs/([A-Z_]+)\.md`?, \"([^\"\n]+)\""
 TWO_MEANINGS = {
     "Answer": "of a text of several modules in bs_flat_meaning; of a solve in bs_solve_recording",
-    "Answered": "an answer of `reach` and what it was asked of in bs_inspect_answers; a reply with its plan in bs_top_plan",
     "Answers": "a reader's result in bs_bits; an answer to `why` in bs_inspect_why",
     "ArePlaced": "parts whose nets have numbers in bs_net; clauses with a place in the arena in bs_watch",
     "Due": "a note that is due in bs_top_answer; what is due in a text in bs_verilog_syntax",

@@ -40,7 +40,7 @@ use Rattle.bs_inspect.specs.Said.{late_doubt, RequestSaid, runs_doubt, silent, W
 use Rattle.bs_inspect.specs.Sources.{Sources, behind_piece, joined, named_values, source_of}
 use Rattle.bs_evidence.specs.declared.flaw.Evidence.{Evidence}
 use Rattle.bs_evidence.specs.declared.flaw.Evidence.TheVariants.{Text, Flawed}
-use Rattle.bs_inspect.specs.Work.{to_table, to_steps_table, to_keys, to_state, to_evidence, to_page, to_novel, to_length, to_why}
+use Rattle.bs_inspect.specs.Work.{to_table, to_steps_table, to_keys, to_state, to_evidence, to_page, to_novel, to_why}
 use Rattle.bs_inspect.specs.Work.{Work, plan_of, to_help, to_version, to_flops, to_inputs, to_stats, to_steps, to_trace, to_runs, to_dump, to_wave, to_signature}
 use Rattle.bs_inspect_why.specs.Question.{Question}
 use Rattle.bs_inspect_why.specs.Why.{Answers}
@@ -72,11 +72,6 @@ work_status (to_evidence kind step report_files) status text done = ap is_work_s
     by (Flawed flaw) = refl
 work_status (to_page asked trace_files) status text done = ap is_work_status done.0 ∙ refl
 work_status (to_novel most one_run) status text done = ap is_work_status done.0 ∙ refl
-work_status (to_length kind step answered) status text done = ap is_work_status done.told ∙ by done.evidence
-  where
-    by : (e : Evidence) → is_work_status (evidence_status e) ≡ true
-    by (Text t) = refl
-    by (Flawed flaw) = refl
 work_status (to_why q trace_files) status text done = ap is_work_status done.answered ∙ by done.answer
   where
     by : (w : Why) → is_work_status (why_status w) ≡ true

@@ -30,10 +30,8 @@ use Rattle.bs_evidence.specs.declared.flaw.Evidence.{Evidence}
 use Rattle.bs_evidence.specs.declared.flaw.Evidence.TheVariants.{Text, Flawed}
 use Rattle.bs_evidence.specs.Evidence.{IsEvidence}
 use Rattle.bs_evidence.specs.Words.{flaw_text}
-use Rattle.bs_inspect_answers.specs.Taken.{Answered}
 use Rattle.bs_inspect_files.specs.Taken.{ReportFiles, TraceFiles}
-use Rattle.bs_reach_evidence.specs.Evidence.{IsEvidence as IsLengthEvidence}
-use Rattle.bs_inspect.specs.Work.{to_table, to_steps_table, to_keys, to_state, to_evidence, to_page, to_novel, to_length, to_why}
+use Rattle.bs_inspect.specs.Work.{to_table, to_steps_table, to_keys, to_state, to_evidence, to_page, to_novel, to_why}
 
 -- the status and the text of evidence: a flaw is answered as an audit answers a part that fails
 abbrev pub evidence_status : Evidence → Status
@@ -49,13 +47,6 @@ pub record TellsEvidence (kind : Format) (step : Option ℕ) (report_files : Rep
   pub evidence : Evidence
   pub right : IsEvidence kind (circuit_of report_files.raw) report_files.choice report_files.report step evidence
   pub answered : status ≡ evidence_status evidence
-  pub written : text ≡ evidence_text evidence
-
--- the evidence for a length, or for all where none is asked for, or why there is none
-pub record TellsLength (kind : Format) (step : Option ℕ) (answered : Answered) (status : Status) (text : List ℕ) : Type 0 where
-  pub evidence : Evidence
-  pub right : IsLengthEvidence kind (circuit_of answered.target.raw) answered.target.state answered.answer step evidence
-  pub told : status ≡ evidence_status evidence
   pub written : text ≡ evidence_text evidence
 
 -- the status and the text of an answer to `why`: where there is no account, it is answered as an audit answers a part that fails
@@ -95,5 +86,4 @@ finishes (to_state scanned) status text = (status ≡ Done) × (text ≡ state_l
 finishes (to_evidence kind step report_files) status text = TellsEvidence kind step report_files status text
 finishes (to_page asked trace_files) status text = (status ≡ Done) × ShowsReport trace_files.raw trace_files.report asked text
 finishes (to_novel most one_run) status text = (status ≡ Done) × TellsNovel one_run.run_files.raw one_run.run_files.runs one_run.moment.run most text
-finishes (to_length kind step answered) status text = TellsLength kind step answered status text
 finishes (to_why q trace_files) status text = TellsReasons q trace_files status text

@@ -12,19 +12,18 @@ use Rattle.bs_top_answer.specs.Note.{Due, DueText}
 use Rattle.bs_top_answer.specs.Prepared.{NoteAlong}
 use Rattle.bs_top_files.specs.Looking.{netlist_looked, report_looked}
 use Rattle.bs_top_files.specs.NoteCases.{NoteCase, NoteSays}
-use Rattle.bs_inspect_words.specs.Request.{Request, Help, Version, Flops, Inputs, Stats, Keys, Trace, TraceTable, Steps, StepsTable, Wave, Stimulus, Dump, Signature, Unscan, Cnf, Lrat, Page, Novel, ReachCnf, ReachLrat, Why}
+use Rattle.bs_inspect_words.specs.Request.{Request, Help, Version, Flops, Inputs, Stats, Keys, Trace, TraceTable, Steps, StepsTable, Wave, Stimulus, Dump, Signature, Unscan, Cnf, Lrat, Page, Novel, Why}
 use Rattle.bs_inspect_values.specs.Dumped.{dumped_looked}
 use Rattle.bs_inspect_values.specs.Simulated.{Simulated, clock_key, simulated_looked}
 use Rattle.bs_inspect_values.specs.SimulatedRun.{SimulatedRun, is_late}
 use Rattle.bs_evidence.specs.declared.evidence.Format.TheVariants.{Clauses, Proof}
 use Rattle.bs_inspect_files.specs.Taken.{charted_looked, one_run_looked, run_files_looked, report_files_looked, picked_looked}
 use Rattle.bs_inspect_files.specs.FlopFiles.{named_looked, scanned_looked}
-use Rattle.bs_inspect_answers.specs.Taken.{answered_looked}
 use Rattle.bs_inspect_notes.specs.Usages.{words_text}
 use Rattle.bs_inspect_notes.specs.Simulations.{data_clock_text, late_text}
 use Rattle.bs_inspect.specs.Asked.{clocked_of, dump_files, page_options, question_of}
 use Rattle.bs_inspect.specs.Sources.{source_of, sources_of}
-use Rattle.bs_inspect.specs.Work.{Work, to_help, to_version, to_flops, to_inputs, to_stats, to_steps, to_trace, to_runs, to_dump, to_wave, to_signature, to_table, to_steps_table, to_keys, to_state, to_evidence, to_page, to_novel, to_length, to_why}
+use Rattle.bs_inspect.specs.Work.{Work, to_help, to_version, to_flops, to_inputs, to_stats, to_steps, to_trace, to_runs, to_dump, to_wave, to_signature, to_table, to_steps_table, to_keys, to_state, to_evidence, to_page, to_novel, to_why}
 
 -- the plan of a request as the notes see it: the same files and the same work, and the notes on what is refused
 abbrev pub looked_of : Request → Plan NoteCase Work
@@ -81,12 +80,6 @@ looked_of (Page t) = do
 looked_of (Novel t) = do
   one_run ← one_run_looked t.netlist t.runs t.run
   end (to_novel t.most one_run)
-looked_of (ReachCnf t) = do
-  answered ← answered_looked t.netlist t.state t.answer
-  end (to_length Clauses t.step answered)
-looked_of (ReachLrat t) = do
-  answered ← answered_looked t.netlist t.state t.answer
-  end (to_length Proof t.step answered)
 looked_of (Why t) = do
   trace_files ← charted_looked t.netlist t.report (t.name ∷ [])
   end (to_why (question_of t) trace_files)

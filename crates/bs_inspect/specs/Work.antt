@@ -2,7 +2,7 @@
 use Rattle.std.specs.Prelude.{ℕ, Bool, List, Option, [], ◌∷◌}
 use Rattle.bs_net.specs.Parts.{Parts}
 use Rattle.bs_report.specs.declared.report.Report.{Report}
-use Rattle.bs_inspect_words.specs.Request.{Request, Help, Version, Flops, Inputs, Stats, Keys, Trace, TraceTable, Steps, StepsTable, Wave, Stimulus, Dump, Signature, Unscan, Cnf, Lrat, Page, Novel, ReachCnf, ReachLrat, Why}
+use Rattle.bs_inspect_words.specs.Request.{Request, Help, Version, Flops, Inputs, Stats, Keys, Trace, TraceTable, Steps, StepsTable, Wave, Stimulus, Dump, Signature, Unscan, Cnf, Lrat, Page, Novel, Why}
 use Rattle.bs_top_plan.specs.Plan.{Plan, end, ◌>>=◌}
 use Rattle.bs_top_files.specs.Entry.{netlist_of, report_of}
 use Rattle.bs_top_files.specs.Refusals.{Case}
@@ -12,7 +12,6 @@ use Rattle.bs_inspect_files.specs.Taken.{OneRun, TraceFiles, RunFiles, ReportFil
 use Rattle.bs_inspect_values.specs.Dumped.{Dumped, dumped_of}
 use Rattle.bs_inspect_values.specs.Simulated.{Simulated, simulated_of}
 use Rattle.bs_inspect_files.specs.FlopFiles.{Scanned, named_of, scanned_of}
-use Rattle.bs_inspect_answers.specs.Taken.{Answered, answered_of}
 use Rattle.bs_inspect_page.specs.Page.{PageOptions}
 use Rattle.bs_inspect_why.specs.Question.{Question}
 use Rattle.bs_inspect.specs.Asked.{clocked_of, dump_files, page_options, question_of}
@@ -21,7 +20,7 @@ use Rattle.bs_inspect.specs.Asked.{clocked_of, dump_files, page_options, questio
 -- names of a netlist, simulated runs (by a clock with this name), a dump, the waveform of a trace from a cycle on, or a signature of so
 -- many items is to be written; a trace or steps as a table, the keys of the flip-flops that names stand for, the state that a
 -- pattern of a scan chain is, or the evidence for the list of a step or for all lists; or a report as a page, or in so many lines the
--- values that a run alone has, or what forces the bits of a name in a trace; or the evidence for a length of an answer or for all
+-- values that a run alone has, or what forces the bits of a name in a trace
 pub data Work : Type 0 where
   to_help : Work
   to_version : Work
@@ -41,7 +40,6 @@ pub data Work : Type 0 where
   to_evidence : Format → Option ℕ → ReportFiles → Work
   to_page : PageOptions → TraceFiles → Work
   to_novel : (most : ℕ) → OneRun → Work
-  to_length : Format → Option ℕ → Answered → Work
   to_why : Question → TraceFiles → Work
 
 -- the plan of a request
@@ -99,12 +97,6 @@ plan_of (Page t) = do
 plan_of (Novel t) = do
   one_run ← one_run_of t.netlist t.runs t.run
   end (to_novel t.most one_run)
-plan_of (ReachCnf t) = do
-  answered ← answered_of t.netlist t.state t.answer
-  end (to_length Clauses t.step answered)
-plan_of (ReachLrat t) = do
-  answered ← answered_of t.netlist t.state t.answer
-  end (to_length Proof t.step answered)
 plan_of (Why t) = do
   trace_files ← charted_of t.netlist t.report (t.name ∷ [])
   end (to_why (question_of t) trace_files)

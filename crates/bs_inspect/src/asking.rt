@@ -3,8 +3,8 @@ ghost use Rattle.std.specs.Prelude.{◌≡◌, find, map, Some, IfOk};
 ghost use Rattle.bs_top_answer.specs.Note.{Due, DueText};
 ghost use Rattle.bs_top_answer.specs.Prepared.{PreparedNoted};
 ghost use Rattle.bs_top_files.specs.Refusals.{CheckSays};
-ghost use Rattle.bs_inspect_words.specs.Request.{ReachCnf as ReachCnfOf, ReachLrat as ReachLratOf, Cnf as CnfOf, Dump as DumpOf, Lrat as LratOf, Flops as FlopsOf, Inputs as InputsOf, Keys as KeysOf, Page as PageOf, Novel as NovelOf, Signature as SignatureOf, Stats as StatsOf, Steps as StepsOf, StepsTable as StepsTableOf, Stimulus as StimulusOf, Trace as TraceOf, TraceTable as TraceTableOf, Unscan as UnscanOf, Wave as WaveOf, Why as WhyOf};
-ghost use Rattle.bs_inspect_words.specs.Asked.{dump_in, evidence_in, keys_in, length_in, page_in, novel_in, request_in, signature_in, stimulus_in, trace_in, unscan_in, wave_in, why_in};
+ghost use Rattle.bs_inspect_words.specs.Request.{Cnf as CnfOf, Dump as DumpOf, Lrat as LratOf, Flops as FlopsOf, Inputs as InputsOf, Keys as KeysOf, Page as PageOf, Novel as NovelOf, Signature as SignatureOf, Stats as StatsOf, Steps as StepsOf, StepsTable as StepsTableOf, Stimulus as StimulusOf, Trace as TraceOf, TraceTable as TraceTableOf, Unscan as UnscanOf, Wave as WaveOf, Why as WhyOf};
+ghost use Rattle.bs_inspect_words.specs.Asked.{dump_in, evidence_in, keys_in, page_in, novel_in, request_in, signature_in, stimulus_in, trace_in, unscan_in, wave_in, why_in};
 ghost use Rattle.bs_inspect.specs.Finishes.{finishes};
 ghost use Rattle.bs_inspect.specs.Said.{late_doubt, RequestSaid, runs_doubt, silent};
 ghost use Rattle.bs_inspect.specs.Work.{plan_of, to_runs};
@@ -13,16 +13,15 @@ ghost use Rattle.bs_inspect_values.specs.Simulated.{simulated_in};
 ghost use Rattle.bs_inspect_values.specs.SimulatedRun.{is_late, run_in};
 
 use crate::sources::{
-    chain_sources, dump_sources, evidence_sources, length_sources, netlist_source, novel_sources,
-    report_source, runs_sources, stop_at, stop_values, trace_sources,
+    chain_sources, dump_sources, evidence_sources, netlist_source, novel_sources, report_source,
+    runs_sources, stop_at, stop_values, trace_sources,
 };
 use crate::telling::{
-    tell_dump, tell_evidence, tell_flops, tell_inputs, tell_keys, tell_length, tell_novel,
-    tell_page, tell_runs, tell_signature, tell_state, tell_stats, tell_steps, tell_steps_table,
-    tell_table, tell_trace, tell_usage, tell_version, tell_wave, tell_why,
+    tell_dump, tell_evidence, tell_flops, tell_inputs, tell_keys, tell_novel, tell_page, tell_runs,
+    tell_signature, tell_state, tell_stats, tell_steps, tell_steps_table, tell_table, tell_trace,
+    tell_usage, tell_version, tell_wave, tell_why,
 };
 use bs_evidence::Format;
-use bs_inspect_answers::load_answered;
 use bs_inspect_files::{
     load_charted, load_named, load_one_run, load_picked, load_report_files, load_run_files,
     load_scanned,
@@ -32,7 +31,7 @@ use bs_inspect_values::{
     Clocked, DumpFiles, Simulated, SimulatedRun, clock_key, first_late, load_dumped, load_simulated,
 };
 use bs_inspect_words::{
-    DumpRequest, EvidenceRequest, KeysRequest, LengthRequest, NovelRequest, PageRequest, Request,
+    DumpRequest, EvidenceRequest, KeysRequest, NovelRequest, PageRequest, Request,
     SignatureRequest, StimulusRequest, TraceRequest, UnscanRequest, WaveRequest, WhyRequest,
 };
 use bs_outside::{NoMemory, Shelf};
@@ -388,34 +387,6 @@ fn novel<S: Shelf>(
     }
 }
 
-/// The answer to `reach-cnf`.
-fn reach_cnf<S: Shelf>(
-    alloc: Global,
-    shelf: &mut S,
-    asked: &LengthRequest<'_>,
-) -> Result<Response, NoMemory>
-    ensures { PreparedNoted CheckSays finishes (RequestSaid (ReachCnfOf (length_in asked.now))) S.held S.faults S.leads shelf.old shelf.new (Some (plan_of (ReachCnfOf (length_in asked.now)))) result }
-{
-    match load_answered(alloc, shelf, asked.netlist, asked.state, asked.answer) {
-        Ok(answered) => silent(tell_length(alloc, Format::Clauses, &answered, asked.step)),
-        Err(stop) => stop_at(alloc, length_sources(asked), shelf.reason(), stop),
-    }
-}
-
-/// The answer to `reach-lrat`.
-fn reach_lrat<S: Shelf>(
-    alloc: Global,
-    shelf: &mut S,
-    asked: &LengthRequest<'_>,
-) -> Result<Response, NoMemory>
-    ensures { PreparedNoted CheckSays finishes (RequestSaid (ReachLratOf (length_in asked.now))) S.held S.faults S.leads shelf.old shelf.new (Some (plan_of (ReachLratOf (length_in asked.now)))) result }
-{
-    match load_answered(alloc, shelf, asked.netlist, asked.state, asked.answer) {
-        Ok(answered) => silent(tell_length(alloc, Format::Proof, &answered, asked.step)),
-        Err(stop) => stop_at(alloc, length_sources(asked), shelf.reason(), stop),
-    }
-}
-
 /// The answer to `why`.
 fn why<S: Shelf>(alloc: Global, shelf: &mut S, asked: &WhyRequest<'_>) -> Result<Response, NoMemory>
     ensures { PreparedNoted CheckSays finishes (RequestSaid (WhyOf (why_in asked.now))) S.held S.faults S.leads shelf.old shelf.new (Some (plan_of (WhyOf (why_in asked.now)))) result }
@@ -460,8 +431,6 @@ pub(crate) fn request_answer<S: Shelf>(
         Request::Lrat(asked) => lrat(alloc, shelf, asked),
         Request::Page(asked) => page(alloc, shelf, asked),
         Request::Novel(asked) => novel(alloc, shelf, asked),
-        Request::ReachCnf(asked) => reach_cnf(alloc, shelf, asked),
-        Request::ReachLrat(asked) => reach_lrat(alloc, shelf, asked),
         Request::Why(asked) => why(alloc, shelf, asked),
     }
 }

@@ -5,12 +5,10 @@ ghost use Rattle.std.specs.Option.{unwrap_or};
 ghost use Rattle.bs_top_plan.specs.Prepared.{AnswersStop};
 ghost use Rattle.bs_top_plan.specs.Diagnostic.{line_stop, note_stop};
 ghost use Rattle.bs_top_answer.specs.Stops.{stop_file, StopNoted};
-ghost use Rattle.bs_inspect_words.specs.Asked.{dump_in, evidence_in, length_in, novel_in, signature_in};
-ghost use Rattle.bs_inspect.specs.Sources.{behind_piece, chain_sources, dump_sources, evidence_sources, joined, length_sources, named_values, netlist_source, novel_sources, report_source, runs_sources, source_of, sources_in, trace_sources};
+ghost use Rattle.bs_inspect_words.specs.Asked.{dump_in, evidence_in, novel_in, signature_in};
+ghost use Rattle.bs_inspect.specs.Sources.{behind_piece, chain_sources, dump_sources, evidence_sources, joined, named_values, netlist_source, novel_sources, report_source, runs_sources, source_of, sources_in, trace_sources};
 
-use bs_inspect_words::{
-    DumpRequest, EvidenceRequest, LengthRequest, NovelRequest, SignatureRequest,
-};
+use bs_inspect_words::{DumpRequest, EvidenceRequest, NovelRequest, SignatureRequest};
 use bs_outside::NoMemory;
 use bs_top_answer::{Response, stop_file, stopped_at};
 use bs_top_plan::{File, WalkStop};
@@ -136,20 +134,6 @@ pub fn novel_sources<'a>(asked: &NovelRequest<'a>) -> Sources<'a>
         signature: "",
         stimulus: asked.runs,
         report: "",
-        vcd: "",
-        map: "",
-    }
-}
-
-/// A netlist and an answer, which counts as a report.
-pub fn length_sources<'a>(asked: &LengthRequest<'a>) -> Sources<'a>
-    ensures { sources_in result ≡ length_sources (length_in asked.now) }
-{
-    Sources {
-        netlist: asked.netlist,
-        signature: "",
-        stimulus: "",
-        report: asked.answer,
         vcd: "",
         map: "",
     }

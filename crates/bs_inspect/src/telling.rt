@@ -15,8 +15,7 @@ ghost use Rattle.bs_evidence.specs.Evidence.{IsEvidence};
 ghost use Rattle.bs_evidence.specs.Words.{flaw_text};
 ghost use Rattle.bs_inspect.specs.Asked.{drawing_of, page_for, question_of};
 ghost use Rattle.bs_inspect.specs.Finishes.{evidence_status, evidence_text, finishes, TellsReasons, why_status, why_text as text_of_why};
-ghost use Rattle.bs_inspect_answers.specs.Taken.{answered_in};
-ghost use Rattle.bs_inspect.specs.Work.{to_dump, to_evidence, to_flops, to_help, to_inputs, to_keys, to_length, to_page, to_novel, to_runs, to_signature, to_state, to_stats, to_steps, to_steps_table, to_table, to_trace, to_version, to_wave, to_why};
+ghost use Rattle.bs_inspect.specs.Work.{to_dump, to_evidence, to_flops, to_help, to_inputs, to_keys, to_page, to_novel, to_runs, to_signature, to_state, to_stats, to_steps, to_steps_table, to_table, to_trace, to_version, to_wave, to_why};
 ghost use Rattle.bs_inspect_words.specs.Asked.{why_in};
 ghost use Rattle.bs_inspect_why.specs.Denials.{denial_text};
 ghost use Rattle.bs_inspect_why.specs.Question.{question_in};
@@ -24,7 +23,6 @@ ghost use Rattle.bs_inspect_why.specs.Why.{Answers};
 
 use crate::usage::{usage_text, version_text};
 use bs_evidence::{Evidence, Flaw, Format, evidence_for, evidence_of, flaw_text};
-use bs_inspect_answers::Answered;
 use bs_inspect_files::{OneRun, ReportFiles, RunFiles, Scanned, TraceFiles};
 use bs_inspect_lists::signature_text;
 use bs_inspect_netlist::{
@@ -39,7 +37,6 @@ use bs_inspect_why::{Denial, Question, Why, denial_text, why_text};
 use bs_inspect_words::WhyRequest;
 use bs_net::Netlist;
 use bs_outside::NoMemory;
-use bs_reach_evidence::evidence_of as length_evidence;
 use bs_report::Report;
 use bs_scan::Moment;
 use bs_top_plan::{Reply, Status};
@@ -344,27 +341,6 @@ pub(crate) fn tell_evidence(
     ensures { IfOk result (λ answer. finishes (to_evidence kind step (report_files_in report_files.now)) answer.status answer.text.items) }
 {
     let found = find_evidence(alloc, kind, report_files, step)?;
-    let reply = tell_found(alloc, found)?;
-    Ok(reply)
-}
-
-/// The evidence for a length of an answer, or for all, or why there is none.
-pub(crate) fn tell_length(
-    alloc: Global,
-    kind: Format,
-    answered: &Answered,
-    step: Option<u64>,
-) -> Result<Reply, NoMemory>
-    ensures { IfOk result (λ answer. finishes (to_length kind step (answered_in answered.now)) answer.status answer.text.items) }
-{
-    let found = length_evidence(
-        alloc,
-        kind,
-        &answered.target.net,
-        &answered.target.state,
-        &answered.answer,
-        step,
-    )?;
     let reply = tell_found(alloc, found)?;
     Ok(reply)
 }

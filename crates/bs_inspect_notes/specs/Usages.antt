@@ -37,8 +37,6 @@ usages =
     ∷ stands (codes "cnf") (codes "usage: backspace_inspect cnf NETLIST SIGNATURE REPORT [--step K]")
     ∷ stands (codes "lrat") (codes "usage: backspace_inspect lrat NETLIST SIGNATURE REPORT [--step K]")
     ∷ stands (codes "novel") (codes "usage: backspace_inspect novel NETLIST STIMULUS RUN [--most N]")
-    ∷ stands (codes "reach-cnf") (codes "usage: backspace_inspect reach-cnf NETLIST STATE ANSWER [--step J]")
-    ∷ stands (codes "reach-lrat") (codes "usage: backspace_inspect reach-lrat NETLIST STATE ANSWER [--step J]")
     ∷ stands (codes "why") (codes "usage: backspace_inspect why NETLIST REPORT NAME [--at CYCLE] [--depth N] [--flops] [--all] [--csv]")
     ∷ stands (codes "help") (codes "usage: backspace_inspect help")
     ∷ stands (codes "version") (codes "usage: backspace_inspect version")

@@ -15,7 +15,7 @@ use bs_note_files::pair_note;
 use std::alloc::Global;
 
 /// The commands, and how the words of each stand.
-const USAGES: [(&str, &str); 20] = [
+const USAGES: [(&str, &str); 18] = [
     ("flops", "usage: backspace_inspect flops NETLIST"),
     ("keys", "usage: backspace_inspect keys NETLIST NAME .."),
     ("inputs", "usage: backspace_inspect inputs NETLIST"),
@@ -62,14 +62,6 @@ const USAGES: [(&str, &str); 20] = [
         "usage: backspace_inspect novel NETLIST STIMULUS RUN [--most N]",
     ),
     (
-        "reach-cnf",
-        "usage: backspace_inspect reach-cnf NETLIST STATE ANSWER [--step J]",
-    ),
-    (
-        "reach-lrat",
-        "usage: backspace_inspect reach-lrat NETLIST STATE ANSWER [--step J]",
-    ),
-    (
         "why",
         "usage: backspace_inspect why NETLIST REPORT NAME [--at CYCLE] [--depth N] [--flops] [--all] [--csv]",
     ),
@@ -98,7 +90,7 @@ const OPTIONS: [&[u8]; 16] = [
 ];
 
 /// The commands.
-const COMMANDS: [&[u8]; 20] = [
+const COMMANDS: [&[u8]; 18] = [
     b"flops",
     b"keys",
     b"inputs",
@@ -114,8 +106,6 @@ const COMMANDS: [&[u8]; 20] = [
     b"cnf",
     b"lrat",
     b"novel",
-    b"reach-cnf",
-    b"reach-lrat",
     b"why",
     b"help",
     b"version",

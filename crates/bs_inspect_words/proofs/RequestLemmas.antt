@@ -12,7 +12,6 @@ use Rattle.bs_top_words.specs.Asked.{setting_of}
 use Rattle.bs_top_words.specs.Given.{Given}
 use Rattle.bs_inspect_words.specs.declared.request.Request.{Request as CodeRequest}
 use Rattle.bs_inspect_words.specs.Asked.{shown_request}
-use Rattle.bs_inspect_words.specs.Request.{LengthRequest, ReachCnf, ReachLrat, length_words, reach_cnf_request, reach_lrat_request}
 use Rattle.bs_inspect_words.specs.Request.{EvidenceRequest, Cnf, Lrat, cnf_request, evidence_words, lrat_request}
 use Rattle.bs_inspect_words.specs.Request.{Request, Keys, Stimulus, are_runs, bare, from_of, keys_of, keys_request, name_of, only_name, stimulus_for, trace_flags, trace_of}
 use Rattle.bs_inspect_words.specs.Request.{trace_words, unscan_of, unscan_request, wave_flags, wave_of, wave_words, drawn_most, page_flags, page_of, page_words}
@@ -104,17 +103,3 @@ pub runs_none : (netlist : List ℕ) (vcds : Words) (clock : List ℕ) (scope na
 runs_none netlist vcds clock scope names not = sym (rw not refl)
 
 -- ---- a length
-
-pub reach_cnf_there : (given : Given) (asked : LengthRequest) → Some asked ≡ length_words given.positions given.settings →
-    Some (ReachCnf asked) ≡ reach_cnf_request given
-reach_cnf_there given asked e = ap (λ (o : Option LengthRequest). option_map (λ (t : LengthRequest). ReachCnf t) o) e
-
-pub reach_cnf_none : (given : Given) → None ≡ length_words given.positions given.settings → None ≡ reach_cnf_request given
-reach_cnf_none given e = ap (λ (o : Option LengthRequest). option_map (λ (t : LengthRequest). ReachCnf t) o) e
-
-pub reach_lrat_there : (given : Given) (asked : LengthRequest) → Some asked ≡ length_words given.positions given.settings →
-    Some (ReachLrat asked) ≡ reach_lrat_request given
-reach_lrat_there given asked e = ap (λ (o : Option LengthRequest). option_map (λ (t : LengthRequest). ReachLrat t) o) e
-
-pub reach_lrat_none : (given : Given) → None ≡ length_words given.positions given.settings → None ≡ reach_lrat_request given
-reach_lrat_none given e = ap (λ (o : Option LengthRequest). option_map (λ (t : LengthRequest). ReachLrat t) o) e

@@ -12,11 +12,10 @@ use Rattle.bs_inspect_words.specs.declared.proposed.NovelRequest.{NovelRequest a
 use Rattle.bs_inspect_words.specs.declared.proposed.SignatureRequest.{SignatureRequest as CodeSignatureRequest}
 use Rattle.bs_inspect_words.specs.declared.causes.WhyRequest.{WhyRequest as CodeWhyRequest}
 use Rattle.bs_inspect_words.specs.declared.request.EvidenceRequest.{EvidenceRequest as CodeEvidenceRequest}
-use Rattle.bs_inspect_words.specs.declared.answered.LengthRequest.{LengthRequest as CodeLengthRequest}
 use Rattle.bs_inspect_words.specs.declared.request.Request.{Request as CodeRequest}
 use Rattle.bs_inspect_words.specs.declared.request.Request.TheVariants as R
-use Rattle.bs_inspect_words.specs.Request.{KeysRequest, TraceRequest, WaveRequest, StimulusRequest, DumpRequest, SignatureRequest, UnscanRequest, EvidenceRequest, PageRequest, NovelRequest, LengthRequest, Request, WhyRequest}
-use Rattle.bs_inspect_words.specs.Request.{Help, Version, Flops, Inputs, Stats, Keys, Trace, TraceTable, Steps, StepsTable, Wave, Stimulus, Dump, Signature, Unscan, Cnf, Lrat, Page, Novel, ReachCnf, ReachLrat}
+use Rattle.bs_inspect_words.specs.Request.{KeysRequest, TraceRequest, WaveRequest, StimulusRequest, DumpRequest, SignatureRequest, UnscanRequest, EvidenceRequest, PageRequest, NovelRequest, Request, WhyRequest}
+use Rattle.bs_inspect_words.specs.Request.{Help, Version, Flops, Inputs, Stats, Keys, Trace, TraceTable, Steps, StepsTable, Wave, Stimulus, Dump, Signature, Unscan, Cnf, Lrat, Page, Novel}
 use Rattle.bs_inspect_words.specs.Request.{Help, Version, Flops, Inputs, Stats, Keys, Trace, TraceTable, Steps, StepsTable, Wave, Stimulus, Dump, Signature, Unscan, Cnf, Lrat, Page, Novel, Why}
 
 abbrev pub keys_in : CodeKeysRequest → KeysRequest
@@ -63,9 +62,6 @@ page_in t = record { netlist = t.netlist.now; report = t.report.now; most = t.mo
 abbrev pub novel_in : CodeNovelRequest → NovelRequest
 novel_in t = record { netlist = t.netlist.now; runs = t.runs.now; run = t.run; most = t.most }
 
-abbrev pub length_in : CodeLengthRequest → LengthRequest
-length_in t = record { netlist = t.netlist.now; state = t.state.now; answer = t.answer.now; step = t.step }
-
 abbrev pub why_in : CodeWhyRequest → WhyRequest
 why_in t = record {
   netlist = t.netlist.now;
@@ -98,8 +94,6 @@ request_in (R.Cnf t) = Cnf (evidence_in t)
 request_in (R.Lrat t) = Lrat (evidence_in t)
 request_in (R.Page t) = Page (page_in t)
 request_in (R.Novel t) = Novel (novel_in t)
-request_in (R.ReachCnf t) = ReachCnf (length_in t)
-request_in (R.ReachLrat t) = ReachLrat (length_in t)
 request_in (R.Why t) = Why (why_in t)
 
 abbrev pub shown_request : Option CodeRequest → Option Request

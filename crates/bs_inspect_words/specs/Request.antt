@@ -82,13 +82,6 @@ pub record EvidenceRequest : Type 0 where
   pub report : List ℕ
   pub step : Option ℕ
 
--- the files of `reach-cnf` and `reach-lrat`, the word of a state, and a length; where there is none, all that are refuted are meant
-pub record LengthRequest : Type 0 where
-  pub netlist : List ℕ
-  pub state : List ℕ
-  pub answer : List ℕ
-  pub step : Option ℕ
-
 -- the files of `novel`, the number of a run, and how many lines it tells at most
 pub record NovelRequest : Type 0 where
   pub netlist : List ℕ
@@ -128,8 +121,6 @@ pub data Request : Type 0 where
   Lrat : EvidenceRequest → Request
   Page : PageRequest → Request
   Novel : NovelRequest → Request
-  ReachCnf : LengthRequest → Request
-  ReachLrat : LengthRequest → Request
   Why : WhyRequest → Request
 
 -- ---- commands without options
@@ -418,34 +409,6 @@ novel_words positions settings = if fit novel_flags settings then novel_of posit
 abbrev pub novel_request : Given → Option Request
 novel_request given = novel_words given.positions given.settings
 
--- ---- the lengths of an answer
-
-abbrev pub length_flags : List Flag
-length_flags = F.Step ∷ []
-
--- the length that a word is: in the log each one is a step
-abbrev pub length_at : List ℕ → Option (Option ℕ)
-length_at word = option_map (λ (n : ℕ). Some n) (number_between 1 MAX_BOUND word)
-
--- a length, if there is a word
-abbrev pub length_in : Option (List ℕ) → Option (Option ℕ)
-length_in None = Some None
-length_in (Some word) = length_at word
-
--- `reach-cnf` and `reach-lrat` have a file name, the word of a state, the name of an answer, and perhaps a length
-abbrev pub length_of : List (List ℕ) → Option (Option ℕ) → Option LengthRequest
-length_of (netlist ∷ state ∷ answer ∷ []) (Some step) = Some record { netlist = netlist; state = state; answer = answer; step = step }
-length_of _ step = None
-
-abbrev pub length_words : List (List ℕ) → List Setting → Option LengthRequest
-length_words positions settings = if fit length_flags settings then length_of positions (length_in (value_of F.Step settings)) else None
-
-abbrev pub reach_cnf_request : Given → Option Request
-reach_cnf_request given = option_map (λ (t : LengthRequest). ReachCnf t) (length_words given.positions given.settings)
-
-abbrev pub reach_lrat_request : Given → Option Request
-reach_lrat_request given = option_map (λ (t : LengthRequest). ReachLrat t) (length_words given.positions given.settings)
-
 -- ---- what forces the bits of a name
 
 abbrev pub why_flags : List Flag
@@ -509,13 +472,6 @@ bare_request command given =
     else (if bytes_eq command (codes "stats") then named (λ (n : List ℕ). Stats n) given
     else None))))
 
--- of an answer of `reach`
-abbrev pub answer_request : List ℕ → Given → Option Request
-answer_request command given =
-    if bytes_eq command (codes "reach-cnf") then reach_cnf_request given
-    else (if bytes_eq command (codes "reach-lrat") then reach_lrat_request given
-    else bare_request command given)
-
 abbrev pub other_request : List ℕ → Given → Option Request
 other_request command given =
     if bytes_eq command (codes "steps") then steps_request given
@@ -526,7 +482,7 @@ other_request command given =
     else (if bytes_eq command (codes "lrat") then lrat_request given
     else (if bytes_eq command (codes "novel") then novel_request given
     else (if bytes_eq command (codes "why") then why_request given
-    else answer_request command given)))))))
+    else bare_request command given)))))))
 
 abbrev pub command_request : List ℕ → Given → Option Request
 command_request command given =

@@ -1,7 +1,7 @@
 //! The words of a command line of the companion: which are a request, and which one they are.
 //!
 //! Modules: `settings` (options and their values), `request` and `proposed` (`Request`), `named`, `report`, `simulation`,
-//! `signature`, `novel`, `evidence`, `lengths`, `page`, `why` (the commands; what the last three ask: `answered`, `paged`, `causes`),
+//! `signature`, `novel`, `evidence`, `page`, `why` (the commands; what the last two ask: `paged`, `causes`),
 //! `reading` (`read_request`). Words by position and
 //! options are parted by bs_top_words. Used above:
 //! `read_request` answers `request_of` (`specs/Request`). A command: a record and a variant of `Request` in code and
@@ -9,10 +9,8 @@
 //! place in `all_flags`.
 #![tactic(auto)]
 
-mod answered;
 mod causes;
 mod evidence;
-mod lengths;
 mod named;
 mod novel;
 mod page;
@@ -26,7 +24,6 @@ mod signature;
 mod simulation;
 mod why;
 
-pub use answered::LengthRequest;
 pub use causes::{DEFAULT_DEPTH, MAX_DEPTH, WhyRequest};
 pub use novel::MAX_LINES;
 pub use paged::{DEFAULT_DRAWN, MAX_DRAWN, PageRequest};

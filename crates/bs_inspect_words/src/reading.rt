@@ -3,10 +3,9 @@ ghost use Rattle.std.specs.Prelude.{◌≡◌, map, string_bytes, IfOk};
 ghost use Rattle.bs_top_words.specs.Asked.{given_in, shown};
 ghost use Rattle.bs_top_words.specs.Given.{read_all, start};
 ghost use Rattle.bs_inspect_words.specs.Asked.{shown_request};
-ghost use Rattle.bs_inspect_words.specs.Request.{all_flags, answer_request, bare_request, command_request, is_help, is_version, other_request, request_of};
+ghost use Rattle.bs_inspect_words.specs.Request.{all_flags, bare_request, command_request, is_help, is_version, other_request, request_of};
 
 use crate::evidence::{cnf_request, lrat_request};
-use crate::lengths::{reach_cnf_request, reach_lrat_request};
 use crate::named::{
     flops_request, help_request, inputs_request, keys_request, stats_request, unscan_request,
     version_request,
@@ -58,19 +57,6 @@ fn bare_request<'a>(command: &str, given: &Given<'a>) -> Option<Request<'a>>
     None
 }
 
-/// The request of a command about an answer, or without options.
-fn answer_request<'a>(command: &str, given: &Given<'a>) -> Option<Request<'a>>
-    ensures { shown_request result ≡ answer_request command.now (given_in given.now) }
-{
-    if command == "reach-cnf" {
-        return reach_cnf_request(given);
-    }
-    if command == "reach-lrat" {
-        return reach_lrat_request(given);
-    }
-    bare_request(command, given)
-}
-
 /// The request of a command that has no list of words.
 fn other_request<'a>(command: &str, given: &Given<'a>) -> Option<Request<'a>>
     ensures { shown_request result ≡ other_request command.now (given_in given.now) }
@@ -99,7 +85,7 @@ fn other_request<'a>(command: &str, given: &Given<'a>) -> Option<Request<'a>>
     if command == "why" {
         return why_request(given);
     }
-    answer_request(command, given)
+    bare_request(command, given)
 }
 
 /// The request of a command and what stands behind it.

@@ -1,5 +1,4 @@
 //! The requests: a command, its files and its options.
-use crate::answered::LengthRequest;
 use crate::causes::WhyRequest;
 use crate::paged::PageRequest;
 use crate::proposed::{NovelRequest, SignatureRequest};
@@ -115,10 +114,6 @@ pub enum Request<'a> {
     Page(PageRequest<'a>),
     /// The values that one recorded run alone has.
     Novel(NovelRequest<'a>),
-    /// The clauses that say that a state is reached in a length, or in one of all that are refuted.
-    ReachCnf(LengthRequest<'a>),
-    /// The proof that it is not.
-    ReachLrat(LengthRequest<'a>),
     /// What forces the bits of a name in a trace.
     Why(WhyRequest<'a>),
 }

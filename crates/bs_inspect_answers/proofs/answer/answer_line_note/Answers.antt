@@ -1,5 +1,0 @@
-use Rattle.bs_inspect_answers.proofs.LineLemmas.{line_said}
-use Rattle.bs_inspect_answers.proofs.answer.answer_line_note.Goals as goal
-
-pub returns : goal.returns
-returns c = line_said _ _ _ _ _ _ c.line_saying-message.ensures c.in_ok-note.ensures
