@@ -1,8 +1,7 @@
 #!/usr/bin/env python3
 """Runs the commands of examples/README.md with the built programs and compares what they write with the stored texts.
 
-The texts that `cnf` and `lrat` write for the lists of reports, and `reach-cnf` and `reach-lrat` for the lengths of answers, are checked
-by tools/lrat_check.py. Then each command of the documents is run whose files are shipped, on a copy of the examples: it ends with a
+The texts that `cnf` and `lrat` write for the lists of reports are checked by tools/lrat_check.py. Then each command of the documents is run whose files are shipped, on a copy of the examples: it ends with a
 result, and not with a refusal. So does the last command of a section with the options that stand behind it in the text, as
 `--only count`.
 
@@ -64,19 +63,11 @@ LISTS = [
     ("hierarchy/netlist.v", "hierarchy/signature.txt", "hierarchy/report.txt", 1),
 ]
 
-# netlist, state, answer, length: each length is refuted
-LENGTHS = [
-    ("shift/netlist.v", "11", "shift/reach.txt", 1),
-    ("counter/netlist.v", "0101", "counter/reached.txt", 9),
-    ("counter/netlist.v", "0101", "counter/unreached.txt", 4),
-    ("counter/netlist.v", "0101", "counter/unknown.txt", 4),
-]
 
-
-def checked(inspect, commands, words):
-    """What the strict checker says of the two texts of a list, of a length, or of all."""
+def checked(inspect, words):
+    """What the strict checker says of the texts of a list, or of all."""
     texts = []
-    for command in commands:
+    for command in ("cnf", "lrat"):
         done = subprocess.run([inspect, command, *words.split()], cwd="examples", stdout=subprocess.PIPE, stderr=subprocess.PIPE)
         if done.returncode:
             return f"status {done.returncode} of {command}, not 0"
@@ -169,16 +160,11 @@ def main():
             said = f"not {stored}"
         wrong += said not in ("as stored", "not stored")
         print(f"{os.path.basename(of[program])} {words}: {said}")
-    refuted = [
-        (commands, f"{' '.join(files)}{asked}")
-        for commands, rows in ((("cnf", "lrat"), LISTS), (("reach-cnf", "reach-lrat"), LENGTHS))
-        for *files, step in rows
-        for asked in (f" --step {step}", "")
-    ]
-    for commands, words in refuted:
-        said = checked(of["i"], commands, words)
+    refuted = [f"{' '.join(files)}{asked}" for *files, step in LISTS for asked in (f" --step {step}", "")]
+    for words in refuted:
+        said = checked(of["i"], words)
         wrong += not said.startswith("refuted")
-        print(f"{os.path.basename(of['i'])} {', '.join(commands)} {words}: {said}")
+        print(f"{os.path.basename(of['i'])} cnf, lrat {words}: {said}")
     count, more = run_documents(of)
     wrong += more
     total = len(ROWS) + len(refuted) + count
