@@ -1022,8 +1022,8 @@ WHY_COUNT = """8 count[1:0] = 0x0, since 6, before 0x1 (dump)
 """
 WHY_READY = """layer,since,at,kind,cycle,name,value
 0,7,7,bit,7,ready,0
-0,7,7,cause,7,count[0],0
 0,7,7,cause,7,count[1],0
+0,7,7,cause,7,count[0],0
 """
 HIERARCHY = """0 \\l0.seen 0 \\full[0]
 1 \\at0[0] 0
