@@ -1184,7 +1184,6 @@ def companion_refusals(it):
         "`flops` and `inputs` tell keys; the name of a vector without an index names its bits"))
     tell(["why", net, report, "take"], 11, "rejected input\n")
     tell(["why", net, report, "count", "--at", "9"], 11, "rejected moment\n")
-    tell(["why", net, report, "put"], 11, "rejected open\n")
     state = "state 1011011011100110001101011000000000001\ninput 10"
     it.write("changed.txt", text[report].replace(state, state.replace("01\n", "00\n"), 1))
     tell(["why", net, "changed.txt", "count"], 11, "rejected trace 0\n")
