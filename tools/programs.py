@@ -21,6 +21,7 @@ import time
 HERE = os.path.dirname(os.path.abspath(__file__))
 sys.dont_write_bytecode = True
 sys.path.insert(0, HERE)
+import lrat_check
 import models
 
 ROOT = os.path.dirname(HERE)
@@ -597,6 +598,23 @@ def files(it):
     writer.join(10)
 
 
+def names(it):
+    """Names of files with spaces, capital letters, other characters than ASCII and a thousand bytes, and the empty name; a name that stands twice."""
+    base_files(it)
+    whole = report_of(it)
+    for name in (" N .v ", "-n.v", "Netz-\u00e4.v", "./" * 500 + "n.v", "x" * 200 + ".v"):
+        if not name.endswith("/n.v"):
+            it.write(name, NETLIST)
+        it.tried("backspace", ["run", "--", name, *FOUR[1:]], 0, whole)
+        it.tried("backspace_inspect", ["flops", "--", name], 0, "0 q0 0\n1 q1 0\n")
+    for name in ("", " n.v", "N.V", "Netz-a\u0308.v", "line\nfeed", "y" * 200):
+        note = said(f"{shown(name)}: No such file or directory (os error 2)")
+        it.tried("backspace", ["run", name, *FOUR[1:]], 12, "refused netlist ReadFault\n", note)
+        it.tried("backspace_inspect", ["flops", name], 12, "refused netlist ReadFault\n", note)
+    note = said(f"d.txt: given as the report, this file begins like a dump; the files stand in the order NETLIST SIGNATURE STIMULUS DUMP REPORT")
+    it.tried("backspace", ["audit", *FOUR, "d.txt"], 10, "refused report Line 1\n", note)
+
+
 def report_of(it):
     """What `run` writes of the shift register: its front is judged by `words`, and this very text by `audit`."""
     return it.run("backspace", ["run", *FOUR])[1]
@@ -627,7 +645,9 @@ def outputs(it):
         # a closed descriptor
         got = it.run(program, given, stdout=subprocess.DEVNULL, preexec_fn=lambda: os.close(1))
         failed_after(f"{' '.join(given)} with a closed output", 0, got)
-        # a closed standard error takes the note and nothing else
+        # a standard error that is full or closed takes the note and nothing else
+        with open("/dev/full", "wb") as full:
+            same(f"{' '.join(given)} with a full note", str(it.run(program, given)[0]), str(it.run(program, given, stderr=full)[0]))
         same(f"{' '.join(given)} with a closed note", str(it.run(program, given)[0]), str(it.run(program, given, stderr=subprocess.DEVNULL, preexec_fn=lambda: os.close(2))[0]))
     # a reader that has gone
     read, wrote = os.pipe()
@@ -723,6 +743,11 @@ def long_netlist(it):
     it.tried("backspace_inspect", ["flops", "long.v"], 0, models.flops_text(chip))
     it.tried("backspace_inspect", ["stats", "long.v"], 0, models.stats_text(chip))
     it.tried("backspace_inspect", ["trace", "long.v", "long.r"], 0, models.trace_text(chip, made))
+    # a scan order of all flip-flops, and the keys of 256 names
+    keys = chip.flop_keys()
+    it.write("long.o", "".join(f"{key}\n" for key in reversed(keys)))
+    it.tried("backspace_inspect", ["unscan", "long.v", "long.o", states[6][::-1]], 0, f"state {states[6]}\n")
+    it.tried("backspace_inspect", ["keys", "long.v", *keys[-256:]], 0, "".join(f"xor {key}\n" for key in keys[-256:]))
     # a literal of the longest line is gone
     lines = report.split("\n")
     block = max(range(len(lines)), key=lambda at: len(lines[at]))
@@ -805,6 +830,37 @@ def long_report(it):
     it.tried("backspace_inspect", ["steps", "busy.r"], 0, models.steps_text(made))
     first = runs[2].cycles - steps
     it.tried("backspace_inspect", ["wave", "busy.v", "busy.r", "--from", str(first)], 0, models.view_text(chip, made, first))
+    told_of(it)
+    passed_over(it, runs)
+
+
+def told_of(it):
+    """What else is told of a long report: here that memory suffices for it, and that the clauses of its lists are refuted."""
+    for given in (["page"], ["page", "--most", "65536"], ["why", "c"], ["why", "s2", "--depth", "16", "--all"]):
+        words = [given[0], "busy.v", "busy.r", *given[1:]]
+        code, out, note = it.run("backspace_inspect", words)
+        same(" ".join(words), "0 True ", f"{code} {len(out) > 0} {note.decode()}")
+    code, out, note = it.run("backspace_inspect", ["novel", "busy.v", "busy.t", "3"])
+    same("novel busy.v busy.t 3", "0 True ", f"{code} {len(out) > 0} {note.decode()}")
+    for step in ([], ["--step", "1"]):
+        texts = [it.run("backspace_inspect", [command, "busy.v", "busy.s", "busy.r", *step]) for command in ("cnf", "lrat")]
+        same("the clauses of a long report: code and note", "0 0 ", "".join(f"{code} " for code, _, _ in texts) + "".join(note.decode() for _, _, note in texts))
+        try:
+            lrat_check.refuted(*(iter(out.decode("ascii").splitlines()) for _, out, _ in texts))
+        except lrat_check.Fault as fault:
+            raise Different(f"the clauses of a long report are not refuted: {fault}") from None
+
+
+def passed_over(it, runs):
+    """A cut list, and more recorded moments with its signature than are asked about: those that lead to the state under no input are passed over."""
+    run = runs[2]
+    before, state = run.states(run.cycles - 1, run.cycles)
+    stored = lambda state: state[3]
+    it.write("busy.c", "bit c[0]\n")
+    it.write("busy.e", f"state {state}\nsig {stored(before)}\nend\n")
+    states, inputs = {run.cycles - 1: before, run.cycles: state}, {run.cycles - 1: run.input(run.cycles - 1)}
+    wanted = asked(1, 1) + way_back(3, states, inputs, run.cycles, 1, stored, "candidates")
+    judged(it, ["run", "busy.v", "busy.c", "busy.t", "busy.e", "--candidates", "1", "--steps", "1"], 0, wanted, length_note(1))
 
 
 def many_runs(it):
@@ -1394,7 +1450,7 @@ def searches(it):
         it.tried("backspace_inspect", ["signature", "lost.v", "lost.t", "--bits", str(bits)], 0, models.signature_text(chip, states, bits, predecessors))
 
 
-GROUPS = [examples, words, codes, refusals, files, outputs, long_netlist, long_report, many_runs, proposals, wide_chip, far_states, value_changes, companion, companion_refusals, memory, limits, counts, searches]
+GROUPS = [examples, words, codes, refusals, files, names, outputs, long_netlist, long_report, many_runs, proposals, wide_chip, far_states, value_changes, companion, companion_refusals, memory, limits, counts, searches]
 
 
 def main():
