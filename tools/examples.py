@@ -1,7 +1,7 @@
 #!/usr/bin/env python3
 """Runs the commands of examples/README.md with the built programs and compares what they write with the stored texts.
 
-The texts that `cnf` and `lrat` write for the lists of reports are checked by tools/lrat_check.py. Then each command of the documents is run whose files are shipped, on a copy of the examples: it ends with a
+The texts that `cnf` and `lrat` write for the lists of reports, and `reach-cnf` and `reach-lrat` for lengths of answers, are checked by tools/lrat_check.py. Then each command of the documents is run whose files are shipped, on a copy of the examples: it ends with a
 result, and not with a refusal. So does the last command of a section with the options that stand behind it in the text, as
 `--only count`.
 
@@ -51,6 +51,10 @@ ROWS = [
     ("b", "run hierarchy/netlist.v hierarchy/signature.txt hierarchy/stimulus.txt hierarchy/dump.txt", 0, "hierarchy/report.txt"),
     ("b", "audit hierarchy/netlist.v hierarchy/signature.txt hierarchy/stimulus.txt hierarchy/dump.txt hierarchy/report.txt", 0, None),
     ("i", "flops hierarchy/netlist.v", 0, None),
+    ("i", "trace counter/netlist.v counter/reached.txt", 0, None),
+    ("i", "wave counter/netlist.v counter/reached.txt", 0, None),
+    ("i", "page counter/netlist.v counter/reached.txt", 0, None),
+    ("i", "why counter/netlist.v counter/reached.txt q", 0, None),
 ]
 
 # netlist, signature, report, step: each list is finished
@@ -63,11 +67,18 @@ LISTS = [
     ("hierarchy/netlist.v", "hierarchy/signature.txt", "hierarchy/report.txt", 1),
 ]
 
+# netlist, state, answer, length: it is refuted
+LENGTHS = [
+    ("shift/netlist.v", "11", "shift/reach.txt", 1),
+    ("counter/netlist.v", "0101", "counter/reached.txt", 3),
+    ("counter/netlist.v", "0101", "counter/unreached.txt", 4),
+]
 
-def checked(inspect, words):
+
+def checked(inspect, words, commands=("cnf", "lrat")):
     """What the strict checker says of the texts of a list, or of all."""
     texts = []
-    for command in ("cnf", "lrat"):
+    for command in commands:
         done = subprocess.run([inspect, command, *words.split()], cwd="examples", stdout=subprocess.PIPE, stderr=subprocess.PIPE)
         if done.returncode:
             return f"status {done.returncode} of {command}, not 0"
@@ -165,9 +176,14 @@ def main():
         said = checked(of["i"], words)
         wrong += not said.startswith("refuted")
         print(f"{os.path.basename(of['i'])} cnf, lrat {words}: {said}")
+    lengths = [f"{' '.join(given)}{asked}" for *given, length in LENGTHS for asked in (f" --length {length}", "")]
+    for words in lengths:
+        said = checked(of["i"], words, ("reach-cnf", "reach-lrat"))
+        wrong += not said.startswith("refuted")
+        print(f"{os.path.basename(of['i'])} reach-cnf, reach-lrat {words}: {said}")
     count, more = run_documents(of)
     wrong += more
-    total = len(ROWS) + len(refuted) + count
+    total = len(ROWS) + len(refuted) + len(lengths) + count
     print(f"{total - wrong} of {total} as they should be")
     sys.exit(1 if wrong else 0)
 

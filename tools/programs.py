@@ -637,6 +637,7 @@ def outputs(it):
         ("backspace", ["audit", *FOUR, "gone"], b"refused report ReadFault\n"),
         ("backspace", ["run"], b"refused words\n"),
         ("backspace_inspect", ["stats", "n.v"], None),
+        ("backspace_inspect", ["cnf", *FOUR[:2], "r.txt"], None),
         ("backspace_inspect", ["flop", "n.v"], b"refused words\n"),
     ]
     for program, given, _ in jobs:
@@ -1048,10 +1049,13 @@ def value_changes(it):
 def companion_usages():
     """How the words of each command of the companion stand, by the definition of what `help` writes."""
     with open(f"{ROOT}/crates/bs_inspect_notes/specs/Usages.antt") as file:
-        return dict(re.findall(r'stands \(codes "(\w+)"\)\s*\(codes "usage: backspace_inspect ([^"]*)"\)', file.read()))
+        return dict(re.findall(r'stands \(codes "([\w-]+)"\)\s*\(codes "usage: backspace_inspect ([^"]*)"\)', file.read()))
 
 
 COMPANION = companion_usages()
+
+ANSWER_FORM = (
+    "this line is not of a form that its place in an answer allows", "an answer is what `reach` writes, unchanged (docs/FORMATS.md, The answer of reach)")
 STAND = (
     "the words do not stand as this command takes them: its files in this order, and each option that it takes as often as it may stand; "
     "--only takes every word up to the next option"
@@ -1176,6 +1180,10 @@ def companion(it):
     tell(["why", net, report, "count"], 0, WHY_COUNT)
     tell(["why", net, report, "count", "--at=8", "--depth", "1"], 0, "".join(WHY_COUNT.splitlines(True)[:5]))
     tell(["why", "--csv", net, report, "ready", "--at", "7", "--depth", "1"], 0, WHY_READY)
+    # the trace of an answer
+    answer_files(it)
+    places = "0 state reset\n0 flop q0 = 0\n0 flop q1 = 0\n0 input a = 1\n1 state passed\n1 flop q0 = 1\n1 input a = 1\n2 state asked\n2 flop q1 = 1\n"
+    tell(["trace", "chain.v", "chain.txt"], 0, places)
     stored = text["ex/yosys/stimulus.txt"]
     tell(["stimulus", net, vcd, *SIMULATED], 0, stored)
     tell(["stimulus", net, *[vcd] * 256, *SIMULATED], 0, stored * 256)
@@ -1202,6 +1210,22 @@ def companion(it):
 
     data = said("the clock `line` is a data input of the netlist, and each of its rising edges was taken for a cycle", "the netlist's clock is `ck`")
     tell(["stimulus", net, vcd, "--clock", "line", "--scope", "tb.dut"], 0, "run sim 6\n" + "00\n" * 6 + "end\n", data)
+
+
+def answers(it, tell):
+    """What is refused of answers of `reach` that show an execution."""
+    answer_files(it)
+    none = said("keeper.txt: the answer has no execution: the state was not reached, or the search ended undecided")
+    for given in (["trace"], ["trace", "--csv"], ["wave"], ["page"]):
+        tell([*given, "keeper.v", "keeper.txt"], 10, "refused report NoTrace\n", none)
+    tell(["why", "keeper.v", "keeper.txt", "q"], 10, "refused report NoTrace\n", none)
+    cut = CHAIN_ANSWER.replace("log 6", "log x")
+    it.write("cut.txt", cut)
+    tell(["trace", "chain.v", "cut.txt"], 10, "refused report Line 9\n", at_place("cut.txt", cut, cut.index("log x"), *ANSWER_FORM))
+    it.write("cut.txt", CHAIN_ANSWER[:-4])
+    tell(["trace", "chain.v", "cut.txt"], 10, "refused report Short\n", said("cut.txt: the text ends before the line `end` of an answer is whole"))
+    it.write("cut.txt", CHAIN_ANSWER + "end\n")
+    tell(["trace", "chain.v", "cut.txt"], 10, "refused report Extra\n", said("cut.txt: bytes follow the line `end` of the answer: a file holds one answer and nothing else"))
 
 
 def companion_refusals(it):
@@ -1245,6 +1269,7 @@ def companion_refusals(it):
     tell(["why", net, "changed.txt", "count"], 11, "rejected trace 0\n")
     for given in (["why", net, report], ["why", net, report, "count", "--depth", "257"], ["why", net, report, "count", "--at", "x"], ["why", net, report, "count", "--flops", "--flops"]):
         tell(given, 2, "refused words\n", said(STAND, f"usage: backspace_inspect {COMPANION['why']}"))
+    answers(it, tell)
     scopes = "the scopes: `tb` `tb.dut` `tb.send` `tb.take_after`"
     variables = "the variables there: `ck` `got` `line` `pop` `put` `take` `ready` `data` `at_middle` `count` `first` `head` `phase` `place` `second` `seen` .."
     clock = f"{vcd}: no variable of one bit in the scope `tb.dut` is the clock `clk`; the nearest: `ck`"
@@ -1301,6 +1326,374 @@ def companion_refusals(it):
     it.write("order.txt", "".join(key + "\n" for key in chip.flop_keys()[:-1]))
     code, out, note = it.run("backspace_inspect", ["unscan", net, "order.txt", "0" * len(chip.flops)])
     same("an order that lacks a flip-flop", f"17 refused map Missing {len(chip.flops) - 1}\n", f"{code} {out.decode()}")
+
+
+# ---- clauses for other checkers, against texts by hand
+
+
+def lines_of(words, end="\n"):
+    """The lines that stand here between commas, each with its end."""
+    return "".join(f"{line}{end}" for line in words.split(", "))
+
+
+# A folder of the examples, or a chip, its signature, stimulus and dump, and the report that `run` wrote; the clauses of the transition
+# relation; and for some steps, or None for all finished lists, the header, the clauses behind those and the refutation. Each line of a
+# clause or of a refutation ends with a 0 that is left out here.
+SHIFT_CLAUSES = "-1, -5 2, 5 -2, -6 3, 6 -3, -7 4, 7 -4"
+SHIFT_LOG = "s, b 8 -8 -3 -4 0, s, 9 -8 -7 -6 0 4 6 8 0, e 9, r 10, d 8 9 0"
+LISTS = {
+    "shift": (None, SHIFT_CLAUSES, {
+        1: ("p cnf 10 14", "8, 5, 6, 7, -8 -3 -4, -9, -10", "15 -8 -3 -4 0 12, 16 -8 -7 -6 0 4 6 15, 17 0 8 11 10 16"),
+        2: ("p cnf 10 14", "9, 5, 6, -7, -9 -3 4, -8, -10",
+            "15 -8 -3 -4 0 13, 16 -8 -7 -6 0 4 6 15, 17 -8 0 13, 17 d 15 16, 18 -9 -3 4 0 12, 19 -9 7 -6 0 4 7 18, 20 0 8 11 10 19"),
+        3: ("p cnf 10 14", "10, 5, -6, -7, -10 3 4, -8, -9",
+            "15 -8 -3 -4 0 13, 16 -8 -7 -6 0 4 6 15, 17 -8 0 13, 17 d 15 16, 18 -9 -3 4 0 14, 19 -9 7 -6 0 4 7 18, 20 -9 0 14, 20 d 18 19, "
+            "21 -10 3 4 0 12, 22 -10 7 6 0 5 7 21, 23 0 8 11 10 22"),
+        None: ("p cnf 10 20", "-8 -3 -4, -8 5, -8 6, -8 7, -9 -3 4, -9 5, -9 6, -9 -7, -10 3 4, -10 5, -10 -6, -10 -7, 8 9 10",
+            "21 -8 -3 -4 0 8, 22 -8 -7 -6 0 4 6 21, 23 -8 0 11 10 22, 23 d 21 22, 24 -9 -3 4 0 12, 25 -9 7 -6 0 4 7 24, 26 -9 0 15 14 25, 26 d 24 25, "
+            "27 -10 3 4 0 16, 28 -10 7 6 0 5 7 27, 29 -10 0 19 18 28, 29 d 27 28, 30 0 23 26 29 20"),
+    }),
+    # a signature of two cycles: the second frame's variables are the first's plus 7, and the link is 15
+    "older": (None, "-1, -5 2, 5 -2, -6 3, 6 -3, -7 3, 7 -3, -8, -12 9, 12 -9, -13 10, 13 -10, -14 10, 14 -10, -15 -12 3, -15 12 -3, -15 -13 4, -15 13 -4", {
+        1: ("p cnf 18 27", "16, 5, 6, 7, 15, 14, -16 -3 -4, -17, -18", "28 -16 -3 -4 0 25, 29 -15 -16 -14 -6 0 4 13 28 12 17, 30 0 23 19 24 21 29"),
+        3: ("p cnf 18 28", "18, 5, -6, -7, -15, -3, -4, -18 3 4, -16, -17",
+            "29 -16 -3 -4 0 27, 30 -15 -16 -14 -6 0 4 13 29 12 17, 31 -16 0 27, 31 d 29 30, 32 -17 -3 4 0 28, 33 -15 -17 14 -6 0 4 14 32 11 18, 34 -17 0 28, "
+            "34 d 32 33, 35 -18 3 4 0 26, 36 -18 3 4 0 35, 37 0 19 24 25 36"),
+        None: ("p cnf 18 38",
+            "-16 -3 -4, -16 5, -16 6, -16 7, -16 15, -16 14, -17 -3 4, -17 5, -17 6, -17 7, -17 15, -17 -14, -18 3 4, -18 5, -18 -6, -18 -7, -18 -15, -18 -3, -18 -4, "
+            "16 17 18",
+            "39 -16 -3 -4 0 19, 40 -15 -16 -14 -6 0 4 13 39 12 17, 41 -16 0 23 24 21 40, 41 d 39 40, 42 -17 -3 4 0 25, 43 -15 -17 14 -6 0 4 14 42 11 18, "
+            "44 -17 0 29 30 27 43, 44 d 42 43, 45 -18 3 4 0 31, 46 -18 3 4 0 45, 47 -18 0 36 37 46, 47 d 45 46, 48 0 41 44 47 38"),
+    }),
+    # an empty list: the and gate has a constant 0 as an input
+    "none": (
+        ("module z(ck); input ck; and g(d,q,1'b0); dff f(ck,q,d); endmodule\n", "", "run a 0, end", "state 1, sig ., end",
+            "backspace 1, asked 64 candidates 256 conflicts 100000, step 1, present 1, stored ., list finished 8, nohit, stop empty, trace 0, state 1, "
+            "log 4, s, 8 -5 0 5 6 2 0, e 8, r 9, end"),
+        "-2 3, -2 4, 2 -3 -4, -1, -4, -5 2, 5 -2", {
+        1: ("p cnf 6 9", "6, 5", "10 -5 0 5 6 2, 11 0 9 10"),
+        None: ("p cnf 6 9", "-6 5, 6", "10 -5 0 5 6 2, 11 -6 0 8 10, 12 0 11 9"),
+    }),
+    # an enable and a clear
+    "kept": (
+        ("module er(ck,a,e,r); input ck,a,e,r; dffe f0(ck,q0,a,e); dffr f1(ck,q1,q0,r); endmodule\n", "bit q1", "run a 2, 110, 110, end", "state 11, sig 0, end",
+            "backspace 1, asked 64 candidates 256 conflicts 100000, step 1, present 11, stored 0, cand 10 input 000, list finished 12, hit 1 1 10, "
+            "step 2, present 10, stored 0, cand 00 input 111, cand 10 input 001, list finished 16, hit 1 0 00, stop reset, trace 2, state 00, input 111, "
+            "state 10, input 000, state 11, log 16, s, b 11 -10 -5 6 0, s, 12 -10 9 -8 0 6 10 11 0, e 12, r 13, d 11 12 0, s, b 14 -11 -5 6 0, s, "
+            "b 15 -11 5 6 0, s, 16 -11 9 0 10 14 15 0, e 16, r 17, d 14 15 16 0, end"),
+        "-1, -7 -3 2, 7 -3 -2, -7 3 5, 7 3 -5, -8 5, -8 -4, 8 -5 4, -9 6, 9 -6", {
+        1: ("p cnf 11 16", "10, 7, 8, -9, -10 -5 6, -11", "17 -10 -5 6 0 15, 18 -10 9 -8 0 6 10 17, 19 0 11 14 13 18"),
+        2: ("p cnf 11 17", "11, 7, -8, -9, -11 -5 6, -11 5 6, -10",
+            "18 -10 -5 6 0 17, 19 -10 9 -8 0 6 10 18, 20 -10 0 17, 20 d 18 19, 21 -11 -5 6 0 15, 22 -11 5 6 0 16, 23 -11 9 0 10 21 22, 24 0 11 14 23"),
+        None: ("p cnf 11 20", "-10 -5 6, -10 7, -10 8, -10 -9, -11 -5 6, -11 5 6, -11 7, -11 -8, -11 -9, 10 11",
+            "21 -10 -5 6 0 11, 22 -10 9 -8 0 6 10 21, 23 -10 0 14 13 22, 23 d 21 22, 24 -11 -5 6 0 15, 25 -11 5 6 0 16, 26 -11 9 0 10 24 25, 27 -11 0 19 26, "
+            "27 d 24 25 26, 28 0 23 27 20"),
+    }),
+    # a finished list behind one that is cut
+    "behind": (
+        ("module o(ck,a); input ck,a; or g(d,q0,q1); dff f0(ck,q0,a); dff f1(ck,q1,d); endmodule\n", "", "run a 2, 1, 1, end", "state 11, sig ., end",
+            "backspace 1, asked 64 candidates 2 conflicts 100000, step 1, present 11, stored ., cand 01 input 1, cand 10 input 1, list candidates, hit 1 1 10, "
+            "step 2, present 10, stored ., cand 00 input 1, list finished 13, hit 1 0 00, stop reset, trace 2, state 00, input 1, state 10, input 1, state 11, "
+            "log 13, s, b 9 -8 4 -5 0, s, b 10 -8 -4 5 0, r 11, d 9 10 0, s, b 12 -9 4 5 0, s, 13 -9 7 0 8 1 2 12 0, e 13, r 14, d 12 13 0, end"),
+        "3 -4, 3 -5, -3 4 5, -1, -6 2, 6 -2, -7 3, 7 -3", {
+        2: ("p cnf 9 13", "9, 6, -7, -9 4 5, -8",
+            "14 -8 4 -5 0 13, 15 -8 -4 5 0 13, 16 -8 0 13, 16 d 14 15, 17 -9 4 5 0 12, 18 -9 7 0 8 1 2 17, 19 0 9 11 18"),
+        None: ("p cnf 9 15", "-8 4 -5, -8 -4 5, -8, -9 4 5, -9 6, -9 -7, 9",
+            "16 -8 4 -5 0 9, 17 -8 -4 5 0 10, 18 -8 0 11, 18 d 16 17, 19 -9 4 5 0 12, 20 -9 7 0 8 1 2 19, 21 -9 0 14 20, 21 d 19 20, 22 0 21 15"),
+    }),
+}
+# A chip, a state, an answer, the unrolled clauses, and the same by lengths: a flip-flop behind another, 11 in two cycles and not in one;
+# the same asked for one cycle alone; and a flip-flop that keeps its bit, 1 in no cycle up to three.
+CHAIN = "module sh(ck,a); input ck,a; dff f0(ck,q0,a); dff f1(ck,q1,q0); endmodule\n"
+CHAIN_LOG = "log 6, s, 17 -6 0 4 11 0, e 17, r 18, s, r 19, end"
+CHAIN_ANSWER = lines_of("reach 1, asked 2 conflicts 9, result reached 2, state 00, input 1, state 10, input 1, state 11, " + CHAIN_LOG)
+KEEPER = "module kp(ck); input ck; dff f0(ck,q,q); endmodule\n"
+KEEPER_ANSWER = lines_of(
+    "reach 1, asked 3 conflicts 9, result unreached, log 12, s, 15 -3 0 2 10 0, e 15, r 16, s, 17 -6 0 5 12 15 0, e 17, r 18, s, "
+    "19 -9 0 8 14 17 0, e 19, r 20, end")
+LENGTHS = {
+    "chain": (CHAIN, "11", CHAIN_ANSWER, "-1, -5 2, 5 -2, -6 3, 6 -3, -7, -11 8, 11 -8, -12 9, 12 -9, -3, -4, -5 9, 5 -9, -6 10, 6 -10", {
+        1: ("p cnf 14 20", "13, 5, 6, -14", "21 -6 0 4 11, 22 0 19 21"),
+        None: ("p cnf 14 20", "-13 5, -13 6, -14, 13", "21 -6 0 4 11, 22 -13 0 18 21, 23 -14 0 19, 24 0 22 20"),
+    }),
+    "short": (CHAIN, "11", lines_of("reach 1, asked 1 conflicts 9, result unreached, log 4, s, 8 -6 0 4 6 0, e 8, r 9, end"), "-1, -5 2, 5 -2, -6 3, 6 -3, -3, -4", {
+        1: ("p cnf 7 10", "7, 5, 6", "11 -6 0 4 6, 12 0 10 11"),
+        None: ("p cnf 7 10", "-7 5, -7 6, 7", "11 -6 0 4 6, 12 -7 0 9 11, 13 0 12 10"),
+    }),
+    "keeper": (KEEPER, "1", KEEPER_ANSWER, "-1, -3 2, 3 -2, -4, -6 5, 6 -5, -7, -9 8, 9 -8, -2, -3 5, 3 -5, -6 8, 6 -8", {
+        1: ("p cnf 12 18", "10, 3, -11, -12", "19 -3 0 2 10, 20 0 16 19"),
+        3: ("p cnf 12 18", "12, 9, -10, -11", "19 -3 0 2 10, 20 -10 0 17, 21 -6 0 5 12 19, 22 -11 0 18, 23 -9 0 8 14 21, 24 0 16 23"),
+        None: ("p cnf 12 18", "-10 3, -11 6, -12 9, 10 11 12",
+            "19 -3 0 2 10, 20 -10 0 15 19, 21 -6 0 5 12 19, 22 -11 0 16 21, 23 -9 0 8 14 21, 24 -12 0 17 23, 25 0 20 22 24 18"),
+    }),
+}
+
+
+def answer_files(it):
+    """The netlists and the answers of the lengths above."""
+    for name, (netlist, _, answer, *_) in LENGTHS.items():
+        it.write(f"{name}.v", netlist)
+        it.write(f"{name}.txt", answer)
+
+
+def list_files(it):
+    """The files of each chip of the lists above, in its folder of the examples."""
+    example_files(it)
+    for name, (chip, *_) in LISTS.items():
+        if chip:
+            netlist, *texts = chip
+            it.write(f"ex/{name}/netlist.v", netlist)
+            for kind, text in zip(KINDS[1:], texts):
+                it.write(f"ex/{name}/{kind}.txt", lines_of(text) if text else "")
+
+
+def refutes(it, commands, words, clauses, texts):
+    """Compares clauses and their refutation with texts by hand, which the strict checker accepts."""
+    header, behind, proof = texts
+    cnf, lrat = f"{header}\n" + lines_of(f"{clauses}, {behind}", " 0\n"), lines_of(proof, " 0\n")
+    for command, text in zip(commands, (cnf, lrat)):
+        it.tried("backspace_inspect", [command, *words], 0, text)
+    lrat_check.refuted(iter(cnf.splitlines()), iter(lrat.splitlines()))
+
+
+def evidence(it):
+    """Clauses of lists and of lengths, and their refutations: a step behind others, an empty list, two signatures, an enable, a clear, a cut list."""
+    list_files(it)
+    answer_files(it)
+    for name, (_, clauses, steps) in LISTS.items():
+        files = [f"ex/{name}/netlist.v", *(f"ex/{name}/{kind}.txt" for kind in KINDS[1:])]
+        it.tried("backspace", ["audit", *files], 0, "accepted\n")
+        for step, texts in steps.items():
+            words = [*files[:2], files[4], *(["--step", str(step)] if step else [])]
+            refutes(it, ("cnf", "lrat"), words, clauses, texts)
+    for name, (_, state, _, clauses, lengths) in LENGTHS.items():
+        for length, texts in lengths.items():
+            words = [f"{name}.v", state, f"{name}.txt", *(["--length", str(length)] if length else [])]
+            refutes(it, ("reach-cnf", "reach-lrat"), words, clauses, texts)
+
+
+# a changed log of the first step of the shift register, or of the first length of the chain, and the line that refuses it
+LOGS = [
+    ("r 10", "r 11", "6 Order"),
+    ("s, 9 -8", "9 -8", "3 Order"),
+    ("9 -8", "10 -8", "4 Order"),
+    ("d 8 9", "d 9 8", "7 Order"),
+    ("e 9", "e 8", "5 NoClause"),
+    ("4 6 8 0", "4 6 9 0", "4 NoClause"),
+    ("-7 -6 0", "-7 -7 0", "4 Duplicate"),
+    ("b 8 -8", "b 8 -9", "2 BadBlock"),
+    ("4 6 8 0", "8 4 6 0", "4 NotUnit"),
+    ("4 6 8 0", "4 6 0", "4 NotFalse"),
+    ("-7 -6 0", "-7 -6 -2 0", "5 BadEnd"),
+]
+ANSWER_LOGS = [
+    ("r 18", "r 19", "4 Order"),
+    ("s, r 19", "s, s", "6 Order"),
+    ("e 17", "e 16", "3 NoClause"),
+    ("4 11 0", "4 17 0", "2 NoClause"),
+    ("-6 0", "-6 6 0", "2 Duplicate"),
+    ("4 11 0", "2 4 11 0", "2 NotUnit"),
+    ("4 11 0", "4 0", "2 NotFalse"),
+    ("-6 0", "-6 -1 0", "3 BadEnd"),
+]
+
+
+def evidence_refusals(it):
+    """Each reason for which there are no clauses and no refutation, once for each command."""
+    list_files(it)
+    answer_files(it)
+    base_files(it)
+    for command in ("cnf", "lrat"):
+        unlisted(it, command)
+        unread(it, command, [FOUR[0], FOUR[1], "r.txt"], ["netlist", "signature", "report"], "--step", 65_536)
+    for command in ("reach-cnf", "reach-lrat"):
+        unrefuted(it, command)
+        unread(it, command, ["chain.v", "11", "chain.txt"], ["netlist", None, "report"], "--length", 1_024)
+
+
+def unlisted(it, command):
+    """What a report is rejected for."""
+    def rejects(text, line, *words, signature="s.txt"):
+        it.write("er.txt", text)
+        it.tried("backspace_inspect", [command, "n.v", signature, "er.txt", *words], 11, f"rejected {line}\n")
+
+    with open(f"{it.room}/r.txt") as file:
+        report = file.read()
+    changed = lambda old, new: report.replace(old, new, 1)
+    shown = {name: lines_of(chip[4]) for name, (chip, *_) in LISTS.items() if chip}
+    with open(f"{it.room}/ex/older/report.txt") as file:
+        older = file.read()
+    # a depth, a count of steps, widths of the present state and the signatures, a step that is not there: in this order
+    wide = changed("present 11\nstored 0", "present 111\nstored 00")
+    rejects(older, "format")
+    rejects(report, "format", signature="ex/older/signature.txt")
+    rejects(wide.replace("asked 64", "asked 2"), "stop", "--step", "4")
+    rejects(wide, "step 2 present", "--step", "1")
+    rejects(changed("present 11\nstored 0", "present 11\nstored 00"), "step 2 stored")
+    rejects(older.replace("older 1", "older ."), "step 1 stored", signature="ex/older/signature.txt")
+    rejects(changed("e 9\n", "e 8\n"), "nostep", "--step", "4")
+    # a log, also in steps behind the one that is asked for, and one that ends inside a step
+    for old, new, line in LOGS:
+        log = changed(lines_of(SHIFT_LOG), lines_of(SHIFT_LOG.replace(old, new)))
+        size = log[log.index("log ") :].count("\n") - 2
+        for words in ([], ["--step", "1"]):
+            rejects(log.replace("log 21\n", f"log {size}\n"), f"log {line}", *words)
+    rejects(changed("r 16\n", "r 17\n"), "log 20 Order", "--step", "1")
+    rejects(changed("e 15\nr 16\nd 14 15 0\n", "").replace("log 21", "log 18"), "log 19 Order", "--step", "1")
+    # a list that was cut, one whose search was, and a report without a finished list, or without a list
+    it.write("cut.v", LISTS["behind"][0][0])
+    it.write("none.txt", "")
+    it.write("er.txt", shown["behind"])
+    it.tried("backspace_inspect", [command, "cut.v", "none.txt", "er.txt", "--step", "1"], 11, "rejected unfinished\n")
+    for words in ([], ["--step", "1"]):
+        rejects(SPENT, "unfinished", *words)
+    bare = lines_of("backspace 1, asked 64 candidates 256 conflicts 100000, stop reset, trace 0, state 00, log 0, end")
+    rejects(bare, "unfinished")
+    rejects(bare, "nostep", "--step", "1")
+
+
+# a search that spent its budget of one lemma, by hand
+SPENT = lines_of(
+    "backspace 1, asked 64 candidates 256 conflicts 1, step 1, present 11, stored 1, cand 11 input 1, list conflicts, nohit, stop conflicts, "
+    "trace 0, state 11, log 6, s, b 8 -8 -3 -4 0, s, 9 -6 3 0 4 0, r 10, d 8 9 0, end")
+
+
+def unrefuted(it, command):
+    """What an answer of `reach` is rejected for, or its state refused."""
+    def answers(text, code, line, *words, state="11", note=""):
+        it.write("ea.txt", text)
+        it.tried("backspace_inspect", [command, "chain.v", state, "ea.txt", *words], code, f"{line}\n", note)
+
+    answers(CHAIN_ANSWER, 11, "rejected nostep", "--length", "3")
+    answers(CHAIN_ANSWER.replace("e 17", "e 16"), 11, "rejected nostep", "--length", "3")
+    answers(CHAIN_ANSWER, 11, "rejected unfinished", "--length", "2")
+    for old, new, line in ANSWER_LOGS:
+        text = CHAIN_ANSWER.replace(lines_of(CHAIN_LOG), lines_of(CHAIN_LOG.replace(old, new)))
+        for words in ([], ["--length", "1"], ["--length", "2"]):
+            answers(text, 11, f"rejected log {line}", *words)
+    answers(CHAIN_ANSWER.replace("r 19\n", "").replace("log 6", "log 5"), 11, "rejected log 6 Order", "--length", "1")
+    # a search that was undecided in the first length, and one that found the state there: no length is refuted
+    undecided = lines_of("reach 1, asked 2 conflicts 1, result unknown 1, log 3, s, 17 -6 3 0 4 0, r 18, end")
+    first = lines_of("reach 1, asked 1 conflicts 9, result reached 1, state 00, input 1, state 10, log 2, s, r 8, end")
+    for text, state in ((undecided, "11"), (first, "10")):
+        for words in ([], ["--length", "1"]):
+            answers(text, 11, "rejected unfinished", *words, state=state)
+        answers(text, 11, "rejected nostep", "--length", "2", state=state)
+    none = lines_of("reach 1, asked 0 conflicts 9, result reached 0, state 00, log 0, end")
+    answers(none, 11, "rejected unfinished", state="00")
+    answers(none, 11, "rejected nostep", "--length", "1", state="00")
+    # for another state the lemma follows and ends no length
+    it.tried("backspace_inspect", [command, "keeper.v", "0", "keeper.txt"], 11, "rejected log 3 BadEnd\n")
+    # a block is no line of an answer
+    block = CHAIN_ANSWER.replace("17 -6 0 4 11 0", "b 17 -13 -3 0")
+    answers(block, 10, "refused report Line 11", note=at_place("ea.txt", block, block.index("b 17"), *ANSWER_FORM))
+    for text, why, sentence in (
+        (CHAIN_ANSWER[:-4], "Short", "the text ends before the line `end` of an answer is whole"),
+        (CHAIN_ANSWER + "end\n", "Extra", "bytes follow the line `end` of the answer: a file holds one answer and nothing else"),
+    ):
+        answers(text, 10, f"refused report {why}", note=said(f"ea.txt: {sentence}"))
+    it.tried("backspace_inspect", [command, "chain.v", "11", "r.txt"], 10, "refused report Line 1\n", at_place("r.txt", "backspace 1\n", 0, *ANSWER_FORM))
+    # another width, and too many variables for the cycles of the answer; the width comes first
+    bits = "the bits stand in the order of the netlist's flip-flops, the first on the left"
+    due = lambda state, flops: said(f"the state `{state}`: {len(state)} bits stand here, and {flops} are due: one for each flip-flop of the netlist", bits)
+    answers(CHAIN_ANSWER, 9, "refused state Width", state="111", note=due("111", 2))
+    it.write("large.v", shift_register(2_048))
+    it.write("ea.txt", lines_of("reach 1, asked 1024 conflicts 9, result unreached, log 0, end"))
+    large = said("the search is too large: this netlist takes so many variables for each cycle: 4098", "ask for fewer cycles: there may be 4194304 variables in all")
+    it.tried("backspace_inspect", [command, "large.v", "1" * 2_048, "ea.txt"], 6, "refused netlist TooLarge\n", large)
+    it.tried("backspace_inspect", [command, "large.v", "11", "ea.txt"], 9, "refused state Width\n", due("11", 2_048))
+
+
+def unread(it, command, files, kinds, option, most):
+    """What the files and the words of a command that writes clauses are refused for."""
+    tell = lambda words, code, out, note="": it.tried("backspace_inspect", [command, *words], code, out, note)
+    usage = f"usage: backspace_inspect {COMPANION[command]}"
+    # files are fetched in this order, and an answer first
+    order = [2, 0] if kinds[1] is None else [0, 1, 2]
+    for at, place in enumerate(order):
+        given = [("gone" if it_ in order[at:] else file) for it_, file in enumerate(files)]
+        tell(given, 12, f"refused {kinds[place]} ReadFault\n", said("gone: No such file or directory (os error 2)"))
+    bare = NETLIST.replace("dff f0(ck, q0, a);\n  dff f1(ck, q1, q0);", "buf b(z, a);")
+    it.write("bare.v", bare)
+    tell(["bare.v", *files[1:]], 6, "refused netlist NoFlop\n", said("bare.v: there is no flip-flop: cells are dff, dffs, dffe and dffr (docs/FORMATS.md, Netlists)"))
+    if kinds[1]:
+        it.write("other.s", "bit q2\n")
+        tell([files[0], "other.s", files[2]], 7, "refused signature UnknownFlop 1\n", at_place(
+            "other.s", "bit q2\n", 4, "no flip-flop has the key `q2`, the name of its output net", nearest("q0", "q1")))
+    for given in (files[:2], [*files, "x"], [*files, option, "1", option, "1"], [*files, "--all"], [*files, {"--step": "--length", "--length": "--step"}[option], "1"]):
+        tell(given, 2, "refused words\n", said(STAND, usage))
+    tell([*files, option, str(most)], 11, "rejected nostep\n")
+    for number in ("0", str(most + 1), "01", "x"):
+        tell([*files, option, number], 2, "refused words\n", said(f"word 5, `{option}`, wants a number in digits from 1 to {most}", usage))
+    if kinds[1] is None:
+        tell([files[0], "1x", files[2]], 2, "refused words\n", said(STAND, usage))
+
+
+# ---- pages
+
+
+def has(title, text, wanted, absent):
+    """Looks for pieces that a text has in this order, and for others that it has not."""
+    at = 0
+    for piece in wanted:
+        if text.find(piece, at) < 0:
+            raise Different(f"{title}: these words are not there, or not in this order: {piece}")
+        at = text.find(piece, at) + len(piece)
+    for piece in absent:
+        if re.search(piece, text):
+            raise Different(f"{title}: these words are there: {piece}")
+
+
+def pages(it):
+    """Pages of reports that stopped without a hit, by each cause, of one that did not, and of an execution."""
+    report = base_files(it)
+    answer_files(it)
+    it.write("none.txt", "")
+    it.write("quiet.txt", "run a 3\n0\n0\n0\nend\n")
+    it.write("ed.txt", "state 11\nsig .\nend\n")
+    for kind, text in zip(("z.v", "zs.txt", "zt.txt", "zd.txt"), LISTS["none"][0]):
+        it.write(kind, text if kind == "z.v" else lines_of(text) if text else "")
+    # 32 of 64 states have the signature 1, and no recorded one has
+    it.write("many.v", "module many(ck, x); input ck; input [5:0] x;\n" + "".join(f"dff (ck, q{i}, x[{i}]);\n" for i in range(6)) + "endmodule\n")
+    it.write("many.s", "bit q0\n")
+    it.write("many.t", "run a 0\nend\n")
+    it.write("many.d", "state 000000\nsig 1\nend\n")
+    it.write("spent.r", SPENT)
+    it.tried("backspace", ["audit", "n.v", "s.txt", "quiet.txt", "d.txt", "spent.r"], 0, "accepted\n")
+    made = lambda name, *words: it.write(name, it.run("backspace", ["run", *words])[1])
+    made("nohit.r", "n.v", "s.txt", "quiet.txt", "d.txt")
+    made("empty.r", "z.v", "zs.txt", "zt.txt", "zd.txt")
+    made("cut.r", "n.v", "none.txt", "quiet.txt", "ed.txt", "--candidates", "1")
+    made("many.r", "many.v", "many.s", "many.t", "many.d")
+    row = lambda name, bits: f"<tr><th scope='row'>{name}</th>" + "".join(f"<td>{bit}</td>" for bit in bits) + "</tr>\n"
+    step = lambda candidates, differ, end: f"<tr><th scope='row'>1</th><td>dump</td><td>{candidates}</td><td>{differ}</td><td>{end}</td><td>none</td>"
+    last = lambda count, more: f"The last list</h2>\n<p class='d'>Candidates: {count}, not shown: {more}."
+    sixteen = [f"{number:05b}" for number in range(16)]
+    many = [row(f"q{i + 1}", [bits[i] for bits in sixteen]) for i in range(5)]
+    for stop, netlist, name, wanted in (
+        ("nohit", "n.v", "nohit.r", [step(1, 0, "finished"), last(1, 0), row("q0", "1"), row("q1", "1")]),
+        ("nohit", "many.v", "many.r", [step(32, 5, "finished"), last(32, 16), "".join(many), "</tbody>"]),
+        ("empty", "z.v", "empty.r", [step(0, 0, "finished"), "The last list</h2>\n<p class='d'>It has no candidate.</p>\n"]),
+        ("candidates", "n.v", "cut.r", [step(1, 0, "candidates"), last("1+", 0)]),
+        ("conflicts", "n.v", "spent.r", [step(1, 0, "conflicts"), last("1+", 0), row("q0", "1"), row("q1", "1")]),
+    ):
+        shows(it, netlist, name, ["<title>Steps back from the crash: 1</title>", f"<p>Stop <b>{stop}</b>: ", audit_words(netlist, name), *wanted], ["reach-"])
+    shows(it, "n.v", "r.txt", ["<title>Steps back from the crash: 3</title>", "<p>Stop <b>reset</b>: ", audit_words("n.v", "r.txt")], ["The last list", "reach-"])
+    commands = "<pre>backspace reach chain.v STATE CYCLES --conflicts 9\nbackspace_inspect reach-cnf chain.v STATE chain.txt\nbackspace_inspect reach-lrat chain.v STATE chain.txt\n</pre>"
+    heads = "".join(f"<th scope='col'{end}>{word}</th>" for word, end in (("cycle", ""), ("0", ""), ("1", ""), ("2", " class='x'")))
+    shows(it, "chain.v", "chain.txt", ["<title>Cycles from reset: 2</title>", "is <b>reached</b>", commands, heads], ["backspace audit", "The last list", "Stop <b>", "class='. u'"])
+
+
+def audit_words(netlist, name):
+    return f"<pre>backspace audit {netlist} SIGNATURE STIMULUS DUMP {name}</pre>"
+
+
+def shows(it, netlist, name, wanted, absent):
+    """Looks for words in a page, behind its style."""
+    code, out, note = it.run("backspace_inspect", ["page", netlist, name])
+    same(f"page {netlist} {name}: code and note", "0 ", f"{code} {note.decode()}")
+    front, _, behind = out.decode().partition("<style>")
+    has(f"page {netlist} {name}", front + behind.partition("</style>")[2], wanted, absent)
 
 
 # ---- limits
@@ -1362,6 +1755,8 @@ def limits(it):
         os.truncate(f"{it.room}/great.vcd", size)
         if size > 512 * MIB:
             it.tried("backspace", ["audit", *FOUR, "great.txt"], 10, "refused report TooLong\n", long("great.txt", "report", size - 1))
+            for given in (["lrat", *FOUR[:2], "great.txt"], ["reach-lrat", "n.v", "11", "great.txt"]):
+                it.tried("backspace_inspect", given, 10, "refused report TooLong\n", long("great.txt", "report", size - 1))
             it.tried("backspace_inspect", ["stimulus", "n.v", "great.vcd", "--clock", "ck"], 16, "refused vcd TooLong\n", long("great.vcd", "vcd", size - 1))
         else:
             short = f"note: great.txt:1:{size + 1}: the text ends before the line `end` of a report is whole\n"
@@ -1450,7 +1845,7 @@ def searches(it):
         it.tried("backspace_inspect", ["signature", "lost.v", "lost.t", "--bits", str(bits)], 0, models.signature_text(chip, states, bits, predecessors))
 
 
-GROUPS = [examples, words, codes, refusals, files, names, outputs, long_netlist, long_report, many_runs, proposals, wide_chip, far_states, value_changes, companion, companion_refusals, memory, limits, counts, searches]
+GROUPS = [examples, words, codes, refusals, files, names, outputs, long_netlist, long_report, many_runs, proposals, wide_chip, far_states, value_changes, companion, companion_refusals, evidence, evidence_refusals, pages, memory, limits, counts, searches]
 
 
 def main():

@@ -13,13 +13,27 @@ use std::alloc::Global;
 use std::marker::Model;
 
 /// A chip that replays the recorded runs, beside a simulator of its netlist. Contracts see the crash that is backtraced.
-#[derive(Drop)]
 pub struct Replay<'a> {
     pub(crate) net: &'a Netlist,
     pub(crate) choice: &'a Choice,
     pub(crate) dump: &'a Dump,
     pub(crate) sim: Sim<'a>,
     pub(crate) chip: Chip<'a>,
+}
+
+// One function for every place that drops one, so that the proof of each such place stays small.
+impl<'a> Drop for Replay<'a> {
+    fn drop(self) {
+        let Replay {
+            net: _,
+            choice: _,
+            dump: _,
+            sim,
+            chip,
+        } = self;
+        drop(sim);
+        drop(chip);
+    }
 }
 
 impl<'a> Model for Replay<'a> {
@@ -48,13 +62,18 @@ impl<'a> Replay<'a> {
         ensures { IfOk result (λ r. r ≡ crash_of (recording_of net.now.raw choice.now runs.now) dump.now) }
     {
         let sim = Sim::new(alloc, net)?;
-        let chip = Chip::new(alloc, net, choice, runs)?;
-        Ok(Replay {
-            net,
-            choice,
-            dump,
-            sim,
-            chip,
-        })
+        match Chip::new(alloc, net, choice, runs) {
+            Ok(chip) => Ok(Replay {
+                net,
+                choice,
+                dump,
+                sim,
+                chip,
+            }),
+            Err(want) => {
+                drop(sim);
+                Err(want)
+            }
+        }
     }
 }

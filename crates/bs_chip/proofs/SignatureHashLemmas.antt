@@ -2,7 +2,7 @@
 use Rattle.std.proofs.Common.{◌≡◌, ◌≢◌, ℕ, suc, zero, ◌<◌, ◌≤◌, ◌+◌, ◌-◌, ◌*◌, Bool, List, [], ◌∷◌, ◌++◌, length, get_or, refl, arith}
 use Rattle.std.proofs.Common.{ap, ap₂, sym, subst, ◌∙◌, ◌⊎◌, ⊎_elim, length-append, Option, Some, None}
 use Rattle.std.specs.Prelude.{MatchOption, OnOk, OnErr, Result, Ok, Err, slice_get}
-use Rattle.std.proofs.lemmas.Bool.{cases_eq}
+use Rattle.std.proofs.lemmas.Bool.{cases_eq, eq-eqb}
 use Rattle.bs_lanes_planes.specs.Planes.{lane}
 use Rattle.bs_net.specs.Circuit.{Circuit}
 use Rattle.bs_scan.specs.Choice.{Chosen, IsChoice}
@@ -14,7 +14,7 @@ use Rattle.bs_chip.specs.Parities.{HaveParities}
 use Rattle.bs_chip.specs.Hashes.{hash_of, ListsEach}
 use Rattle.bs_chip.proofs.ParityLemmas.{signature_lane}
 use Rattle.bs_chip.proofs.TrackLemmas.{track_at}
-use Rattle.bs_chip.specs.SignatureHashes.{recorded_by, HaveSignatureHashes, SignatureHashesShow, AreSignatureHashes, NoneWithHash, IsNextWithHash, NoneAlike, IsNextAlike}
+use Rattle.bs_chip.specs.SignatureHashes.{recorded_by, signature_at, HaveSignatureHashes, SignatureHashesShow, AreSignatureHashes, NoneWithHash, IsNextWithHash, NoneAlike, IsNextAlike}
 
 -- ---- the runs of a cycle
 
@@ -158,12 +158,13 @@ pub none_behind : (runs : List Run) (signature_hashes : List ℕ) (cycle hash fr
 none_behind runs signature_hashes cycle hash from lane le none = record { each = λ n lo hi there last. none.each n lo (omega (arith, hi, le)) there last }
 
 pub next_is : (runs : List Run) (signature_hashes : List ℕ) (cycle hash from lane : ℕ) → from ≤ lane → lane < length runs → cycle ≤ length (run_of runs (lane + 1)) →
-    NoneWithHash runs signature_hashes cycle hash from lane → IsNextWithHash runs signature_hashes cycle hash from (lane + 1)
-next_is runs signature_hashes cycle hash from lane le there last none =
+    get_or signature_hashes lane 0 ≡ hash → NoneWithHash runs signature_hashes cycle hash from lane → IsNextWithHash runs signature_hashes cycle hash from (lane + 1)
+next_is runs signature_hashes cycle hash from lane le there last same none =
     let back : lane + 1 - 1 ≡ lane = omega arith in
     record {
       behind = omega (arith, le);
       is_moment = record { from_one = omega arith; recorded = omega (arith, there); lasts = last };
+      same = ap (λ (i : ℕ). get_or signature_hashes i 0) back ∙ same;
       before = subst (λ (n : ℕ). NoneWithHash runs signature_hashes cycle hash from n) (sym back) none;
     }
 
@@ -182,7 +183,13 @@ alike_by : (r : Recording) (stored : List Bool) (signature_hashes : List ℕ) (c
     MatchOption found (NoneAlike r stored cycle from (length r.runs)) (IsNextAlike r stored cycle from)
 alike_by r stored signature_hashes cycle hash from None have is h = none_alike r stored signature_hashes cycle hash from (length r.runs) have is h
 alike_by r stored signature_hashes cycle hash from (Some n) have is h =
-    record { behind = h.behind; is_moment = h.is_moment; before = none_alike r stored signature_hashes cycle hash from (n - 1) have is h.before }
+    record {
+      behind = h.behind;
+      is_moment = h.is_moment;
+      alike = eq-eqb (hash_of (signature_at r n cycle)) (hash_of stored)
+          (sym ((have.each n h.is_moment.from_one h.is_moment.recorded).is h.is_moment.lasts) ∙ (h.same ∙ is));
+      before = none_alike r stored signature_hashes cycle hash from (n - 1) have is h.before;
+    }
 
 pub alike_found : (self : Recording) (p q : Passing) (choice : Chosen) (signature_hashes : List (List ℕ)) (pass : Passing) (row : List ℕ) (stored : List Bool)
     (cycle hash from : ℕ) (found : Option ℕ) → recorded_by p choice ≡ self → IsSamePass p q → AreSignatureHashes (recorded_by p choice) pass signature_hashes →

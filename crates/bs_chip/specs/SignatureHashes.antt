@@ -1,8 +1,8 @@
 -- The hashes of the signatures of the states of all runs, cycle by cycle.
-use Rattle.std.specs.Prelude.{◌≡◌, ◌≢◌, ℕ, ◌<◌, ◌≤◌, ◌+◌, ◌-◌, Bool, List, [], length, slice_index_or}
+use Rattle.std.specs.Prelude.{◌≡◌, ◌≢◌, ℕ, ◌<◌, ◌≤◌, ◌+◌, ◌-◌, ◌==◌, Bool, true, List, [], length, slice_index_or}
 use Rattle.bs_scan.specs.Choice.{Chosen}
 use Rattle.bs_scan.specs.Crash.{Recording, IsRecording}
-use Rattle.bs_scan.specs.Moments.{Run, moment, IsMoment, run_of, state_at}
+use Rattle.bs_scan.specs.Moments.{Run, Moment, moment, IsMoment, run_of, state_at}
 use Rattle.bs_scan.specs.Signature.{signature}
 use Rattle.bs_chip.specs.Lockstep.{Passing}
 use Rattle.bs_chip.specs.Hashes.{hash_of}
@@ -45,14 +45,21 @@ pub record NoneWithHash (runs : List Run) (signature_hashes : List ℕ) (cycle h
 pub record IsNextWithHash (runs : List Run) (signature_hashes : List ℕ) (cycle hash from n : ℕ) : Type 0 where
   pub behind : from < n
   pub is_moment : IsMoment runs (moment n cycle)
+  pub same : slice_index_or signature_hashes (n - 1) 0 ≡ hash
   pub before : NoneWithHash runs signature_hashes cycle hash from (n - 1)
 
 -- no run behind a number, up to another, that lasts to a cycle is in a state with this signature there
 pub record NoneAlike (r : Recording) (stored : List Bool) (cycle from below : ℕ) : Type 0 where
   pub each : (n : ℕ) → from < n → n ≤ below → n ≤ length r.runs → cycle ≤ length (run_of r.runs n) → signature_at r n cycle ≢ stored
 
--- a run behind a number that lasts to a cycle, and before which none is in such a state
+-- whether the signature of a moment's state has the hash of a stored one
+abbrev pub is_alike : Recording → List Bool → Moment → Bool
+is_alike r stored m = hash_of (signature_at r m.run m.cycle) == hash_of stored
+
+-- a run behind a number that lasts to a cycle and is there in a state whose signature has the hash of a stored one; before it none is in a
+-- state with that signature
 pub record IsNextAlike (r : Recording) (stored : List Bool) (cycle from n : ℕ) : Type 0 where
   pub behind : from < n
   pub is_moment : IsMoment r.runs (moment n cycle)
+  pub alike : is_alike r stored (moment n cycle) ≡ true
   pub before : NoneAlike r stored cycle from (n - 1)

@@ -24,7 +24,7 @@ mod replay;
 mod signature_hashes;
 mod track;
 
-pub use hashes::{hash_more, hash_of};
-pub use pass::{Pass, step_to};
+pub use hashes::{hash_more, hash_of, lane_hashes};
+pub use pass::{Pass, step_to, zero_planes};
 pub use replay::{Chip, Hit, MAX_TRACK_BYTES};
 pub use signature_hashes::SignatureHashes;

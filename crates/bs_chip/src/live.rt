@@ -13,12 +13,24 @@ use std::alloc::Global;
 use std::marker::Model;
 
 /// The runs that last to a cycle. Contracts see all runs, and the cycle.
-#[derive(Drop)]
 pub struct Live<'a> {
     runs: &'a Runs,
     words: Vec<u64>,
     cycle: u32,
     until: u32,
+}
+
+// One function for every place that drops one, so that the proof of each such place stays small.
+impl<'a> Drop for Live<'a> {
+    fn drop(self) {
+        let Live {
+            runs: _,
+            words,
+            cycle: _,
+            until: _,
+        } = self;
+        drop(words);
+    }
 }
 
 impl<'a> Model for Live<'a> {

@@ -25,13 +25,28 @@ use std::collections::HashMap;
 use std::marker::Model;
 
 /// All runs of a netlist, which stand at one cycle. Contracts see the machine, the runs and the cycle.
-#[derive(Drop)]
 pub struct Pass<'a> {
     runs: &'a Runs,
     lanes: Lanes<'a>,
     live: Live<'a>,
     inputs: Vec<u64>,
     at: u32,
+}
+
+// One function for every place that drops one, so that the proof of each such place stays small.
+impl<'a> Drop for Pass<'a> {
+    fn drop(self) {
+        let Pass {
+            runs: _,
+            lanes,
+            live,
+            inputs,
+            at: _,
+        } = self;
+        drop(lanes);
+        drop(live);
+        drop(inputs);
+    }
 }
 
 impl<'a> Model for Pass<'a> {

@@ -22,13 +22,28 @@ use std::marker::Model;
 
 /// A netlist in a state, and the runs whose inputs drive it. Contracts see the machine, the inputs of the runs and the
 /// state.
-#[derive(Drop)]
 pub struct Player<'a> {
     net: &'a Netlist,
     runs: &'a Runs,
     sim: Sim<'a>,
     input: Bits,
     entered: Bits,
+}
+
+// One function for every place that drops one, so that the proof of each such place stays small.
+impl<'a> Drop for Player<'a> {
+    fn drop(self) {
+        let Player {
+            net: _,
+            runs: _,
+            sim,
+            input,
+            entered,
+        } = self;
+        drop(sim);
+        drop(input);
+        drop(entered);
+    }
 }
 
 impl<'a> Model for Player<'a> {
@@ -61,16 +76,22 @@ impl<'a> Player<'a> {
         requires { runs.now.width ≡ length (circuit net.now).inputs }
         ensures { IfOk result (λ p. p ≡ record { circuit = circuit net.now; runs = inputs_of runs.now; state = reset_state (circuit net.now) }) }
     {
-        let sim = Sim::new(alloc, net)?;
         let input = zeros(alloc, runs.width())?;
         let entered = zeros(alloc, net.reset().len())?;
-        Ok(Player {
-            net,
-            runs,
-            sim,
-            input,
-            entered,
-        })
+        match Sim::new(alloc, net) {
+            Ok(sim) => Ok(Player {
+                net,
+                runs,
+                sim,
+                input,
+                entered,
+            }),
+            Err(want) => {
+                drop(input);
+                drop(entered);
+                Err(want)
+            }
+        }
     }
 
     /// The present state.

@@ -39,7 +39,6 @@ pub const MAX_TRACK_BYTES: usize = 536_870_912;
 /// that a cycle is stepped once and looked at many times; cycles beyond its bound are stepped again. Contracts see the
 /// recording, and the cycle at which the lanes stand. An index of the states at the first of these cycles says where a look
 /// may begin. It is made as fast as looks at cycles pay for it.
-#[derive(Drop)]
 pub struct Chip<'a> {
     player: Player<'a>,
     choice: &'a Choice,
@@ -49,6 +48,27 @@ pub struct Chip<'a> {
     most: usize,
     index: Index,
     credit: u64,
+}
+
+// One function for every place that drops one, so that the proof of each such place stays small.
+impl<'a> Drop for Chip<'a> {
+    fn drop(self) {
+        let Chip {
+            player,
+            choice: _,
+            register,
+            pass,
+            track,
+            most: _,
+            index,
+            credit: _,
+        } = self;
+        drop(player);
+        drop(register);
+        drop(pass);
+        drop(track);
+        drop(index);
+    }
 }
 
 impl<'a> Model for Chip<'a> {

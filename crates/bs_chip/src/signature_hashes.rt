@@ -238,8 +238,8 @@ impl<'a> SignatureHashes<'a> {
         )
     }
 
-    /// The first run behind a number that lasts to a cycle and whose state there may have a signature; none where no run
-    /// behind the number is in such a state. Runs are numbered from 1, and cycles from 0.
+    /// The first run behind a number that lasts to a cycle and whose state there may have a signature: the hashes are the same.
+    /// None where no run behind the number is in a state with the signature. Runs are numbered from 1, and cycles from 0.
     pub fn next_alike(
         &mut self,
         alloc: Global,

@@ -31,14 +31,6 @@ use Rattle.bs_chip.proofs.StepLemmas.{of_table}
 
 -- ---- hashes of parities
 
-pub lane_next : (wide i r hash next : ℕ) (words : List ℕ) (bit : Bool) → bit ≡ bit_in words (bit_place wide i r) →
-    hash ≡ hash_of (lane wide i words r) → next ≡ hash_more hash bit → next ≡ hash_of (lane wide (i + 1) words r)
-lane_next wide i r hash next words bit e h n =
-    let f : ℕ → Bool = λ plane. bit_in words (bit_place wide plane r) in
-    n
-    ∙ (ap₂ hash_more h e
-    ∙ (sym (hash_snoc (lane wide i words r) (f i)) ∙ sym (ap hash_of (map-range_with_len_more f 0 i i (omega arith)))))
-
 pub parity_next : (groups : List (List ℕ)) (bits : List Bool) (i hash next : ℕ) (group : List ℕ) (bit : Bool) → i < length groups →
     slice_get groups i ≡ Some group → bit ≡ parity_of bits group → hash ≡ hash_of (map (parity_of bits) (take i groups)) →
     next ≡ hash_more hash bit → next ≡ hash_of (map (parity_of bits) (take (i + 1) groups))

@@ -7,8 +7,7 @@ ghost use Rattle.bs_chip.specs.Hashes.{hash_of, ListsEach};
 ghost use Rattle.bs_chip_forward.specs.Groups.{parities_of, IsPicked};
 
 use bs_bits::{Bits, List, NoMemory};
-use bs_chip::hash_more;
-use bs_lanes_planes::lane_bit;
+use bs_chip::{hash_more, lane_hashes, zero_planes};
 use std::alloc::Global;
 
 /// How many groups there are.
@@ -123,56 +122,6 @@ fn put_parities(
     'words: for at in 0..parities.len() {
         let group = group_at(groups, at / wide, count);
         parities[at] = group_word(group.slice(), planes, wide, at % wide);
-    }
-}
-
-/// The hash of a lane of so many planes.
-fn lane_hash(planes: &[u64], wide: usize, lane: usize, count: usize) -> u64
-    requires lane { lane < 64 * wide }
-    requires size { length planes.now ≡ count * wide }
-    ensures { result ≡ hash_of (lane_in wide count planes.now lane) }
-{
-    let mut hash = 0;
-    'places: for i in 0..count {
-        hash = hash_more(hash, lane_bit(planes, wide, i, lane));
-    }
-    hash
-}
-
-/// The hashes of so many lanes.
-fn lane_hashes(
-    alloc: Global,
-    planes: &[u64],
-    wide: usize,
-    count: usize,
-    lanes: u32,
-) -> Result<List<u64>, NoMemory>
-    requires lanes { lanes ≤ 64 * wide }
-    requires size { length planes.now ≡ count * wide }
-    ensures { IfOk result (λ hashes. ListsEach (λ lane. hash_of (lane_in wide count planes.now lane)) hashes lanes) }
-{
-    let mut hashes = List::new(alloc);
-    'lanes: for lane in 0..lanes {
-        hashes.push(lane_hash(planes, wide, lane as usize, count))?;
-    }
-    Ok(hashes)
-}
-
-/// So many words of zeros.
-fn zero_words(alloc: Global, count: usize) -> Result<Vec<u64>, NoMemory>
-    ensures { IfOk result (λ words. length words.items ≡ count) }
-{
-    let words = vec![in alloc; 0; count]?;
-    Ok(words)
-}
-
-/// So many planes of zeros.
-fn zero_planes(alloc: Global, count: usize, wide: usize) -> Result<Vec<u64>, NoMemory>
-    ensures { IfOk result (λ words. length words.items ≡ count * wide) }
-{
-    match count.checked_mul(wide) {
-        Some(words) => zero_words(alloc, words),
-        None => Err(NoMemory),
     }
 }
 

@@ -1,5 +1,5 @@
 -- Work that is done has a status of its own kind; and the answers to requests, with what is said of them.
-use Rattle.std.proofs.Common.{◌≡◌, ℕ, ◌<◌, ◌≤◌, ◌+◌, arith, true, false, Bor, List, [], ◌∷◌, ◌++◌, length, map, take, find, get_or, Option, Some, None, Result, Ok, Err, append-nil, refl, ap, sym, subst, ◌∙◌}
+use Rattle.std.proofs.Common.{◌≡◌, ℕ, ◌<◌, ◌≤◌, ◌+◌, ◌*◌, arith, true, false, Bor, List, [], ◌∷◌, ◌++◌, length, map, take, find, get_or, Option, Some, None, Result, Ok, Err, append-nil, refl, ap, sym, subst, ◌∙◌}
 use Rattle.std.specs.List.{flat_map}
 use Rattle.std.proofs.lemmas.Grind.{flat_map-append}
 use Rattle.std.proofs.lemmas.List.{append_assoc, length-map, map_more}
@@ -40,7 +40,7 @@ use Rattle.bs_inspect.specs.Said.{late_doubt, RequestSaid, runs_doubt, silent, W
 use Rattle.bs_inspect.specs.Sources.{Sources, behind_piece, joined, named_values, source_of}
 use Rattle.bs_evidence.specs.declared.flaw.Evidence.{Evidence}
 use Rattle.bs_evidence.specs.declared.flaw.Evidence.TheVariants.{Text, Flawed}
-use Rattle.bs_inspect.specs.Work.{to_table, to_steps_table, to_keys, to_state, to_evidence, to_page, to_novel, to_why}
+use Rattle.bs_inspect.specs.Work.{to_table, to_steps_table, to_keys, to_state, to_evidence, to_lengths, to_page, to_novel, to_why}
 use Rattle.bs_inspect.specs.Work.{Work, plan_of, to_help, to_version, to_flops, to_inputs, to_stats, to_steps, to_trace, to_runs, to_dump, to_wave, to_signature}
 use Rattle.bs_inspect_why.specs.Question.{Question}
 use Rattle.bs_inspect_why.specs.Why.{Answers}
@@ -70,6 +70,11 @@ work_status (to_evidence kind step report_files) status text done = ap is_work_s
     by : (e : Evidence) → is_work_status (evidence_status e) ≡ true
     by (Text t) = refl
     by (Flawed flaw) = refl
+work_status (to_lengths kind asked answer_files) status text done = ap is_work_status done.answered ∙ by done.evidence
+  where
+    by : (e : Evidence) → is_work_status (evidence_status e) ≡ true
+    by (Text t) = refl
+    by (Flawed flaw) = refl
 work_status (to_page asked trace_files) status text done = ap is_work_status done.0 ∙ refl
 work_status (to_novel most one_run) status text done = ap is_work_status done.0 ∙ refl
 work_status (to_why q trace_files) status text done = ap is_work_status done.answered ∙ by done.answer
@@ -92,6 +97,10 @@ reasons_told q t answer status text right answered written = record { answer = a
 pub question_told : (given q : Question) (t : TraceFiles) (status : Status) (text : List ℕ) → given ≡ q → TellsReasons given t status text →
     TellsReasons q t status text
 question_told given q t status text e h = subst (λ (x : Question). TellsReasons x t status text) e h
+
+-- an answer is within the room of what was searched
+pub room_asked : (cycles asked variables most : ℕ) → cycles ≡ asked → cycles * variables ≤ most → asked * variables ≤ most
+room_asked cycles asked variables most e h = subst (λ (n : ℕ). n * variables ≤ most) e h
 
 pub is_work : IsWork finishes
 is_work = record { status = work_status }

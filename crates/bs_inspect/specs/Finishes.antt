@@ -30,8 +30,10 @@ use Rattle.bs_evidence.specs.declared.flaw.Evidence.{Evidence}
 use Rattle.bs_evidence.specs.declared.flaw.Evidence.TheVariants.{Text, Flawed}
 use Rattle.bs_evidence.specs.Evidence.{IsEvidence}
 use Rattle.bs_evidence.specs.Words.{flaw_text}
+use Rattle.bs_reach_evidence.specs.Evidence.{IsEvidence as IsLengthEvidence}
+use Rattle.bs_inspect_answers.specs.Searched.{AnswerFiles}
 use Rattle.bs_inspect_files.specs.Taken.{ReportFiles, TraceFiles}
-use Rattle.bs_inspect.specs.Work.{to_table, to_steps_table, to_keys, to_state, to_evidence, to_page, to_novel, to_why}
+use Rattle.bs_inspect.specs.Work.{to_table, to_steps_table, to_keys, to_state, to_evidence, to_lengths, to_page, to_novel, to_why}
 
 -- the status and the text of evidence: a flaw is answered as an audit answers a part that fails
 abbrev pub evidence_status : Evidence → Status
@@ -46,6 +48,14 @@ evidence_text (Flawed flaw) = flaw_text flaw
 pub record TellsEvidence (kind : Format) (step : Option ℕ) (report_files : ReportFiles) (status : Status) (text : List ℕ) : Type 0 where
   pub evidence : Evidence
   pub right : IsEvidence kind (circuit_of report_files.raw) report_files.choice report_files.report step evidence
+  pub answered : status ≡ evidence_status evidence
+  pub written : text ≡ evidence_text evidence
+
+-- the evidence that the state is not reached in a length, or in all that the answer refutes where no length is asked for, or why there is
+-- none
+pub record TellsLengths (kind : Format) (asked : Option ℕ) (answer_files : AnswerFiles) (status : Status) (text : List ℕ) : Type 0 where
+  pub evidence : Evidence
+  pub right : IsLengthEvidence kind (circuit_of answer_files.target.raw) answer_files.target.state answer_files.answer asked evidence
   pub answered : status ≡ evidence_status evidence
   pub written : text ≡ evidence_text evidence
 
@@ -84,6 +94,7 @@ finishes (to_steps_table report) status text = (status ≡ Done) × (text ≡ st
 finishes (to_keys names raw) status text = (status ≡ Done) × TellsKeys raw names text
 finishes (to_state scanned) status text = (status ≡ Done) × (text ≡ state_line (length scanned.raw.flops) scanned.order scanned.pattern)
 finishes (to_evidence kind step report_files) status text = TellsEvidence kind step report_files status text
+finishes (to_lengths kind asked answer_files) status text = TellsLengths kind asked answer_files status text
 finishes (to_page asked trace_files) status text = (status ≡ Done) × ShowsReport trace_files.raw trace_files.report asked text
 finishes (to_novel most one_run) status text = (status ≡ Done) × TellsNovel one_run.run_files.raw one_run.run_files.runs one_run.moment.run most text
 finishes (to_why q trace_files) status text = TellsReasons q trace_files status text

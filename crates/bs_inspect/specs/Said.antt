@@ -12,18 +12,19 @@ use Rattle.bs_top_answer.specs.Note.{Due, DueText}
 use Rattle.bs_top_answer.specs.Prepared.{NoteAlong}
 use Rattle.bs_top_files.specs.Looking.{netlist_looked, report_looked}
 use Rattle.bs_top_files.specs.NoteCases.{NoteCase, NoteSays}
-use Rattle.bs_inspect_words.specs.Request.{Request, Help, Version, Flops, Inputs, Stats, Keys, Trace, TraceTable, Steps, StepsTable, Wave, Stimulus, Dump, Signature, Unscan, Cnf, Lrat, Page, Novel, Why}
+use Rattle.bs_inspect_words.specs.Request.{Request, Help, Version, Flops, Inputs, Stats, Keys, Trace, TraceTable, Steps, StepsTable, Wave, Stimulus, Dump, Signature, Unscan, Cnf, Lrat, ReachCnf, ReachLrat, Page, Novel, Why}
 use Rattle.bs_inspect_values.specs.Dumped.{dumped_looked}
 use Rattle.bs_inspect_values.specs.Simulated.{Simulated, clock_key, simulated_looked}
 use Rattle.bs_inspect_values.specs.SimulatedRun.{SimulatedRun, is_late}
 use Rattle.bs_evidence.specs.declared.evidence.Format.TheVariants.{Clauses, Proof}
+use Rattle.bs_inspect_answers.specs.Searched.{answer_files_looked}
 use Rattle.bs_inspect_files.specs.Taken.{charted_looked, one_run_looked, run_files_looked, report_files_looked, picked_looked}
 use Rattle.bs_inspect_files.specs.FlopFiles.{named_looked, scanned_looked}
 use Rattle.bs_inspect_notes.specs.Usages.{words_text}
 use Rattle.bs_inspect_notes.specs.Simulations.{data_clock_text, late_text}
 use Rattle.bs_inspect.specs.Asked.{clocked_of, dump_files, page_options, question_of}
 use Rattle.bs_inspect.specs.Sources.{source_of, sources_of}
-use Rattle.bs_inspect.specs.Work.{Work, to_help, to_version, to_flops, to_inputs, to_stats, to_steps, to_trace, to_runs, to_dump, to_wave, to_signature, to_table, to_steps_table, to_keys, to_state, to_evidence, to_page, to_novel, to_why}
+use Rattle.bs_inspect.specs.Work.{Work, to_help, to_version, to_flops, to_inputs, to_stats, to_steps, to_trace, to_runs, to_dump, to_wave, to_signature, to_table, to_steps_table, to_keys, to_state, to_evidence, to_lengths, to_page, to_novel, to_why}
 
 -- the plan of a request as the notes see it: the same files and the same work, and the notes on what is refused
 abbrev pub looked_of : Request → Plan NoteCase Work
@@ -74,6 +75,12 @@ looked_of (Cnf t) = do
 looked_of (Lrat t) = do
   report_files ← report_files_looked t.netlist t.signature t.report
   end (to_evidence Proof t.step report_files)
+looked_of (ReachCnf t) = do
+  answer_files ← answer_files_looked t.netlist t.state t.answer
+  end (to_lengths Clauses t.length answer_files)
+looked_of (ReachLrat t) = do
+  answer_files ← answer_files_looked t.netlist t.state t.answer
+  end (to_lengths Proof t.length answer_files)
 looked_of (Page t) = do
   trace_files ← picked_looked t.netlist t.report t.only
   end (to_page (page_options t) trace_files)

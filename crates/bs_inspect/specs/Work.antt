@@ -2,12 +2,13 @@
 use Rattle.std.specs.Prelude.{ℕ, Bool, List, Option, [], ◌∷◌}
 use Rattle.bs_net.specs.Parts.{Parts}
 use Rattle.bs_report.specs.declared.report.Report.{Report}
-use Rattle.bs_inspect_words.specs.Request.{Request, Help, Version, Flops, Inputs, Stats, Keys, Trace, TraceTable, Steps, StepsTable, Wave, Stimulus, Dump, Signature, Unscan, Cnf, Lrat, Page, Novel, Why}
+use Rattle.bs_inspect_words.specs.Request.{Request, Help, Version, Flops, Inputs, Stats, Keys, Trace, TraceTable, Steps, StepsTable, Wave, Stimulus, Dump, Signature, Unscan, Cnf, Lrat, ReachCnf, ReachLrat, Page, Novel, Why}
 use Rattle.bs_top_plan.specs.Plan.{Plan, end, ◌>>=◌}
 use Rattle.bs_top_files.specs.Entry.{netlist_of, report_of}
 use Rattle.bs_top_files.specs.Refusals.{Case}
 use Rattle.bs_evidence.specs.declared.evidence.Format.{Format}
 use Rattle.bs_evidence.specs.declared.evidence.Format.TheVariants.{Clauses, Proof}
+use Rattle.bs_inspect_answers.specs.Searched.{AnswerFiles, answer_files_of}
 use Rattle.bs_inspect_files.specs.Taken.{OneRun, TraceFiles, RunFiles, ReportFiles, picked_of, charted_of, one_run_of, run_files_of, report_files_of}
 use Rattle.bs_inspect_values.specs.Dumped.{Dumped, dumped_of}
 use Rattle.bs_inspect_values.specs.Simulated.{Simulated, simulated_of}
@@ -19,8 +20,8 @@ use Rattle.bs_inspect.specs.Asked.{clocked_of, dump_files, page_options, questio
 -- how words stand, the version, the flip-flops, data inputs or sizes of a netlist, the steps of a report, its trace with the
 -- names of a netlist, simulated runs (by a clock with this name), a dump, the waveform of a trace from a cycle on, or a signature of so
 -- many items is to be written; a trace or steps as a table, the keys of the flip-flops that names stand for, the state that a
--- pattern of a scan chain is, or the evidence for the list of a step or for all lists; or a report as a page, or in so many lines the
--- values that a run alone has, or what forces the bits of a name in a trace
+-- pattern of a scan chain is, or the evidence for the list of a step or for all lists, or for a length of an answer or for all that it
+-- refutes; or a report as a page, or in so many lines the values that a run alone has, or what forces the bits of a name in a trace
 pub data Work : Type 0 where
   to_help : Work
   to_version : Work
@@ -38,6 +39,7 @@ pub data Work : Type 0 where
   to_keys : List (List ℕ) → Parts → Work
   to_state : Scanned → Work
   to_evidence : Format → Option ℕ → ReportFiles → Work
+  to_lengths : Format → Option ℕ → AnswerFiles → Work
   to_page : PageOptions → TraceFiles → Work
   to_novel : (most : ℕ) → OneRun → Work
   to_why : Question → TraceFiles → Work
@@ -91,6 +93,12 @@ plan_of (Cnf t) = do
 plan_of (Lrat t) = do
   report_files ← report_files_of t.netlist t.signature t.report
   end (to_evidence Proof t.step report_files)
+plan_of (ReachCnf t) = do
+  answer_files ← answer_files_of t.netlist t.state t.answer
+  end (to_lengths Clauses t.length answer_files)
+plan_of (ReachLrat t) = do
+  answer_files ← answer_files_of t.netlist t.state t.answer
+  end (to_lengths Proof t.length answer_files)
 plan_of (Page t) = do
   trace_files ← picked_of t.netlist t.report t.only
   end (to_page (page_options t) trace_files)

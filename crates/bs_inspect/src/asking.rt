@@ -3,8 +3,8 @@ ghost use Rattle.std.specs.Prelude.{◌≡◌, find, map, Some, IfOk};
 ghost use Rattle.bs_top_answer.specs.Note.{Due, DueText};
 ghost use Rattle.bs_top_answer.specs.Prepared.{PreparedNoted};
 ghost use Rattle.bs_top_files.specs.Refusals.{CheckSays};
-ghost use Rattle.bs_inspect_words.specs.Request.{Cnf as CnfOf, Dump as DumpOf, Lrat as LratOf, Flops as FlopsOf, Inputs as InputsOf, Keys as KeysOf, Page as PageOf, Novel as NovelOf, Signature as SignatureOf, Stats as StatsOf, Steps as StepsOf, StepsTable as StepsTableOf, Stimulus as StimulusOf, Trace as TraceOf, TraceTable as TraceTableOf, Unscan as UnscanOf, Wave as WaveOf, Why as WhyOf};
-ghost use Rattle.bs_inspect_words.specs.Asked.{dump_in, evidence_in, keys_in, page_in, novel_in, request_in, signature_in, stimulus_in, trace_in, unscan_in, wave_in, why_in};
+ghost use Rattle.bs_inspect_words.specs.Request.{Cnf as CnfOf, Dump as DumpOf, Lrat as LratOf, ReachCnf as ReachCnfOf, ReachLrat as ReachLratOf, Flops as FlopsOf, Inputs as InputsOf, Keys as KeysOf, Page as PageOf, Novel as NovelOf, Signature as SignatureOf, Stats as StatsOf, Steps as StepsOf, StepsTable as StepsTableOf, Stimulus as StimulusOf, Trace as TraceOf, TraceTable as TraceTableOf, Unscan as UnscanOf, Wave as WaveOf, Why as WhyOf};
+ghost use Rattle.bs_inspect_words.specs.Asked.{dump_in, evidence_in, keys_in, lengths_in, page_in, novel_in, request_in, signature_in, stimulus_in, trace_in, unscan_in, wave_in, why_in};
 ghost use Rattle.bs_inspect.specs.Finishes.{finishes};
 ghost use Rattle.bs_inspect.specs.Said.{late_doubt, RequestSaid, runs_doubt, silent};
 ghost use Rattle.bs_inspect.specs.Work.{plan_of, to_runs};
@@ -13,15 +13,16 @@ ghost use Rattle.bs_inspect_values.specs.Simulated.{simulated_in};
 ghost use Rattle.bs_inspect_values.specs.SimulatedRun.{is_late, run_in};
 
 use crate::sources::{
-    chain_sources, dump_sources, evidence_sources, netlist_source, novel_sources, report_source,
-    runs_sources, stop_at, stop_values, trace_sources,
+    chain_sources, dump_sources, evidence_sources, lengths_sources, netlist_source, novel_sources,
+    report_source, runs_sources, stop_at, stop_values, trace_sources,
 };
 use crate::telling::{
-    tell_dump, tell_evidence, tell_flops, tell_inputs, tell_keys, tell_novel, tell_page, tell_runs,
-    tell_signature, tell_state, tell_stats, tell_steps, tell_steps_table, tell_table, tell_trace,
-    tell_usage, tell_version, tell_wave, tell_why,
+    tell_dump, tell_evidence, tell_flops, tell_inputs, tell_keys, tell_lengths, tell_novel,
+    tell_page, tell_runs, tell_signature, tell_state, tell_stats, tell_steps, tell_steps_table,
+    tell_table, tell_trace, tell_usage, tell_version, tell_wave, tell_why,
 };
 use bs_evidence::Format;
+use bs_inspect_answers::load_answer_files;
 use bs_inspect_files::{
     load_charted, load_named, load_one_run, load_picked, load_report_files, load_run_files,
     load_scanned,
@@ -31,7 +32,7 @@ use bs_inspect_values::{
     Clocked, DumpFiles, Simulated, SimulatedRun, clock_key, first_late, load_dumped, load_simulated,
 };
 use bs_inspect_words::{
-    DumpRequest, EvidenceRequest, KeysRequest, NovelRequest, PageRequest, Request,
+    DumpRequest, EvidenceRequest, KeysRequest, LengthsRequest, NovelRequest, PageRequest, Request,
     SignatureRequest, StimulusRequest, TraceRequest, UnscanRequest, WaveRequest, WhyRequest,
 };
 use bs_outside::{NoMemory, Shelf};
@@ -346,6 +347,39 @@ fn lrat<S: Shelf>(
     }
 }
 
+/// The answer to `reach-cnf`.
+fn reach_cnf<S: Shelf>(
+    alloc: Global,
+    shelf: &mut S,
+    asked: &LengthsRequest<'_>,
+) -> Result<Response, NoMemory>
+    ensures { PreparedNoted CheckSays finishes (RequestSaid (ReachCnfOf (lengths_in asked.now))) S.held S.faults S.leads shelf.old shelf.new (Some (plan_of (ReachCnfOf (lengths_in asked.now)))) result }
+{
+    match load_answer_files(alloc, shelf, asked.netlist, asked.state, asked.answer) {
+        Ok(answer_files) => silent(tell_lengths(
+            alloc,
+            Format::Clauses,
+            &answer_files,
+            asked.length,
+        )),
+        Err(stop) => stop_at(alloc, lengths_sources(asked), shelf.reason(), stop),
+    }
+}
+
+/// The answer to `reach-lrat`.
+fn reach_lrat<S: Shelf>(
+    alloc: Global,
+    shelf: &mut S,
+    asked: &LengthsRequest<'_>,
+) -> Result<Response, NoMemory>
+    ensures { PreparedNoted CheckSays finishes (RequestSaid (ReachLratOf (lengths_in asked.now))) S.held S.faults S.leads shelf.old shelf.new (Some (plan_of (ReachLratOf (lengths_in asked.now)))) result }
+{
+    match load_answer_files(alloc, shelf, asked.netlist, asked.state, asked.answer) {
+        Ok(answer_files) => silent(tell_lengths(alloc, Format::Proof, &answer_files, asked.length)),
+        Err(stop) => stop_at(alloc, lengths_sources(asked), shelf.reason(), stop),
+    }
+}
+
 /// The answer to `page`.
 fn page<S: Shelf>(
     alloc: Global,
@@ -429,6 +463,8 @@ pub(crate) fn request_answer<S: Shelf>(
         Request::Unscan(asked) => unscan(alloc, shelf, asked),
         Request::Cnf(asked) => cnf(alloc, shelf, asked),
         Request::Lrat(asked) => lrat(alloc, shelf, asked),
+        Request::ReachCnf(asked) => reach_cnf(alloc, shelf, asked),
+        Request::ReachLrat(asked) => reach_lrat(alloc, shelf, asked),
         Request::Page(asked) => page(alloc, shelf, asked),
         Request::Novel(asked) => novel(alloc, shelf, asked),
         Request::Why(asked) => why(alloc, shelf, asked),

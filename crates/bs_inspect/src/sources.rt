@@ -5,10 +5,12 @@ ghost use Rattle.std.specs.Option.{unwrap_or};
 ghost use Rattle.bs_top_plan.specs.Prepared.{AnswersStop};
 ghost use Rattle.bs_top_plan.specs.Diagnostic.{line_stop, note_stop};
 ghost use Rattle.bs_top_answer.specs.Stops.{stop_file, StopNoted};
-ghost use Rattle.bs_inspect_words.specs.Asked.{dump_in, evidence_in, novel_in, signature_in};
-ghost use Rattle.bs_inspect.specs.Sources.{behind_piece, chain_sources, dump_sources, evidence_sources, joined, named_values, netlist_source, novel_sources, report_source, runs_sources, source_of, sources_in, trace_sources};
+ghost use Rattle.bs_inspect_words.specs.Asked.{dump_in, evidence_in, lengths_in, novel_in, signature_in};
+ghost use Rattle.bs_inspect.specs.Sources.{behind_piece, chain_sources, dump_sources, evidence_sources, joined, lengths_sources, named_values, netlist_source, novel_sources, report_source, runs_sources, source_of, sources_in, trace_sources};
 
-use bs_inspect_words::{DumpRequest, EvidenceRequest, NovelRequest, SignatureRequest};
+use bs_inspect_words::{
+    DumpRequest, EvidenceRequest, LengthsRequest, NovelRequest, SignatureRequest,
+};
 use bs_outside::NoMemory;
 use bs_top_answer::{Response, stop_file, stopped_at};
 use bs_top_plan::{File, WalkStop};
@@ -123,6 +125,13 @@ pub fn evidence_sources<'a>(asked: &EvidenceRequest<'a>) -> Sources<'a>
         vcd: "",
         map: "",
     }
+}
+
+/// A netlist and an answer, which counts as a report.
+pub fn lengths_sources<'a>(asked: &LengthsRequest<'a>) -> Sources<'a>
+    ensures { sources_in result ≡ lengths_sources (lengths_in asked.now) }
+{
+    trace_sources(asked.netlist, asked.answer)
 }
 
 /// A netlist and recorded runs.

@@ -11,11 +11,14 @@ ghost use Rattle.bs_inspect_netlist.specs.Dumped.{dump_lines};
 ghost use Rattle.bs_inspect_netlist.specs.Order.{state_line};
 ghost use Rattle.bs_inspect_view.specs.View.{IsDrawing};
 ghost use Rattle.bs_net.specs.Netlist.{circuit_of};
+ghost use Rattle.bs_reach_text.specs.ReadingLaw.{HasAnswerText};
+ghost use Rattle.bs_reach_evidence.specs.Evidence.{IsEvidence as IsLengthEvidence};
+ghost use Rattle.bs_inspect_answers.specs.Searched.{answer_files_in};
 ghost use Rattle.bs_evidence.specs.Evidence.{IsEvidence};
 ghost use Rattle.bs_evidence.specs.Words.{flaw_text};
 ghost use Rattle.bs_inspect.specs.Asked.{drawing_of, page_for, question_of};
 ghost use Rattle.bs_inspect.specs.Finishes.{evidence_status, evidence_text, finishes, TellsReasons, why_status, why_text as text_of_why};
-ghost use Rattle.bs_inspect.specs.Work.{to_dump, to_evidence, to_flops, to_help, to_inputs, to_keys, to_page, to_novel, to_runs, to_signature, to_state, to_stats, to_steps, to_steps_table, to_table, to_trace, to_version, to_wave, to_why};
+ghost use Rattle.bs_inspect.specs.Work.{to_dump, to_evidence, to_lengths, to_flops, to_help, to_inputs, to_keys, to_page, to_novel, to_runs, to_signature, to_state, to_stats, to_steps, to_steps_table, to_table, to_trace, to_version, to_wave, to_why};
 ghost use Rattle.bs_inspect_words.specs.Asked.{why_in};
 ghost use Rattle.bs_inspect_why.specs.Denials.{denial_text};
 ghost use Rattle.bs_inspect_why.specs.Question.{question_in};
@@ -23,6 +26,7 @@ ghost use Rattle.bs_inspect_why.specs.Why.{Answers};
 
 use crate::usage::{usage_text, version_text};
 use bs_evidence::{Evidence, Flaw, Format, evidence_for, evidence_of, flaw_text};
+use bs_inspect_answers::AnswerFiles;
 use bs_inspect_files::{OneRun, ReportFiles, RunFiles, Scanned, TraceFiles};
 use bs_inspect_lists::signature_text;
 use bs_inspect_netlist::{
@@ -37,8 +41,11 @@ use bs_inspect_why::{Denial, Question, Why, denial_text, why_text};
 use bs_inspect_words::WhyRequest;
 use bs_net::Netlist;
 use bs_outside::NoMemory;
+use bs_reach::Reach;
+use bs_reach_evidence::evidence_of as length_evidence;
 use bs_report::Report;
 use bs_scan::Moment;
+use bs_target::Target;
 use bs_top_plan::{Reply, Status};
 use std::alloc::Global;
 
@@ -341,6 +348,44 @@ pub(crate) fn tell_evidence(
     ensures { IfOk result (λ answer. finishes (to_evidence kind step (report_files_in report_files.now)) answer.status answer.text.items) }
 {
     let found = find_evidence(alloc, kind, report_files, step)?;
+    let reply = tell_found(alloc, found)?;
+    Ok(reply)
+}
+
+/// The evidence for a length of an answer to a search, or for all that it refutes.
+#[tactic(auto, using(crate::proofs::WorkLemmas::room_asked))]
+fn find_lengths(
+    alloc: Global,
+    kind: Format,
+    target: &Target,
+    answer: &Reach,
+    asked: Option<u64>,
+) -> Result<Evidence, NoMemory>
+    requires text { HasAnswerText answer.now }
+    requires cycles { target.now.cycles ≡ answer.now.asked }
+    ensures { IfOk result (IsLengthEvidence kind (circuit_of target.now.net.raw) target.now.state answer.now asked) }
+{
+    let found = length_evidence(alloc, kind, &target.net, &target.state, answer, asked)?;
+    Ok(found)
+}
+
+/// The evidence for a length of an answer, or for all that it refutes, or why there is none.
+pub(crate) fn tell_lengths(
+    alloc: Global,
+    kind: Format,
+    answer_files: &AnswerFiles,
+    asked: Option<u64>,
+) -> Result<Reply, NoMemory>
+    requires { HasAnswerText answer_files.now.answer }
+    ensures { IfOk result (λ answer. finishes (to_lengths kind asked (answer_files_in answer_files.now)) answer.status answer.text.items) }
+{
+    let found = find_lengths(
+        alloc,
+        kind,
+        &answer_files.target,
+        &answer_files.answer,
+        asked,
+    )?;
     let reply = tell_found(alloc, found)?;
     Ok(reply)
 }

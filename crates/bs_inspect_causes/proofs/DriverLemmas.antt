@@ -14,7 +14,7 @@ use Rattle.bs_net.specs.Netlist.{Checked, circuit, parts_of}
 use Rattle.bs_net.specs.Order.{IsChecked}
 use Rattle.bs_net.specs.Parts.{Parts}
 use Rattle.bs_net_facts.proofs.PassLemmas.{all_left, all_right}
-use Rattle.bs_inspect_causes.specs.Accounts.{has_net}
+use Rattle.bs_inspect_accounts.specs.Accounts.{has_net}
 use Rattle.bs_inspect_causes.specs.Layers.{AreDrivers, MarksThese}
 
 or_none : (x y : Bool) → y ≡ false → (x || y) ≡ x

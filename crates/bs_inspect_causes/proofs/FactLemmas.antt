@@ -7,13 +7,7 @@ use Rattle.bs_net.specs.declared.net.NetId.{NetId}
 use Rattle.bs_net.specs.Netlist.{circuit}
 use Rattle.bs_net_facts.specs.declared.fact.Fact.{Fact}
 use Rattle.bs_net_facts.specs.Seen.{Seen}
-use Rattle.bs_inspect_causes.specs.Layers.{AreFactsOf, IsRealIn}
-
-pub never_none : (m : Seen) (f : Fact) → ((circuit m.net).nets ≤ f.net.0) ⊎ (length m.inputs ≤ f.cycle) → f.net.0 < (circuit m.net).nets →
-    f.cycle < length m.inputs → IsRealIn m f
-never_none m f past placed early =
-    absurd
-    (⊎_elim (λ (le : (circuit m.net).nets ≤ f.net.0). omega (arith, le, placed)) (λ (le : length m.inputs ≤ f.cycle). omega (arith, le, early)) past)
+use Rattle.bs_inspect_accounts.specs.Accounts.{AreFactsOf, IsRealIn}
 
 -- ---- the facts of nets at a cycle
 

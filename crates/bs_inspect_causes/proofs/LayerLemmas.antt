@@ -9,11 +9,11 @@ use Rattle.std.proofs.lemmas.List.Elements.{All-append, All-contains, All-contai
 use Rattle.bs_net.specs.Netlist.{circuit}
 use Rattle.bs_net_facts.specs.declared.fact.Fact.{Fact}
 use Rattle.bs_net_facts.specs.Seen.{Seen}
-use Rattle.bs_inspect_causes.specs.declared.account.Account.{Account}
+use Rattle.bs_inspect_accounts.specs.declared.account.Account.{Account}
 use Rattle.bs_inspect_causes.specs.declared.drivers.Drivers.{Drivers}
 use Rattle.bs_inspect_causes.specs.declared.units.Unit.{Unit as CodeUnit}
-use Rattle.bs_inspect_causes.specs.Accounts.{IsAccount, IsTold, last_bits}
-use Rattle.bs_inspect_causes.specs.Layers.{IsLike, IsRealIn, IsUnit, IsUnitAt, KeepsFirst, Tells, marks_net}
+use Rattle.bs_inspect_accounts.specs.Accounts.{IsAccount, IsTold, last_bits, IsRealIn}
+use Rattle.bs_inspect_causes.specs.Layers.{IsLike, IsUnit, IsUnitAt, KeepsFirst, Tells, marks_net}
 use Rattle.bs_inspect_causes.proofs.UnitLemmas.{kept_all}
 
 -- ---- nothing, and one account

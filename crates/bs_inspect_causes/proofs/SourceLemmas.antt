@@ -5,13 +5,15 @@ use Rattle.std.proofs.lemmas.List.Elements.{All-append, recursion_from_All}
 use Rattle.bs_net.specs.declared.net.NetId.{NetId}
 use Rattle.bs_net.specs.Circuit.{Fits, bit_at, shown, state_nets}
 use Rattle.bs_net.specs.Netlist.{Checked, circuit}
+use Rattle.bs_net.specs.Order.{IsChecked}
 use Rattle.bs_net.proofs.CallerLemmas.{exactly_one_fits}
 use Rattle.bs_net_facts.specs.declared.fact.Fact.{Fact}
 use Rattle.bs_net_facts.specs.Facts.{FitsMoment}
 use Rattle.bs_net_facts.specs.Seen.{Seen}
 use Rattle.bs_net_facts.specs.Sources.{facts_of, sources}
 use Rattle.bs_inspect_causes.specs.declared.drivers.Drivers.{Drivers}
-use Rattle.bs_inspect_causes.specs.Layers.{AreFactsOf, IsReady, IsRealIn}
+use Rattle.bs_inspect_accounts.specs.Accounts.{AreFactsOf, IsRealIn}
+use Rattle.bs_inspect_causes.specs.Layers.{IsReady}
 use Rattle.bs_inspect_causes.proofs.DriverLemmas.{flops_below, inputs_below}
 
 -- ---- their nets are nets
@@ -26,6 +28,17 @@ pub inputs_there : (m : Seen) (d : Drivers) (k : Checked) (nets : List NetId) �
 inputs_there m d k nets ready same e =
     subst (λ (ns : List NetId). All (λ (n : NetId). n.0 < (circuit m.net).nets) ns) (sym (e ∙ ap (λ (x : Checked). (circuit x).inputs) same))
     (inputs_below (circuit m.net) ready.drivers.checked)
+
+pub inputs_in : (m : Seen) (k : Checked) (nets : List NetId) → k ≡ m.net → IsChecked (circuit k) → nets ≡ (circuit k).inputs →
+    All (λ (n : NetId). n.0 < (circuit m.net).nets) nets
+inputs_in m k nets same checked e =
+    subst (λ (ns : List NetId). All (λ (n : NetId). n.0 < (circuit m.net).nets) ns) (sym e)
+    (subst (λ (x : Checked). All (λ (n : NetId). n.0 < (circuit x).nets) (circuit k).inputs) same (inputs_below (circuit k) checked))
+
+pub facts_in : (m : Seen) (k : Checked) (nets : List NetId) (t : ℕ) (facts : List Fact) → k ≡ m.net → nets ≡ (circuit k).inputs →
+    AreFactsOf m nets t facts → AreFactsOf m (circuit m.net).inputs t facts
+facts_in m k nets t facts same e are =
+    subst (λ (ns : List NetId). AreFactsOf m ns t facts) (e ∙ ap (λ (x : Checked). (circuit x).inputs) same) are
 
 -- ---- the valuation of a moment
 

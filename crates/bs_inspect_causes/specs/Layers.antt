@@ -9,9 +9,9 @@ use Rattle.bs_net_facts.specs.declared.fact.Fact.{Fact}
 use Rattle.bs_net_facts.specs.Facts.{IsReal, IsWayOf}
 use Rattle.bs_net_facts.specs.Seen.{Seen}
 use Rattle.bs_inspect_causes.specs.declared.units.Unit.{Unit as CodeUnit}
-use Rattle.bs_inspect_causes.specs.declared.account.Account.{Account}
+use Rattle.bs_inspect_accounts.specs.declared.account.Account.{Account}
 use Rattle.bs_inspect_causes.specs.declared.drivers.Drivers.{Drivers}
-use Rattle.bs_inspect_causes.specs.Accounts.{Explain, IsAccount, IsDue, IsGiven, IsTold, LeadsOn, has_net, last_bits}
+use Rattle.bs_inspect_accounts.specs.Accounts.{Explain, IsAccount, IsDue, IsGiven, IsRealIn, IsTold, LeadsOn, has_net, last_bits}
 
 -- ---- what drives a net
 
@@ -37,16 +37,6 @@ pub record IsReady (m : Seen) (d : Drivers) : Type 0 where
   pub leads : LeadsOn (circuit m.net) m.states m.inputs
 
 -- ---- facts
-
--- a fact is the trace's
-abbrev pub IsRealIn : Seen → Fact → Type 0
-IsRealIn m f = IsReal (circuit m.net) m.states m.inputs f
-
--- the trace's facts of some nets at a cycle
-pub record AreFactsOf (m : Seen) (nets : List NetId) (t : ℕ) (facts : List Fact) : Type 0 where
-  pub nets_are : map (λ f. f.net) facts ≡ nets
-  pub at_cycle : All (λ f. f.cycle ≡ t) facts
-  pub real : All (IsRealIn m) facts
 
 -- the first facts of a list, each at least once, and no others of it
 pub record KeepsFirst (facts : List Fact) (count : ℕ) (kept : List Fact) : Type 0 where

@@ -1,4 +1,3 @@
 -- what public contracts rest on
-pub mod Accounts
 -- what inner functions promise each other
 pub mod Layers

@@ -1,28 +1,14 @@
-//! An account: a block with its facts by kind.
+//! The account of a block: its facts by kind.
 ghost use Rattle.std.specs.Prelude.{◌≡◌, [], ◌∷◌, ◌++◌, not, filter, if◌then◌else◌, All, IfOk, OnOk};
 ghost use Rattle.bs_net.specs.Netlist.{circuit};
 ghost use Rattle.bs_net_facts.specs.Blocks.{IsBlock};
-ghost use Rattle.bs_inspect_causes.specs.Accounts.{IsAccount, is_cause};
-ghost use Rattle.bs_inspect_causes.specs.Layers.{IsRealIn};
+ghost use Rattle.bs_inspect_accounts.specs.Accounts.{IsAccount, is_cause, IsRealIn};
 
 use crate::facts::real_facts;
 use bs_bits::{List, NoMemory};
+use bs_inspect_accounts::Account;
 use bs_net_facts::{Block, Fact, Moments};
 use std::alloc::Global;
-
-/// A block with its facts by kind.
-#[derive(Drop)]
-pub struct Account {
-    pub block: Block,
-    /// The given facts that set the bits.
-    pub causes: List<Fact>,
-    /// The given facts that keep them.
-    pub holds: List<Fact>,
-    /// Facts to tell beside it, which do not matter.
-    pub idle: List<Fact>,
-    /// 0 for what was asked, 1 for what is given in those accounts, and so on.
-    pub layer: u32,
-}
 
 /// Whether a given fact sets a block's bits, and does not keep them.
 pub(crate) fn is_cause(block: &Block, fact: Fact) -> bool

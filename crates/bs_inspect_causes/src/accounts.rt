@@ -2,15 +2,15 @@
 ghost use Rattle.std.specs.Prelude.{◌≡◌, ◌≤◌, ◌+◌, false, All, IfOk, OnOk};
 ghost use Rattle.bs_net.specs.Netlist.{circuit};
 ghost use Rattle.bs_net_facts.specs.Facts.{IsWayOf, IsReal};
-ghost use Rattle.bs_inspect_causes.specs.Accounts.{Explain, LeadsOn, has_net};
+ghost use Rattle.bs_inspect_accounts.specs.Accounts.{Explain, LeadsOn, has_net};
 ghost use Rattle.bs_inspect_causes.specs.Layers.{AreDue, ExplainSoFar, IsReady};
 
-use crate::account::Account;
 use crate::drivers::Drivers;
 use crate::further::further_facts;
 use crate::layer::tell_facts;
 use crate::ledger::Ledger;
 use bs_bits::{List, NoMemory};
+use bs_inspect_accounts::Account;
 use bs_inspect_cones::Scene;
 use bs_net_facts::Fact;
 use std::alloc::Global;
@@ -161,6 +161,27 @@ fn accounts_with(
     }
 }
 
+/// The same, with nothing told so far.
+fn accounts_by(
+    alloc: Global,
+    scene: &Scene<'_>,
+    drivers: &Drivers,
+    asked: &[Fact],
+    depth: u32,
+    all: bool,
+) -> Result<List<Account>, NoMemory>
+    requires ready { IsReady scene.now.moments.now drivers.now }
+    requires real { All (IsReal (circuit scene.now.moments.now.net) scene.now.moments.now.states scene.now.moments.now.inputs) asked.now }
+    requires driven { All (λ f. has_net (circuit scene.now.moments.now.net).inputs f.net ≡ false) asked.now }
+    requires some_layer { 1 ≤ depth }
+    ensures { IfOk result (λ accounts. Explain (circuit scene.now.moments.now.net) scene.now.moments.now.states scene.now.moments.now.inputs asked.now depth accounts) }
+{
+    let mut ledger = Ledger::new(alloc, scene.nets())?;
+    let accounts = accounts_with(alloc, scene, drivers, &mut ledger, asked, depth, all);
+    drop(ledger);
+    accounts
+}
+
 /// Accounts of some facts of a trace, in at most `depth` layers: of the asked facts, then of facts that are given in those accounts, and
 /// so on: causes, and what has kept the bits all through. Facts of one vector and cycle are told by one account; what is told already,
 /// data inputs, constants and nets without a driver are asked no further. With `all` a layer asks for each cause; else, where an
@@ -181,7 +202,7 @@ pub fn accounts_of(
     ensures { IfOk result (λ accounts. Explain (circuit scene.now.moments.now.net) scene.now.moments.now.states scene.now.moments.now.inputs asked.now depth accounts) }
 {
     let drivers = Drivers::of(alloc, scene.moments.net())?;
-    let mut ledger = Ledger::new(alloc, scene.nets())?;
-    let accounts = accounts_with(alloc, scene, &drivers, &mut ledger, asked, depth, all)?;
-    Ok(accounts)
+    let accounts = accounts_by(alloc, scene, &drivers, asked, depth, all);
+    drop(drivers);
+    accounts
 }

@@ -3,7 +3,7 @@ ghost use Rattle.std.specs.Prelude.{◌≡◌, ◌<◌, ◌+◌, ◌^◌, ◌↔
 ghost use Rattle.bs_net.specs.Circuit.{next};
 ghost use Rattle.bs_net.specs.Netlist.{circuit};
 ghost use Rattle.bs_net_facts.specs.Facts.{IsWayOf};
-ghost use Rattle.bs_inspect_causes.specs.Accounts.{IsBreak, LeadsAt, LeadsOn};
+ghost use Rattle.bs_inspect_accounts.specs.Accounts.{IsBreak, LeadsAt, LeadsOn};
 
 use bs_bits::{Bits, List, NoMemory};
 use bs_net::Netlist;

@@ -2,26 +2,15 @@
 ghost use Rattle.std.specs.Prelude.{◌≡◌, ◌<◌, [], ◌∷◌, ◌++◌, true, length, map, All, IfOk, OnOk};
 ghost use Rattle.bs_net.specs.Netlist.{circuit};
 ghost use Rattle.bs_net_facts.specs.Sources.{sources};
-ghost use Rattle.bs_inspect_causes.specs.Layers.{AreFactsOf, IsReady, IsRealIn};
+ghost use Rattle.bs_inspect_accounts.specs.Accounts.{AreFactsOf, IsRealIn};
+ghost use Rattle.bs_inspect_causes.specs.Layers.{IsReady};
 
 use crate::drivers::Drivers;
 use bs_bits::{List, NoMemory};
+use bs_inspect_accounts::known_bit;
 use bs_net::NetId;
 use bs_net_facts::{Fact, Moments};
 use std::alloc::Global;
-
-/// A net's bit at a moment that has an input.
-#[tactic(auto, using(crate::proofs::FactLemmas::never_none))]
-fn bit_there(moments: &Moments<'_>, net: NetId, cycle: u32) -> bool
-    requires placed { net.0 < (circuit moments.now.net).nets }
-    requires early { cycle < length moments.now.inputs }
-    ensures { IsRealIn moments.now (record { net = net; cycle = cycle; bit = result }) }
-{
-    match moments.bit(net, cycle) {
-        Some(bit) => bit,
-        None => false,
-    }
-}
 
 /// Puts a fact at the end.
 fn push_fact(facts: &mut List<Fact>, net: NetId, cycle: u32, bit: bool) -> Result<(), NoMemory>
@@ -45,9 +34,21 @@ fn facts_at(
 {
     let mut facts = List::new(alloc);
     'nets: for net in nets {
-        let bit = bit_there(moments, *net, cycle);
+        let bit = known_bit(moments, *net, cycle);
         push_fact(&mut facts, *net, cycle, bit)?;
     }
+    Ok(facts)
+}
+
+/// The data inputs at a cycle that has an input.
+#[tactic(auto, using(crate::proofs::SourceLemmas::inputs_in, crate::proofs::SourceLemmas::facts_in))]
+pub fn input_facts(alloc: Global, moments: &Moments<'_>, cycle: u32) -> Result<List<Fact>, NoMemory>
+    requires { cycle < length moments.now.inputs }
+    ensures { IfOk result (λ facts. AreFactsOf moments.now (circuit moments.now.net).inputs cycle facts) }
+{
+    let net = moments.net();
+    let _raw = net.raw();
+    let facts = facts_at(alloc, moments, net.data_inputs().slice(), cycle)?;
     Ok(facts)
 }
 

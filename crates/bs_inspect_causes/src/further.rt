@@ -1,14 +1,15 @@
 //! Which given facts of accounts are asked further.
 ghost use Rattle.std.specs.Prelude.{◌≡◌, ◌<◌, true, false, length, All, Contains, IfOk, OnOk};
 ghost use Rattle.bs_net.specs.Netlist.{circuit};
-ghost use Rattle.bs_inspect_causes.specs.Accounts.{IsAccount};
+ghost use Rattle.bs_inspect_accounts.specs.Accounts.{IsAccount};
 ghost use Rattle.bs_inspect_causes.specs.Layers.{AsksMore, IsNext, marks_net};
 
-use crate::account::{Account, is_cause};
+use crate::account::is_cause;
 use crate::drivers::{Drivers, is_marked};
 use crate::facts::is_real;
 use crate::ledger::Ledger;
 use bs_bits::NoMemory;
+use bs_inspect_accounts::Account;
 use bs_inspect_cones::{Driver, Scene};
 use bs_net::NetId;
 use bs_net_facts::{Fact, Moments};

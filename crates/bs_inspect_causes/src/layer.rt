@@ -1,13 +1,14 @@
 //! The accounts of one layer.
 ghost use Rattle.std.specs.Prelude.{◌≡◌, false, All, OnOk, slice_range};
-ghost use Rattle.bs_inspect_causes.specs.Layers.{IsReady, IsRealIn, IsUnit, IsUnitAt, Tells, marks_net};
+ghost use Rattle.bs_inspect_causes.specs.Layers.{IsReady, IsUnit, IsUnitAt, Tells, marks_net};
+ghost use Rattle.bs_inspect_accounts.specs.Accounts.{IsRealIn};
 
-use crate::account::Account;
 use crate::drivers::Drivers;
 use crate::ledger::Ledger;
 use crate::telling::account_of;
 use crate::units::{Unit, ordered, unit_at};
 use bs_bits::{List, NoMemory};
+use bs_inspect_accounts::Account;
 use bs_inspect_cones::Scene;
 use bs_net_facts::Fact;
 use std::alloc::Global;

@@ -1,9 +1,9 @@
 //! Accounts of facts of a trace: what forces them, and what forces that in turn.
 //!
 //! Modules: `breaks` (`first_break`: whether a trace is of an execution), `drivers` (which nets flip-flops and data inputs drive), `facts`,
-//! `account` (`Account`: a block with its facts by kind), `sourced` (the block by all flip-flops and data inputs of a cycle),
+//! `account` (the account of a block), `sourced` (the block by all flip-flops and data inputs of a cycle),
 //! `telling` (the account of a unit), `units` (facts of one vector and cycle), `layer`, `ledger` and `further` (what is told
-//! already, and asked further), `accounts` (`accounts_of`). Used above: `Explain` (`specs/Accounts`). By which facts a unit is told
+//! already, and asked further), `accounts` (`accounts_of`). Used above: `Explain` (bs_inspect_accounts). By which facts a unit is told
 //! is chosen below (bs_inspect_cones), and `is_block` (bs_net_facts) decides; where it does not know, `sources_force` does.
 #![tactic(auto)]
 
@@ -19,6 +19,6 @@ mod sourced;
 mod telling;
 mod units;
 
-pub use account::Account;
 pub use accounts::accounts_of;
 pub use breaks::first_break;
+pub use facts::input_facts;

@@ -2,14 +2,15 @@
 ghost use Rattle.std.specs.Prelude.{◌≡◌, true, IfOk};
 ghost use Rattle.bs_net.specs.Netlist.{circuit};
 ghost use Rattle.bs_net_facts.specs.Blocks.{IsBlock};
-ghost use Rattle.bs_inspect_causes.specs.Accounts.{IsAccount, last_bits};
+ghost use Rattle.bs_inspect_accounts.specs.Accounts.{IsAccount, last_bits};
 ghost use Rattle.bs_inspect_causes.specs.Layers.{IsReady, IsUnit};
 
-use crate::account::{Account, account_by};
+use crate::account::account_by;
 use crate::drivers::Drivers;
 use crate::facts::{copied, nets_of};
 use crate::sourced::sourced_block;
 use bs_bits::{List, NoMemory};
+use bs_inspect_accounts::Account;
 use bs_inspect_cones::Scene;
 use bs_inspect_holds::{Proposal, propose};
 use bs_net_facts::{Fact, is_block};

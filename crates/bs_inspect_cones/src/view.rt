@@ -7,7 +7,7 @@ use crate::tables::word_at;
 use bs_net::Gate;
 
 /// What a pass over a fan-in looks at: a word for each net, of 64 moments, and which of these moments.
-#[derive(Drop)]
+#[derive(Clone, Copy)]
 pub struct View<'a> {
     pub scene: &'a Scene<'a>,
     pub fanin: &'a Fanin,

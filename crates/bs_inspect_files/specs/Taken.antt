@@ -9,6 +9,7 @@ use Rattle.bs_top_plan.specs.Plan.{Plan, end, ◌>>=◌, read_as}
 use Rattle.bs_scan.specs.Choice.{Chosen}
 use Rattle.bs_top_files.specs.Entry.{netlist_of, report_of, signature_of, stimulus_of}
 use Rattle.bs_top_files.specs.Looking.{netlist_looked, report_looked, signature_looked, stimulus_looked}
+use Rattle.bs_inspect_answers.specs.Entry.{trace_looked, trace_of}
 use Rattle.bs_top_files.specs.NoteCases.{NoteCase}
 use Rattle.bs_top_files.specs.Noting.{moment_noted, size_noted}
 use Rattle.bs_top_files.specs.Readings.{moment_in, size_in}
@@ -21,7 +22,7 @@ use Rattle.bs_inspect_files.specs.declared.ready.TraceFiles.{TraceFiles as CodeT
 use Rattle.bs_inspect_files.specs.declared.ready.RunFiles.{RunFiles as CodeRunFiles}
 use Rattle.bs_inspect_files.specs.declared.ready.ReportFiles.{ReportFiles as CodeReportFiles}
 
--- a netlist's parts, and a report whose trace fits them
+-- a netlist's parts, and a report whose trace fits them, or the execution of an answer as one
 pub record TraceFiles : Type 0 where
   pub raw : Parts
   pub report : Report
@@ -30,7 +31,7 @@ pub record TraceFiles : Type 0 where
 abbrev pub trace_files_of : (netlist report : List ℕ) → Plan Case TraceFiles
 trace_files_of netlist report = do
   raw ← netlist_of netlist
-  content ← report_of report
+  content ← trace_of report
   fits ← read_as files.Report (fit_in raw content)
   end record { raw = raw; report = content }
 
@@ -111,7 +112,7 @@ report_files_looked netlist signature report = do
 abbrev pub trace_files_looked : (netlist report : List ℕ) → Plan NoteCase TraceFiles
 trace_files_looked netlist report = do
   raw ← netlist_looked netlist
-  content ← report_looked report
+  content ← trace_looked report
   fits ← read_as files.Report (fit_noted report raw content)
   end record { raw = raw; report = content }
 
@@ -145,13 +146,13 @@ one_run_looked netlist stimulus run = do
 -- behind the netlist
 abbrev pub report_step : Parts → List ℕ → Plan Case TraceFiles
 report_step raw report = do
-  content ← report_of report
+  content ← trace_of report
   fits ← read_as files.Report (fit_in raw content)
   end record { raw = raw; report = content }
 
 abbrev pub report_step_looked : Parts → List ℕ → Plan NoteCase TraceFiles
 report_step_looked raw report = do
-  content ← report_looked report
+  content ← trace_looked report
   fits ← read_as files.Report (fit_noted report raw content)
   end record { raw = raw; report = content }
 

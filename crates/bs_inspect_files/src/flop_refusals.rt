@@ -1,45 +1,18 @@
 //! The words of a refusal line, for each fault of the readers (docs/FORMATS.md, "Words of `backspace_inspect`").
-ghost use Rattle.std.specs.Prelude.{◌≡◌, ◌++◌, codes, decimal, IfOk, IfErr};
+ghost use Rattle.std.specs.Prelude.{◌≡◌, IfOk};
 ghost use Rattle.bs_inspect_netlist.specs.declared.fault.OrderFault.TheVariants.{NoMemory as OrderWant};
 ghost use Rattle.bs_inspect_netlist.specs.declared.fault.PatternFault.TheVariants.{NoMemory as PatternWant};
 ghost use Rattle.bs_top_plan.specs.declared.walk.Refusal.TheVariants.{NoMemory as Want};
 ghost use Rattle.bs_top_files.specs.Refusals.{HasWords};
 ghost use Rattle.bs_inspect_files.specs.FlopWords.{order_words, pattern_words, unnamed_words};
 
-use bs_bits::{NoMemory, push_number, push_piece};
+use bs_bits::{NoMemory, push_piece};
 use bs_inspect_netlist::{OrderFault, PatternFault};
+use bs_inspect_values::{numbered, refusal};
 use bs_note_places::push_quoted;
 use bs_top_files::worded;
 use bs_top_plan::Refusal;
 use std::alloc::Global;
-
-/// The refusal with these words; out of memory stays that.
-fn refusal(words: Result<Vec<u8>, NoMemory>) -> Refusal
-    ensures why { IfOk words (λ why. HasWords why.items result) }
-    ensures want { IfErr words (λ _. result ≡ Want) }
-{
-    match words {
-        Ok(why) => Refusal::Why(why),
-        Err(_) => Refusal::NoMemory,
-    }
-}
-
-/// A word and a number.
-fn number_words(alloc: Global, word: &[u8], number: u64) -> Result<Vec<u8>, NoMemory>
-    ensures { IfOk result (λ why. why.items ≡ word.now ++ decimal number) }
-{
-    let mut why = Vec::new(alloc);
-    push_piece(&mut why, word)?;
-    push_number(&mut why, number)?;
-    Ok(why)
-}
-
-/// The refusal of a word and a number.
-fn numbered(alloc: Global, word: &[u8], number: u64) -> Refusal
-    ensures { HasWords (word.now ++ decimal number) result }
-{
-    refusal(number_words(alloc, word, number))
-}
 
 /// Why a text is no order of a scan chain.
 pub fn order_refusal(alloc: Global, fault: OrderFault) -> Refusal

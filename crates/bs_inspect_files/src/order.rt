@@ -12,8 +12,8 @@ ghost use Rattle.bs_inspect_files.specs.Readings.{form_saying, missing_text, ord
 ghost use Rattle.bs_inspect_files.specs.FlopWords.{order_words};
 
 use crate::flop_refusals::order_refusal;
-use crate::lines::line_note;
 use bs_bits::{NoMemory, push_number, push_piece};
+use bs_inspect_answers::line_note;
 use bs_inspect_netlist::{OrderFault, read_order};
 use bs_net::Netlist;
 use bs_note_files::{Message, file_note};

@@ -9,6 +9,7 @@ ghost use Rattle.bs_inspect_files.specs.Taken.{chart_step, chart_step_looked, ch
 use crate::called::called_or_diagnostic;
 use crate::fits::{fit_or_diagnostic, known_or_diagnostic};
 use crate::ready::{OneRun, ReportFiles, RunFiles, TraceFiles};
+use bs_inspect_answers::load_trace;
 use bs_net::Netlist;
 use bs_outside::Shelf;
 use bs_report::Report;
@@ -45,7 +46,7 @@ fn load_fitting<S: Shelf>(
     }
 }
 
-/// A netlist, and the report of a file whose trace fits it.
+/// A netlist, and the report of a file whose trace fits it, or the answer of a file whose execution does.
 fn load_reported<S: Shelf>(
     alloc: Global,
     shelf: &mut S,
@@ -55,7 +56,7 @@ fn load_reported<S: Shelf>(
     ensures { WalksDiagnosed CheckSays NoteSays S.held S.faults S.leads shelf.old shelf.new
         (report_step net.raw path.now) (report_step_looked net.raw path.now) trace_files_in trace_files_in result }
 {
-    match load_report(alloc, shelf, path) {
+    match load_trace(alloc, shelf, path) {
         Ok(report) => load_fitting(alloc, shelf, net, report, path),
         Err(stop) => {
             let_go(net);

@@ -237,7 +237,20 @@ fn finding_since(
     finding_by(alloc, site, desk, since, since == 0, facts)
 }
 
-/// What is found of flip-flops whose bits are the same from the first cycle on.
+/// What is found of flip-flops whose bits are the same from the first cycle on. What keeps them is noted.
+fn finding_with(
+    alloc: Global,
+    site: &Site<'_>,
+    desk: &mut Desk,
+    holds: &mut Vec<Hold>,
+    first: u32,
+    at: u32,
+) -> Result<Finding, NoMemory> {
+    let since = hold_since(alloc, site, desk, holds, first, at)?;
+    finding_since(alloc, site, desk, holds.as_slice(), since, at)
+}
+
+/// The same, with nothing noted before.
 fn finding_from(
     alloc: Global,
     site: &Site<'_>,
@@ -246,8 +259,9 @@ fn finding_from(
     at: u32,
 ) -> Result<Finding, NoMemory> {
     let mut holds = Vec::new(alloc);
-    let since = hold_since(alloc, site, desk, &mut holds, first, at)?;
-    finding_since(alloc, site, desk, holds.as_slice(), since, at)
+    let found = finding_with(alloc, site, desk, &mut holds, first, at);
+    drop(holds);
+    found
 }
 
 /// Whether nets have their bits at a cycle.
@@ -340,6 +354,14 @@ fn fanin_below(alloc: Global, scene: &Scene<'_>, nets: &[NetId]) -> Result<Fanin
     }
 }
 
+/// What is found over a fan-in, with nothing noted before.
+fn finding_in(alloc: Global, site: &Site<'_>, bits: &[Fact], at: u32) -> Result<Finding, NoMemory> {
+    let mut desk = Desk::new(alloc, site.scene.nets())?;
+    let found = finding_over(alloc, site, &mut desk, bits, at);
+    drop(desk);
+    found
+}
+
 /// What is found of some nets with these bits at a moment.
 pub(crate) fn finding_of(
     alloc: Global,
@@ -349,11 +371,12 @@ pub(crate) fn finding_of(
     at: u32,
 ) -> Result<Finding, NoMemory> {
     let fanin = fanin_below(alloc, scene, nets)?;
-    let mut desk = Desk::new(alloc, scene.nets())?;
     let site = Site {
         scene,
         fanin: &fanin,
         nets,
     };
-    finding_over(alloc, &site, &mut desk, bits, at)
+    let found = finding_in(alloc, &site, bits, at);
+    drop(fanin);
+    found
 }

@@ -17,7 +17,7 @@ pub(crate) struct Hold {
 }
 
 /// Flip-flops' outputs, and what is below that which they load.
-#[derive(Drop)]
+#[derive(Clone, Copy)]
 pub(crate) struct Site<'a> {
     pub(crate) scene: &'a Scene<'a>,
     pub(crate) fanin: &'a Fanin,

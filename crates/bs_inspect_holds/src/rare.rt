@@ -14,7 +14,7 @@ const MAX_CYCLES: u64 = 3;
 const MAX_NETS: usize = 3;
 
 /// The cycles from one to before another, at which holds keep the bits of flip-flops.
-#[derive(Drop)]
+#[derive(Clone, Copy)]
 pub(crate) struct Kept<'a> {
     pub(crate) site: &'a Site<'a>,
     pub(crate) holds: &'a [Hold],

@@ -1,5 +1,5 @@
 -- Names as a note lists them.
-use Rattle.std.specs.Prelude.{ℕ, ◌==◌, nat_lt, List, [], ◌++◌, codes, length, take, if◌then◌else◌}
+use Rattle.std.specs.Prelude.{ℕ, ◌==◌, nat_lt, List, [], ◌++◌, codes, decimal, length, take, if◌then◌else◌}
 use Rattle.std.specs.List.{flat_map}
 use Rattle.bs_note_places.specs.Quotes.{shown_line}
 use Rattle.bs_note_places.specs.declared.nearest.TheConstants.{NAMED}
@@ -10,6 +10,10 @@ use Rattle.bs_inspect_notes.specs.declared.listing.TheConstants.{LISTED}
 -- a name in quotes, as it is shown
 unfoldable pub quoted : List ℕ → List ℕ
 quoted name = codes "`" ++ (shown_line name ++ codes "`")
+
+-- a word of a command line, behind its number from 1
+unfoldable pub word_piece : ℕ → List ℕ → List ℕ
+word_piece number word = codes "word " ++ (decimal number ++ (codes ", " ++ quoted word))
 
 abbrev pub name_piece : List ℕ → List ℕ
 name_piece name = codes " " ++ quoted name

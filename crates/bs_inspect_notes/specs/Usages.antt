@@ -9,7 +9,8 @@ use Rattle.bs_bits.specs.Lines.{number_in}
 use Rattle.bs_net_names.specs.Splits.{Halves, first_split}
 use Rattle.bs_note_files.specs.Notes.{pair_text, plain_text}
 use Rattle.bs_inspect_notes.specs.declared.reason.Bounds.{Bounds}
-use Rattle.bs_inspect_notes.specs.Listings.{quoted, some_near}
+use Rattle.bs_inspect_notes.specs.declared.reason.TheConstants.{MOST_BITS, LAST_CYCLE, LAST_STEP, LONGEST, MOST_SHOWN, LAST_TIME}
+use Rattle.bs_inspect_notes.specs.Listings.{some_near, word_piece}
 
 -- a command, and how its words stand
 pub record Usage : Type 0 where
@@ -36,6 +37,8 @@ usages =
     ∷ stands (codes "unscan") (codes "usage: backspace_inspect unscan NETLIST ORDER BITS")
     ∷ stands (codes "cnf") (codes "usage: backspace_inspect cnf NETLIST SIGNATURE REPORT [--step K]")
     ∷ stands (codes "lrat") (codes "usage: backspace_inspect lrat NETLIST SIGNATURE REPORT [--step K]")
+    ∷ stands (codes "reach-cnf") (codes "usage: backspace_inspect reach-cnf NETLIST STATE ANSWER [--length J]")
+    ∷ stands (codes "reach-lrat") (codes "usage: backspace_inspect reach-lrat NETLIST STATE ANSWER [--length J]")
     ∷ stands (codes "novel") (codes "usage: backspace_inspect novel NETLIST STIMULUS RUN [--most N]")
     ∷ stands (codes "why") (codes "usage: backspace_inspect why NETLIST REPORT NAME [--at CYCLE] [--depth N] [--flops] [--all] [--csv]")
     ∷ stands (codes "help") (codes "usage: backspace_inspect help")
@@ -59,7 +62,7 @@ abbrev pub options : List (List ℕ)
 options =
     codes "--all" ∷ codes "--only" ∷ codes "--clock" ∷ codes "--scope" ∷ codes "--map" ∷ codes "--bits" ∷ codes "--csv" ∷ codes "--from" ∷ codes "--cycle"
     ∷ codes "--time" ∷ codes "--signature" ∷ codes "--step" ∷ codes "--most" ∷ codes "--at" ∷ codes "--depth"
-    ∷ codes "--flops" ∷ []
+    ∷ codes "--flops" ∷ codes "--length" ∷ []
 
 -- ---- wrong words
 
@@ -88,7 +91,7 @@ hint = codes "`backspace_inspect help` tells how the words of each command stand
 -- a word with its number from 1, and what it is not
 unfoldable pub word_text : ℕ → List ℕ → List ℕ → List ℕ → List (List ℕ) → List ℕ
 word_text number word name what known =
-    codes "word " ++ (decimal number ++ (codes ", " ++ (quoted word ++ (codes ", is no " ++ (what ++ some_near name known)))))
+    word_piece number word ++ (codes ", is no " ++ (what ++ some_near name known))
 
 -- ---- numbers out of their bounds
 
@@ -98,10 +101,12 @@ between least most = record { least = least; most = most }
 -- the bounds of the number behind an option, where it takes one
 abbrev pub bounds_of : List ℕ → Option Bounds
 bounds_of name =
-    if bytes_eq name (codes "--bits") then Some (between 1 256)
-    else (if bytes_eq name (codes "--cycle") || bytes_eq name (codes "--from") then Some (between 0 65536)
-    else (if bytes_eq name (codes "--step") || bytes_eq name (codes "--most") then Some (between 1 65536)
-    else (if bytes_eq name (codes "--time") then Some (between 0 18446744073709551615) else None)))
+    if bytes_eq name (codes "--bits") then Some (between 1 MOST_BITS)
+    else (if bytes_eq name (codes "--cycle") || bytes_eq name (codes "--from") then Some (between 0 LAST_CYCLE)
+    else (if bytes_eq name (codes "--step") then Some (between 1 LAST_STEP)
+    else (if bytes_eq name (codes "--most") then Some (between 1 MOST_SHOWN)
+    else (if bytes_eq name (codes "--length") then Some (between 1 LONGEST)
+    else (if bytes_eq name (codes "--time") then Some (between 0 LAST_TIME) else None)))))
 
 abbrev pub bounds_or : List ℕ → Bounds
 bounds_or name = unwrap_or (bounds_of name) (between 0 0)
@@ -132,10 +137,13 @@ first_bad number [] = None
 first_bad number (w ∷ ws) =
     if bytes_eq w (codes "--") then None else (if is_bad w (slice_index_or ws 0 []) then Some number else first_bad (number + 1) ws)
 
+-- what is wanted in place of a number out of its bounds
+unfoldable pub bounds_piece : Bounds → List ℕ
+bounds_piece b = codes ", wants a number in digits from " ++ (decimal b.least ++ (codes " to " ++ decimal b.most))
+
 -- a word with its number from 1, and the bounds of its option's value
 unfoldable pub bound_text : ℕ → List ℕ → Bounds → List ℕ
-bound_text number word b =
-    codes "word " ++ (decimal number ++ (codes ", " ++ (quoted word ++ (codes ", wants a number in digits from " ++ (decimal b.least ++ (codes " to " ++ decimal b.most))))))
+bound_text number word b = word_piece number word ++ bounds_piece b
 
 abbrev pub bad_text : List (List ℕ) → ℕ → List ℕ
 bad_text words number = bound_text number (slice_index_or words (number - 1) []) (bounds_or (option_name (slice_index_or words (number - 1) [])))

@@ -1,10 +1,10 @@
 //! Names as a note lists them.
 ghost use Rattle.std.specs.Prelude.{◌≡◌, ◌++◌, map, take, OnOk};
 ghost use Rattle.std.specs.List.{flat_map};
-ghost use Rattle.bs_inspect_notes.specs.Listings.{listed, listing, more_piece, name_piece, near_text, quoted, some_listing, some_near};
+ghost use Rattle.bs_inspect_notes.specs.Listings.{listed, listing, more_piece, name_piece, near_text, quoted, some_listing, some_near, word_piece};
 
 use crate::nearest::nearest;
-use bs_bits::{NoMemory, push_piece};
+use bs_bits::{NoMemory, push_number, push_piece};
 use bs_note_places::{NAMED, push_quoted};
 use std::alloc::Global;
 
@@ -19,6 +19,17 @@ pub fn push_name(text: &mut Vec<u8>, name: &[u8]) -> Result<(), NoMemory>
     push_piece(text, b"`")?;
     push_quoted(text, name)?;
     push_piece(text, b"`")
+}
+
+/// Appends a word of a command line, behind its number from 1.
+#[tactic(auto, unfolding(crate::specs::Listings::word_piece))]
+pub fn push_word(text: &mut Vec<u8>, number: u64, word: &[u8]) -> Result<(), NoMemory>
+    ensures { OnOk result (text.new.items ≡ text.old.items ++ word_piece number word.now) }
+{
+    push_piece(text, b"word ")?;
+    push_number(text, number)?;
+    push_piece(text, b", ")?;
+    push_name(text, word)
 }
 
 /// Appends a space and a name in quotes.

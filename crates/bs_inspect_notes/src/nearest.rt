@@ -1,11 +1,11 @@
 //! How far two names are apart, and which of some names are nearest to one.
 ghost use Rattle.std.specs.Prelude.{◌≡◌, ◌++◌, map, min, fold, IfOk, OnOk};
-ghost use Rattle.std.specs.Str.{bytes_eq};
 ghost use Rattle.bs_inspect_notes.specs.Nearest.{at_distance, bases_apart, by_bits, ends_behind, far, is_separator, kept, least, nearest};
 
 use bs_bits::NoMemory;
 use bs_net_names::{key_parts, plain, same_bit};
 use bs_note_places::apart;
+use bs_vcd_header::is_text;
 use std::alloc::Global;
 
 /// Whether a byte parts the names of a path.
@@ -13,13 +13,6 @@ fn is_separator(byte: u8) -> bool
     ensures { result ≡ is_separator byte }
 {
     byte == b'.' || byte == b'/'
-}
-
-/// Whether two texts are the same.
-pub fn is_text(text: &[u8], other: &[u8]) -> bool
-    ensures { result ≡ bytes_eq text.now other.now }
-{
-    text == other
 }
 
 /// Whether a text ends with a separator and then this name.

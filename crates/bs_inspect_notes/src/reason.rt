@@ -1,14 +1,15 @@
 //! Why the words behind a command do not stand as it takes them: an option is missing, or a number is none or out of its bounds.
-ghost use Rattle.std.specs.Prelude.{◌≡◌, ◌<◌, ◌≤◌, [], drop, length, map, option_map, slice_index_or, string_bytes, IfOk, IfSome};
+ghost use Rattle.std.specs.Prelude.{◌≡◌, ◌<◌, ◌≤◌, ◌++◌, [], drop, length, map, option_map, slice_index_or, string_bytes, IfOk, IfSome, OnOk};
 ghost use Rattle.std.specs.List.{list_any};
 ghost use Rattle.std.specs.Str.{bytes_eq};
 ghost use Rattle.bs_bits.specs.Lines.{number_in};
-ghost use Rattle.bs_inspect_notes.specs.Usages.{bad_text, between, bound_text, bounds_of, bounds_or, first_bad, gives, is_bad, is_between, lack_if, lack_of, number_text, option_name, reason_of, stand_sentence, value_of};
+ghost use Rattle.bs_inspect_notes.specs.Usages.{bad_text, bound_text, bounds_of, bounds_or, bounds_piece, first_bad, gives, is_bad, is_between, lack_if, lack_of, number_text, option_name, reason_of, value_of};
 
-use crate::listing::push_name;
+use crate::listing::push_word;
 use crate::usage::option_name;
 use bs_bits::{NoMemory, push_number, push_piece, read_number};
 use bs_net_names::first_split;
+use bs_vcd_header::is_text;
 use std::alloc::Global;
 
 /// The least and the greatest number behind an option.
@@ -18,16 +19,27 @@ pub struct Bounds {
     pub most: u64,
 }
 
-/// Whether two names are the same.
-fn is_name(name: &[u8], other: &[u8]) -> bool
-    ensures { result ≡ bytes_eq name.now other.now }
-{
-    name == other
-}
+/// The most bits of a signature.
+pub const MOST_BITS: u64 = 256;
+
+/// The last cycle of the longest run.
+pub const LAST_CYCLE: u64 = 65_536;
+
+/// The last step of the longest report.
+pub const LAST_STEP: u64 = 65_536;
+
+/// The most that an answer shows of what there is.
+pub const MOST_SHOWN: u64 = 65_536;
+
+/// The most cycles of an answer of `reach`.
+pub const LONGEST: u64 = 1_024;
+
+/// The last time of a simulation.
+pub const LAST_TIME: u64 = 18_446_744_073_709_551_615;
 
 /// The word at a place, and an empty one behind the last.
 #[tactic(auto, using(crate::proofs::ReasonLemmas::word_there, crate::proofs::ReasonLemmas::word_past))]
-fn word_or(words: &[String], at: usize) -> &[u8]
+pub fn word_or(words: &[String], at: usize) -> &[u8]
     ensures { result.now ≡ slice_index_or (map string_bytes words.now) at [] }
 {
     if at < words.len() {
@@ -39,28 +51,45 @@ fn word_or(words: &[String], at: usize) -> &[u8]
 
 // ---- a number
 
-/// Two bounds.
-fn between(least: u64, most: u64) -> Bounds
-    ensures { result ≡ between least most }
-{
-    Bounds { least, most }
-}
-
 /// The bounds of the number behind an option, where it takes one.
 fn bounds_of(name: &[u8]) -> Option<Bounds>
     ensures { result ≡ bounds_of name.now }
 {
-    if is_name(name, b"--bits") {
-        return Some(between(1, 256));
+    if is_text(name, b"--bits") {
+        return Some(Bounds {
+            least: 1,
+            most: MOST_BITS,
+        });
     }
-    if is_name(name, b"--cycle") || is_name(name, b"--from") {
-        return Some(between(0, 65_536));
+    if is_text(name, b"--cycle") || is_text(name, b"--from") {
+        return Some(Bounds {
+            least: 0,
+            most: LAST_CYCLE,
+        });
     }
-    if is_name(name, b"--step") || is_name(name, b"--most") {
-        return Some(between(1, 65_536));
+    if is_text(name, b"--step") {
+        return Some(Bounds {
+            least: 1,
+            most: LAST_STEP,
+        });
     }
-    if is_name(name, b"--time") {
-        return Some(between(0, 18_446_744_073_709_551_615));
+    if is_text(name, b"--most") {
+        return Some(Bounds {
+            least: 1,
+            most: MOST_SHOWN,
+        });
+    }
+    if is_text(name, b"--length") {
+        return Some(Bounds {
+            least: 1,
+            most: LONGEST,
+        });
+    }
+    if is_text(name, b"--time") {
+        return Some(Bounds {
+            least: 0,
+            most: LAST_TIME,
+        });
     }
     None
 }
@@ -71,7 +100,7 @@ fn bounds_or(name: &[u8]) -> Bounds
 {
     match bounds_of(name) {
         Some(bounds) => bounds,
-        None => between(0, 0),
+        None => Bounds { least: 0, most: 0 },
     }
 }
 
@@ -124,6 +153,17 @@ fn first_bad(words: &[String]) -> Option<usize>
     None
 }
 
+/// Appends what is wanted in place of a number out of its bounds.
+#[tactic(auto, unfolding(crate::specs::Usages::bounds_piece))]
+fn push_bounds(said: &mut Vec<u8>, bounds: Bounds) -> Result<(), NoMemory>
+    ensures { OnOk result (said.new.items ≡ said.old.items ++ bounds_piece bounds) }
+{
+    push_piece(said, b", wants a number in digits from ")?;
+    push_number(said, bounds.least)?;
+    push_piece(said, b" to ")?;
+    push_number(said, bounds.most)
+}
+
 /// What is said of a word with its number, whose option takes a number in these bounds.
 #[tactic(auto, unfolding(crate::specs::Usages::bound_text))]
 fn bound_sentence(
@@ -134,14 +174,9 @@ fn bound_sentence(
 ) -> Result<Vec<u8>, NoMemory>
     ensures { IfOk result (λ said. said.items ≡ bound_text number word.now bounds) }
 {
-    let mut said = b"word ".to_vec(alloc)?;
-    push_number(&mut said, number)?;
-    push_piece(&mut said, b", ")?;
-    push_name(&mut said, word)?;
-    push_piece(&mut said, b", wants a number in digits from ")?;
-    push_number(&mut said, bounds.least)?;
-    push_piece(&mut said, b" to ")?;
-    push_number(&mut said, bounds.most)?;
+    let mut said = Vec::new(alloc);
+    push_word(&mut said, number, word)?;
+    push_bounds(&mut said, bounds)?;
     Ok(said)
 }
 
@@ -164,7 +199,7 @@ fn any_gives(words: &[String], option: &[u8]) -> bool
 {
     words
         .iter()
-        .any(|word| is_name(option_name(word.as_bytes()), option))
+        .any(|word| is_text(option_name(word.as_bytes()), option))
 }
 
 /// Whether some word gives an option with this name.
@@ -186,19 +221,19 @@ fn lack_if(given: bool, sentence: &'static str) -> Option<&'static str>
 fn lack_of(command: &[u8], words: &[String]) -> Option<&'static str>
     ensures { option_map (λ s. s.now) result ≡ lack_of command.now (map string_bytes words.now) }
 {
-    if is_name(command, b"stimulus") {
+    if is_text(command, b"stimulus") {
         return lack_if(
             gives(words, b"--clock"),
             "`--clock NAME` is missing: the name that the clock has in the simulation",
         );
     }
-    if is_name(command, b"signature") {
+    if is_text(command, b"signature") {
         return lack_if(
             gives(words, b"--bits"),
             "`--bits N` is missing: how many bits the signature has",
         );
     }
-    if is_name(command, b"dump") {
+    if is_text(command, b"dump") {
         let cycle = gives(words, b"--cycle");
         let time = gives(words, b"--time");
         return lack_if(
@@ -211,14 +246,11 @@ fn lack_of(command: &[u8], words: &[String]) -> Option<&'static str>
 
 // ---- the reason
 
-/// What is said where nothing else is.
-fn stand_sentence(alloc: Global) -> Result<Vec<u8>, NoMemory>
-    ensures { IfOk result (λ said. said.items ≡ stand_sentence) }
+/// A copy of a text.
+fn copy_of(alloc: Global, text: &str) -> Result<Vec<u8>, NoMemory>
+    ensures { IfOk result (λ said. said.items ≡ text.now) }
 {
-    let said =
-        b"the words do not stand as this command takes them: its files in this order, and each option that it takes as often as it may stand; --only takes every word up to the next option".to_vec(
-            alloc,
-        )?;
+    let said = text.as_bytes().to_vec(alloc)?;
     Ok(said)
 }
 
@@ -228,16 +260,11 @@ fn number_sentence(alloc: Global, words: &[String]) -> Result<Vec<u8>, NoMemory>
 {
     match first_bad(words) {
         Some(number) => bad_sentence(alloc, words, number),
-        None => stand_sentence(alloc),
+        None => copy_of(
+            alloc,
+            "the words do not stand as this command takes them: its files in this order, and each option that it takes as often as it may stand; --only takes every word up to the next option",
+        ),
     }
-}
-
-/// A copy of a text.
-fn copy_of(alloc: Global, text: &str) -> Result<Vec<u8>, NoMemory>
-    ensures { IfOk result (λ said. said.items ≡ text.now) }
-{
-    let said = text.as_bytes().to_vec(alloc)?;
-    Ok(said)
 }
 
 /// Why the words of a command, which is the first, do not stand as it takes them.

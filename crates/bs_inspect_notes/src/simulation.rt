@@ -1,12 +1,12 @@
 //! Notes on the values of a simulator.
-ghost use Rattle.std.specs.Prelude.{◌≡◌, ◌<◌, ◌++◌, length, map, not, option_map, IfOk, IfSome, OnOk, codes, decimal};
-ghost use Rattle.std.specs.List.{list_any, position};
-ghost use Rattle.std.specs.Str.{bytes_eq};
+ghost use Rattle.std.specs.Prelude.{◌≡◌, ◌<◌, ◌++◌, length, map, not, option_map, IfOk, IfSome, OnOk, decimal};
+ghost use Rattle.std.specs.List.{position};
 ghost use Rattle.bs_vcd_header.specs.Tokens.{is_white};
-ghost use Rattle.bs_inspect_notes.specs.Simulations.{any_sentence, begins, clock_piece, clock_sentence, clock_text, cycles_text, data_clock_text, data_sentence, early_text, ended_text, foreign, has_scope, input_hint, input_sentence, input_text, late_hint, late_sentence, late_text, own_sentence, path_sentence, scope_sentence, scoped_sentence, short_text, subject_piece, time_text, unknown_hint, unknown_sentence, unknown_text};
+ghost use Rattle.bs_inspect_notes.specs.Simulations.{any_sentence, begins, clock_piece, clock_sentence, clock_text, cycles_text, data_clock_text, data_sentence, early_text, ended_text, foreign, has_scope, input_hint, input_sentence, input_text, late_sentence, late_text, own_sentence, path_sentence, scope_sentence, scoped_sentence, short_text, subject_piece, time_text, unknown_hint, unknown_sentence, unknown_text};
 
 use crate::listing::{push_name, push_some_listing, push_some_near};
 use crate::name::{Subject, subject_word};
+use crate::usage::is_one_of;
 use bs_bits::{NoMemory, push_number, push_piece};
 use bs_note_files::{file_note, pair_note};
 use std::alloc::Global;
@@ -81,19 +81,12 @@ pub fn ended_note(alloc: Global, path: &str) -> Result<Vec<u8>, NoMemory>
 
 // ---- the clock
 
-/// Whether a path is one of these.
-fn has_path(path: &[u8], paths: &[&[u8]]) -> bool
-    ensures { result ≡ list_any (λ p. bytes_eq p.now path.now) paths.now }
-{
-    paths.iter().any(|p| *p == path)
-}
-
 /// Whether there is a scope with a path.
 #[tactic(auto, using(crate::proofs::NearLemmas::any_path))]
 fn has_scope(path: &[u8], paths: &[&[u8]]) -> bool
     ensures { result ≡ has_scope path.now (map (λ p. p.now) paths.now) }
 {
-    has_path(path, paths)
+    is_one_of(path, paths)
 }
 
 /// Appends that none is the clock.
@@ -259,12 +252,12 @@ pub fn input_note(
     Ok(note)
 }
 
-/// Appends that a bit is not known before an edge.
-fn push_edge(said: &mut Vec<u8>, time: u64) -> Result<(), NoMemory>
-    ensures { OnOk result (said.new.items ≡ said.old.items ++ (codes " is neither 0 nor 1 before the rising edge at time " ++ decimal time)) }
+/// Appends words and a number.
+fn push_numbered(said: &mut Vec<u8>, words: &[u8], number: u64) -> Result<(), NoMemory>
+    ensures { OnOk result (said.new.items ≡ said.old.items ++ (words.now ++ decimal number)) }
 {
-    push_piece(said, b" is neither 0 nor 1 before the rising edge at time ")?;
-    push_number(said, time)?;
+    push_piece(said, words)?;
+    push_number(said, number)?;
     Ok(())
 }
 
@@ -280,7 +273,11 @@ fn unknown_sentence(
 {
     let mut said = b"the ".to_vec(alloc)?;
     push_subject(&mut said, subject, key)?;
-    push_edge(&mut said, time)?;
+    push_numbered(
+        &mut said,
+        b" is neither 0 nor 1 before the rising edge at time ",
+        time,
+    )?;
     Ok(said)
 }
 
@@ -382,15 +379,6 @@ pub fn cycles_note(alloc: Global, file: &str) -> Result<Vec<u8>, NoMemory>
 
 // ---- values that begin late
 
-/// Appends that values begin at a time.
-fn push_begin(said: &mut Vec<u8>, time: u64) -> Result<(), NoMemory>
-    ensures { OnOk result (said.new.items ≡ said.old.items ++ (codes " begin at time " ++ decimal time)) }
-{
-    push_piece(said, b" begin at time ")?;
-    push_number(said, time)?;
-    Ok(())
-}
-
 /// What is said of a run whose values begin late.
 #[tactic(auto, unfolding(crate::specs::Simulations::late_sentence))]
 fn late_sentence(alloc: Global, name: &[u8], time: u64) -> Result<Vec<u8>, NoMemory>
@@ -398,15 +386,8 @@ fn late_sentence(alloc: Global, name: &[u8], time: u64) -> Result<Vec<u8>, NoMem
 {
     let mut said = b"the values of the run ".to_vec(alloc)?;
     push_name(&mut said, name)?;
-    push_begin(&mut said, time)?;
+    push_numbered(&mut said, b" begin at time ", time)?;
     Ok(said)
-}
-
-/// What to do about values that begin late.
-fn late_hint() -> &'static [u8]
-    ensures { result.now ≡ late_hint }
-{
-    b"edges before that are not in them, and a run begins at reset: begin to dump at time 0, or be sure that the clock did not rise before"
 }
 
 /// A note on a run with this name whose values begin at a time behind 0.
@@ -414,7 +395,11 @@ pub fn late_note(alloc: Global, name: &[u8], time: u64) -> Result<Vec<u8>, NoMem
     ensures { IfOk result (λ note. note.items ≡ late_text name.now time) }
 {
     let said = late_sentence(alloc, name, time)?;
-    let note = pair_note(alloc, &said, late_hint())?;
+    let note = pair_note(
+        alloc,
+        &said,
+        b"edges before that are not in them, and a run begins at reset: begin to dump at time 0, or be sure that the clock did not rise before",
+    )?;
     Ok(note)
 }
 

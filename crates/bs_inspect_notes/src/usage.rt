@@ -7,15 +7,15 @@ ghost use Rattle.bs_note_files.specs.Notes.{plain_text};
 ghost use Rattle.bs_inspect_notes.specs.Usages.{behind_text, command_text, commands, first_wrong, hint, is_wrong, line_among, line_in, option_name, options, reason_of};
 ghost use Rattle.bs_inspect_notes.specs.Usages.{unread_text, usages, word_text, words_text};
 
-use crate::listing::{push_name, push_some_near};
-use crate::reason::reason_sentence;
-use bs_bits::{NoMemory, push_line, push_number, push_piece};
+use crate::listing::{push_some_near, push_word};
+use crate::reason::{reason_sentence, word_or};
+use bs_bits::{NoMemory, push_line, push_piece};
 use bs_net_names::first_split;
 use bs_note_files::pair_note;
 use std::alloc::Global;
 
 /// The commands, and how the words of each stand.
-const USAGES: [(&str, &str); 18] = [
+const USAGES: [(&str, &str); 20] = [
     ("flops", "usage: backspace_inspect flops NETLIST"),
     ("keys", "usage: backspace_inspect keys NETLIST NAME .."),
     ("inputs", "usage: backspace_inspect inputs NETLIST"),
@@ -58,6 +58,14 @@ const USAGES: [(&str, &str); 18] = [
         "usage: backspace_inspect lrat NETLIST SIGNATURE REPORT [--step K]",
     ),
     (
+        "reach-cnf",
+        "usage: backspace_inspect reach-cnf NETLIST STATE ANSWER [--length J]",
+    ),
+    (
+        "reach-lrat",
+        "usage: backspace_inspect reach-lrat NETLIST STATE ANSWER [--length J]",
+    ),
+    (
         "novel",
         "usage: backspace_inspect novel NETLIST STIMULUS RUN [--most N]",
     ),
@@ -70,7 +78,7 @@ const USAGES: [(&str, &str); 18] = [
 ];
 
 /// The options of all commands.
-const OPTIONS: [&[u8]; 16] = [
+const OPTIONS: [&[u8]; 17] = [
     b"--all",
     b"--only",
     b"--clock",
@@ -87,10 +95,11 @@ const OPTIONS: [&[u8]; 16] = [
     b"--at",
     b"--depth",
     b"--flops",
+    b"--length",
 ];
 
 /// The commands.
-const COMMANDS: [&[u8]; 18] = [
+const COMMANDS: [&[u8]; 20] = [
     b"flops",
     b"keys",
     b"inputs",
@@ -105,6 +114,8 @@ const COMMANDS: [&[u8]; 18] = [
     b"unscan",
     b"cnf",
     b"lrat",
+    b"reach-cnf",
+    b"reach-lrat",
     b"novel",
     b"why",
     b"help",
@@ -176,7 +187,7 @@ pub fn option_name(word: &[u8]) -> &[u8]
 }
 
 /// Whether a name is one of these.
-fn is_one_of(name: &[u8], names: &[&[u8]]) -> bool
+pub fn is_one_of(name: &[u8], names: &[&[u8]]) -> bool
     ensures { result ≡ list_any (λ o. bytes_eq o.now name.now) names.now }
 {
     names.iter().any(|other| *other == name)
@@ -199,14 +210,6 @@ fn is_wrong(word: &[u8]) -> bool
     (dashed && named) && !known
 }
 
-/// The word at a place.
-fn word_at(words: &[String], at: usize) -> &[u8]
-    requires { at < length words.now }
-    ensures { result.now ≡ slice_index_or (map string_bytes words.now) at [] }
-{
-    words[at].as_bytes()
-}
-
 /// The number, from 1, of the first word behind the command that begins as an option and is none.
 #[tactic(auto, using(crate::proofs::WordLemmas::wrong_stop, crate::proofs::WordLemmas::wrong_found, crate::proofs::WordLemmas::wrong_next, crate::proofs::WordLemmas::wrong_none))]
 fn first_wrong(words: &[String]) -> Option<usize>
@@ -214,7 +217,7 @@ fn first_wrong(words: &[String]) -> Option<usize>
     ensures there { IfSome result (λ number. (0 < number) × (number ≤ length words.now)) }
 {
     'words: for at in 1..words.len() {
-        let word = word_at(words, at);
+        let word = word_or(words, at);
         if word == b"--".as_slice() {
             return None;
         }
@@ -237,10 +240,8 @@ fn word_sentence(
 ) -> Result<Vec<u8>, NoMemory>
     ensures { IfOk result (λ said. said.items ≡ word_text number word.now name.now what.now (map (λ n. n.now) known.now)) }
 {
-    let mut said = b"word ".to_vec(alloc)?;
-    push_number(&mut said, number)?;
-    push_piece(&mut said, b", ")?;
-    push_name(&mut said, word)?;
+    let mut said = Vec::new(alloc);
+    push_word(&mut said, number, word)?;
     push_piece(&mut said, b", is no ")?;
     push_piece(&mut said, what.as_bytes())?;
     push_some_near(alloc, &mut said, name, known)?;
@@ -276,7 +277,7 @@ fn behind_note(alloc: Global, words: &[String], line: &str) -> Result<Vec<u8>, N
     ensures { IfOk result (λ note. note.items ≡ behind_text (map string_bytes words.now) line.now (first_wrong 2 (drop 1 (map string_bytes words.now)))) }
 {
     match first_wrong(words) {
-        Some(number) => option_note(alloc, number, word_at(words, number - 1), line),
+        Some(number) => option_note(alloc, number, word_or(words, number - 1), line),
         None => reason_note(alloc, words, line),
     }
 }
@@ -316,7 +317,7 @@ pub fn words_note(alloc: Global, words: &[String]) -> Result<Vec<u8>, NoMemory>
             b"`backspace_inspect help` tells how the words of each command stand",
         );
     }
-    command_note(alloc, word_at(words, 0), words)
+    command_note(alloc, word_or(words, 0), words)
 }
 
 /// A note on words that are no text.

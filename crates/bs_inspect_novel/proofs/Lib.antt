@@ -1,10 +1,8 @@
-pub mod KeyLemmas
 pub mod PlaceLemmas
 pub mod MaskLemmas
 pub mod LookLemmas
 pub mod ValueLemmas
 pub mod SetLemmas
 pub mod OwnLemmas
-pub mod NoveltyLemmas
 pub mod TextLemmas
 pub mod NovelLemmas

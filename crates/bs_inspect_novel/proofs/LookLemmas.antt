@@ -15,7 +15,7 @@ use Rattle.bs_stim.specs.Packing.{bit_in}
 use Rattle.bs_lanes_planes.specs.Planes.{bit_place, lane}
 use Rattle.bs_scan.specs.Moments.{is_listed}
 use Rattle.bs_break.specs.Masks.{has, IsCut}
-use Rattle.bs_inspect_novel.specs.Values.{state_bit, value_in}
+use Rattle.bs_inspect_novelty.specs.Values.{state_bit, value_in}
 use Rattle.bs_inspect_novel.specs.Shown.{Agrees, Misses, words_value}
 
 -- ---- a word

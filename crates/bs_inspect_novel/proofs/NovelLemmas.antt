@@ -14,9 +14,10 @@ use Rattle.bs_net.specs.Parts.{Parts}
 use Rattle.bs_net.specs.Netlist.{circuit_of}
 use Rattle.bs_stim.specs.Runs.{Recorded, Stimulus, inputs_of}
 use Rattle.bs_scan.specs.Moments.{Run}
-use Rattle.bs_inspect_novel.specs.Keys.{flop_keys}
-use Rattle.bs_inspect_novel.specs.declared.novelty.Novelty.{Novelty}
-use Rattle.bs_inspect_novel.specs.Novel.{AreNovelties, IsNovelty, TellsNovel, TellsOf, TellsSignals, alone_text, novelty_cmp, novelties_text, one_or_none, signal_at}
+use Rattle.bs_inspect_report.specs.Keys.{flop_keys}
+use Rattle.bs_inspect_novelty.specs.declared.novelty.Novelty.{Novelty}
+use Rattle.bs_inspect_novelty.specs.Novelties.{AreNovelties, IsNovelty, novelty_cmp, one_or_none, signal_at}
+use Rattle.bs_inspect_novel.specs.Novel.{TellsNovel, TellsOf, TellsSignals, alone_text, novelties_text}
 use Rattle.bs_inspect_novel.specs.Shown.{IsShowable}
 
 -- ---- novelties are shown

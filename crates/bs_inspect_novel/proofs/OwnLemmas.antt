@@ -11,7 +11,7 @@ use Rattle.bs_stim.specs.Packing.{bit_in}
 use Rattle.bs_lanes_planes.specs.Planes.{bit_place, lane}
 use Rattle.bs_scan.specs.Moments.{Run, run_of, state_at}
 use Rattle.bs_chip.specs.Lockstep.{Passing, ShowsCycle, wide_of}
-use Rattle.bs_inspect_novel.specs.Shown.{AreOwn}
+use Rattle.bs_inspect_novelty.specs.Known.{AreOwn}
 
 -- ---- a lane
 

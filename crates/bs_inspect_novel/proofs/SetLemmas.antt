@@ -13,10 +13,12 @@ use Rattle.bs_lanes_planes.specs.Planes.{bit_place, lane}
 use Rattle.bs_break.specs.Masks.{has}
 use Rattle.bs_scan.specs.Moments.{IsMoment, Moment, Run, is_listed, moment, run_of, state_at}
 use Rattle.bs_chip.specs.Lockstep.{IsLongest, Passing, ShowsCycle, wide_of}
-use Rattle.bs_inspect_novel.specs.declared.values.TheConstants.{MAX_VALUES}
-use Rattle.bs_inspect_novel.specs.Values.{AreElsewhere, value_at}
-use Rattle.bs_inspect_novel.specs.Shown.{AreEmpty, AreSets, AreWhole, Grows, IsColumn, IsFull, IsMask, IsSet, IsWhole, ShowsWords, all_places, is_viewed, lane_run, words_value}
+use Rattle.bs_inspect_novelty.specs.declared.novelty.TheConstants.{MAX_VALUES}
+use Rattle.bs_inspect_novelty.specs.Values.{AreElsewhere, value_at}
+use Rattle.bs_inspect_novel.specs.Shown.{AreEmpty, AreSets, Grows, IsColumn, IsFull, IsMask, IsSet, ShowsWords, is_viewed, lane_run, words_value}
+use Rattle.bs_inspect_novelty.specs.Known.{AreWhole, IsWhole, all_places}
 use Rattle.bs_inspect_novel.proofs.ValueLemmas.{words_are}
+use Rattle.bs_inspect_novelty.proofs.NoveltyLemmas.{places_here}
 
 -- ---- one set
 
@@ -102,11 +104,6 @@ pub signal_there : (c : Circuit) (runs : List Run) (number cycle upto more done 
     AreSets c runs number (all_places signals) cycle done upto more sets → i < length sets → i < length signals
 signal_there c runs number cycle upto more done i signals sets are lt =
     omega (arith, lt, are.long, length-map signals (λ (x : CodeSignal). x.places))
-
-pub places_here : (signals : List CodeSignal) (i : ℕ) (s : CodeSignal) (places : List ℕ) → i < length signals → s ≡ get_or signals i s →
-    places ≡ s.places → places ≡ get_or (all_places signals) i []
-places_here signals i s places lt at e =
-    e ∙ (ap (λ (x : CodeSignal). x.places) at ∙ sym (get_or-map (λ (x : CodeSignal). x.places) signals i s [] lt))
 
 pub sets_here : (c : Circuit) (runs : List Run) (number cycle upto more i : ℕ) (signals : List CodeSignal) (s : CodeSignal) (places : List ℕ)
     (sets : List (List (List Bool))) (set : List (List Bool)) → i < length sets → s ≡ get_or signals i s → places ≡ s.places →

@@ -11,16 +11,14 @@ use Rattle.bs_net_names.specs.Rtl.{rtl_text}
 use Rattle.bs_net_names.specs.Signals.{Signal, signal_in}
 use Rattle.bs_net_names.specs.Values.{value_text}
 use Rattle.bs_net_names.specs.declared.signal.Signal.{Signal as CodeSignal}
-use Rattle.bs_inspect_novel.specs.Values.{state_bit, value_in}
+use Rattle.bs_inspect_novelty.specs.Values.{state_bit, value_in, value_at}
 use Rattle.bs_scan.specs.Moments.{Run}
-use Rattle.bs_inspect_novel.specs.Novel.{no_signal, nothing_text, novelties_text, novelty_line, signal_at}
-use Rattle.bs_inspect_novel.specs.Values.{value_at}
-use Rattle.bs_inspect_novel.specs.Shown.{AreOwn, IsShowable, state_line}
-use Rattle.bs_inspect_novel.specs.declared.novelty.Novelty.{Novelty}
-use Rattle.bs_inspect_novel.proofs.NoveltyLemmas.{own_there, own_value}
-
-pub value_few : (state : List Bool) (places : List ℕ) (bits : List Bool) → bits ≡ value_in state places → length places < 2 ^ 32 → length bits < 2 ^ 32
-value_few state places bits e few = omega (arith, few, ap length e, length-map places (state_bit state))
+use Rattle.bs_inspect_novelty.specs.Novelties.{no_signal, signal_at}
+use Rattle.bs_inspect_novel.specs.Novel.{nothing_text, novelties_text, novelty_line}
+use Rattle.bs_inspect_novelty.specs.Known.{AreOwn}
+use Rattle.bs_inspect_novel.specs.Shown.{IsShowable, state_line}
+use Rattle.bs_inspect_novelty.specs.declared.novelty.Novelty.{Novelty}
+use Rattle.bs_inspect_novelty.proofs.NoveltyLemmas.{own_there, own_value}
 
 -- the signal at a place
 pub signal_is : (signals : List CodeSignal) (i : ℕ) (s : CodeSignal) → i < length signals → s ≡ get_or signals i s →

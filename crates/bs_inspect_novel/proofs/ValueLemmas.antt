@@ -14,8 +14,8 @@ use Rattle.bs_stim.specs.Packing.{bit_in}
 use Rattle.bs_lanes_planes.specs.Planes.{bit_place, lane}
 use Rattle.bs_break.specs.Masks.{has}
 use Rattle.bs_scan.specs.Moments.{IsMoment, Moment, Run, is_listed, moment, run_of, state_at}
-use Rattle.bs_inspect_novel.specs.declared.values.TheConstants.{MAX_VALUES}
-use Rattle.bs_inspect_novel.specs.Values.{AreElsewhere, EachOnce, IsElsewhere, state_bit, value_at, value_in}
+use Rattle.bs_inspect_novelty.specs.declared.novelty.TheConstants.{MAX_VALUES}
+use Rattle.bs_inspect_novelty.specs.Values.{AreElsewhere, EachOnce, IsElsewhere, state_bit, value_at, value_in}
 use Rattle.bs_inspect_novel.specs.Shown.{AllListed, Grows, IsFull, IsMask, Misses, ShowsWords, is_viewed, lane_run, words_value}
 use Rattle.bs_inspect_novel.proofs.LookLemmas.{bit_beyond, bit_shown}
 
@@ -27,17 +27,6 @@ bit_there words place k b lt e = e ∙ sym (bit_shown words place k lt)
 
 pub bit_past : (words : List ℕ) (place k : ℕ) → length words ≤ place → false ≡ state_bit (lane 1 (length words) words k) place
 bit_past words place k le = sym (bit_beyond words place k le)
-
--- one bit more
-pub bits_more : (state : List Bool) (places : List ℕ) (i d : ℕ) (own : List Bool) → i < length places → own ≡ value_in state (take i places) →
-    own ++ state_bit state (get_or places i d) ∷ [] ≡ value_in state (take (i + 1) places)
-bits_more state places i d own lt e =
-    ap (λ (bs : List Bool). bs ++ state_bit state (get_or places i d) ∷ []) e
-    ∙ (sym (map-append (state_bit state) (take i places) (get_or places i d ∷ [])) ∙ ap (value_in state) (sym (take_more places i d lt)))
-
-pub value_more : (state : List Bool) (places : List ℕ) (i d : ℕ) (bits after : List Bool) (b : Bool) → i < length places →
-    bits ≡ value_in state (take i places) → b ≡ state_bit state (get_or places i d) → after ≡ bits ++ b ∷ [] → after ≡ value_in state (take (i + 1) places)
-value_more state places i d bits after b lt e is goes = goes ∙ (ap (λ (x : Bool). bits ++ x ∷ []) is ∙ bits_more state places i d bits lt e)
 
 -- ---- what a lane that is looked at shows
 

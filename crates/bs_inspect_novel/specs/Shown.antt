@@ -7,14 +7,15 @@ use Rattle.bs_net.specs.Circuit.{Circuit}
 use Rattle.bs_net_names.specs.Rtl.{rtl_text}
 use Rattle.bs_net_names.specs.Signals.{Signal}
 use Rattle.bs_net_names.specs.Values.{value_text}
+use Rattle.bs_inspect_report.specs.Signal.{signal_bits}
 use Rattle.bs_net_names.specs.declared.signal.Signal.{Signal as CodeSignal}
 use Rattle.bs_stim.specs.Runs.{Stimulus, inputs_of, run_at}
 use Rattle.bs_lanes_planes.specs.Planes.{lane}
 use Rattle.bs_break.specs.Masks.{has}
 use Rattle.bs_scan.specs.Moments.{IsMoment, Moment, Run, is_listed, moment, run_of, state_at}
-use Rattle.bs_inspect_novel.specs.Values.{AreElsewhere, value_at, value_in}
-use Rattle.bs_inspect_novel.specs.declared.novelty.Novelty.{Novelty}
-use Rattle.bs_inspect_novel.specs.declared.values.TheConstants.{MAX_VALUES}
+use Rattle.bs_inspect_novelty.specs.Values.{AreElsewhere, value_at, value_in}
+use Rattle.bs_inspect_novelty.specs.declared.novelty.Novelty.{Novelty}
+use Rattle.bs_inspect_novelty.specs.declared.novelty.TheConstants.{MAX_VALUES}
 
 -- ---- lanes
 
@@ -70,10 +71,6 @@ pub record IsSet (c : Circuit) (runs : List Run) (number : ℕ) (places : List �
   pub all : length values ≤ MAX_VALUES → (m : Moment) → IsMoment runs m → (m.cycle < cycle) ⊎ ((m.cycle ≡ cycle) × (m.run ≤ upto)) → m.run ≢ number →
       is_listed values (value_at c runs places m.run m.cycle) ≡ true
 
--- the places of each signal
-abbrev pub all_places : List CodeSignal → List (List ℕ)
-all_places signals = map (λ s. s.places) signals
-
 -- the sets of all signals: with the values of the first runs at a cycle, and those of the first signals with the values of more runs
 pub record AreSets (c : Circuit) (runs : List Run) (number : ℕ) (places : List (List ℕ)) (cycle done upto more : ℕ) (sets : List (List (List Bool))) : Type 0 where
   pub long : length sets ≡ length places
@@ -86,27 +83,6 @@ pub record AreEmpty (sets : List (List (List Bool))) : Type 0 where
 
 -- ---- the run itself
 
--- its states, from reset to its end
-pub record AreOwn (c : Circuit) (runs : List Run) (number : ℕ) (own : List (List Bool)) : Type 0 where
-  pub from_one : 1 ≤ number
-  pub there : number ≤ length runs
-  pub long : length own ≡ length (run_of runs number) + 1
-  pub each : (t : ℕ) → t < length own → slice_index_or own t [] ≡ state_at c (run_of runs number) t
-
--- the first cycle whose value is none of these
-pub record IsFirstNew (own : List (List Bool)) (places : List ℕ) (values : List (List Bool)) (cycle : ℕ) : Type 0 where
-  pub there : cycle < length own
-  pub new : is_listed values (value_in (slice_index_or own cycle []) places) ≡ false
-  pub before : (t : ℕ) → t < cycle → is_listed values (value_in (slice_index_or own t []) places) ≡ true
-
--- there is none
-pub record NoneNew (own : List (List Bool)) (places : List ℕ) (values : List (List Bool)) (cycles : ℕ) : Type 0 where
-  pub each : (t : ℕ) → t < cycles → is_listed values (value_in (slice_index_or own t []) places) ≡ true
-
-abbrev pub found_at : (place count : ℕ) → Option ℕ → Option Novelty
-found_at place count None = None
-found_at place count (Some cycle) = Some record { place = place; cycle = cycle; count = count }
-
 -- what is found is of one of so many signals, and at a cycle of the run
 pub record IsShowable (runs : List Run) (number count : ℕ) (f : Novelty) : Type 0 where
   pub place : f.place < count
@@ -115,20 +91,9 @@ pub record IsShowable (runs : List Run) (number count : ℕ) (f : Novelty) : Typ
 -- a cycle, a signal with its value in a state, and a number of values
 abbrev pub state_line : ℕ → Signal → List Bool → ℕ → List ℕ
 state_line cycle s state count =
-    line (decimal cycle ++ (codes " " ++ (rtl_text s ++ (codes " = " ++ (value_text (value_in state s.places) ++
+    line (decimal cycle ++ (codes " " ++ (rtl_text s ++ (codes " = " ++ (value_text (signal_bits state s.places) ++
     (codes ", others " ++ decimal count))))))
 
 -- one word of each plane, behind one another
 pub record IsColumn (planes : List ℕ) (wide word : ℕ) (words : List ℕ) : Type 0 where
   pub each : (i : ℕ) → i < length words → slice_index_or words i 0 ≡ slice_index_or planes (i * wide + word) 0
-
--- values of other runs: all of them, unless there are many
-pub record IsWhole (c : Circuit) (runs : List Run) (number : ℕ) (places : List ℕ) (values : List (List Bool)) : Type 0 where
-  pub elsewhere : AreElsewhere c runs number places values
-  pub all : length values ≤ MAX_VALUES → (m : Moment) → IsMoment runs m → m.run ≢ number →
-      is_listed values (value_at c runs places m.run m.cycle) ≡ true
-
--- the sets of all signals
-pub record AreWhole (c : Circuit) (runs : List Run) (number : ℕ) (places : List (List ℕ)) (sets : List (List (List Bool))) : Type 0 where
-  pub long : length sets ≡ length places
-  pub each : (i : ℕ) → i < length sets → IsWhole c runs number (slice_index_or places i []) (slice_index_or sets i [])

@@ -4,7 +4,7 @@ ghost use Rattle.bs_lanes_planes.specs.Planes.{lane as lane_in};
 ghost use Rattle.bs_net.specs.Netlist.{circuit};
 ghost use Rattle.bs_scan.specs.Moments.{run_of, state_at};
 ghost use Rattle.bs_stim.specs.Runs.{inputs_of};
-ghost use Rattle.bs_inspect_novel.specs.Shown.{AreOwn};
+ghost use Rattle.bs_inspect_novelty.specs.Known.{AreOwn};
 
 use bs_bits::{Bits, List, NoMemory};
 use bs_chip::{Pass, step_to};

@@ -3,12 +3,14 @@ ghost use Rattle.std.specs.Prelude.{◌≡◌, ◌<◌, ◌≤◌, ◌+◌, ◌*
 ghost use Rattle.bs_net.specs.Netlist.{circuit};
 ghost use Rattle.bs_stim.specs.Runs.{inputs_of};
 ghost use Rattle.bs_chip.specs.Lockstep.{ShowsCycle, wide_of};
-ghost use Rattle.bs_inspect_novel.specs.Shown.{all_places, AreEmpty, AreSets, AreWhole, IsMask, IsSet, ShowsWords};
+ghost use Rattle.bs_inspect_novelty.specs.Known.{all_places, AreWhole};
+ghost use Rattle.bs_inspect_novel.specs.Shown.{AreEmpty, AreSets, IsMask, IsSet, ShowsWords};
 
 use crate::masks::{mask_of, put_column, zeros};
-use crate::values::{MAX_VALUES, add_values};
+use crate::values::add_values;
 use bs_bits::{Bits, List, NoMemory};
 use bs_chip::{Pass, step_to};
+use bs_inspect_novelty::MAX_VALUES;
 use bs_net::Netlist;
 use bs_net_names::Signal;
 use bs_stim::Runs;

@@ -3,40 +3,18 @@ ghost use Rattle.std.specs.Prelude.{◌≡◌, ◌<◌, ◌≤◌, ◌+◌, ◌^
 ghost use Rattle.std.specs.List.{flat_map};
 ghost use Rattle.bs_net.specs.Netlist.{circuit};
 ghost use Rattle.bs_net_names.specs.Signals.{signal_in};
-ghost use Rattle.bs_net_names.specs.Values.{value_text};
 ghost use Rattle.bs_stim.specs.Runs.{inputs_of};
 ghost use Rattle.bs_inspect_novel.specs.Novel.{alone_text, novelty_line, novelties_text, nothing_text};
-ghost use Rattle.bs_inspect_novel.specs.Values.{value_in};
-ghost use Rattle.bs_inspect_novel.specs.Shown.{AreOwn, IsShowable, state_line};
+ghost use Rattle.bs_inspect_novelty.specs.Known.{AreOwn};
+ghost use Rattle.bs_inspect_novel.specs.Shown.{IsShowable, state_line};
 
-use crate::novelty::{Novelty, state_bit};
 use bs_bits::{Bits, List, NoMemory, end_line, push_line, push_number, push_piece};
+use bs_inspect_novelty::Novelty;
+use bs_inspect_report::push_signal_value;
 use bs_net::Netlist;
-use bs_net_names::{Signal, push_rtl_name, push_value};
+use bs_net_names::{Signal, push_rtl_name};
 use bs_stim::Runs;
 use std::alloc::Global;
-
-/// The bits of a signal in a state, the greatest first.
-#[tactic(auto, using(crate::proofs::ValueLemmas::value_more))]
-fn bits_of(alloc: Global, state: &Bits, places: &[u32]) -> Result<Vec<bool>, NoMemory>
-    ensures { IfOk result (λ bits. bits.items ≡ value_in state.now places.now) }
-{
-    let mut bits = Vec::new(alloc);
-    'places: for place in places {
-        bits.push(state_bit(state, *place))?;
-    }
-    Ok(bits)
-}
-
-/// Appends the value of a signal in a state.
-#[tactic(auto, using(crate::proofs::TextLemmas::value_few))]
-fn push_state_value(text: &mut Vec<u8>, state: &Bits, places: &[u32]) -> Result<(), NoMemory>
-    requires { length places.now < 2 ^ 32 }
-    ensures { OnOk result (text.new.items ≡ text.old.items ++ value_text (value_in state.now places.now)) }
-{
-    let bits = bits_of(*text.allocator(), state, places)?;
-    push_value(text, bits.as_slice())
-}
 
 /// Appends a line: a cycle, a signal with its value in a state, and a number of values.
 fn push_state(
@@ -53,7 +31,7 @@ fn push_state(
     push_piece(text, b" ")?;
     push_rtl_name(text, signal)?;
     push_piece(text, b" = ")?;
-    push_state_value(text, state, signal.places.slice())?;
+    push_signal_value(text, state, signal.places.slice())?;
     push_piece(text, b", others ")?;
     push_number(text, count as u64)?;
     end_line(text)

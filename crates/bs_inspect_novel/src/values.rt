@@ -4,18 +4,16 @@ ghost use Rattle.bs_break.specs.Masks.{has};
 ghost use Rattle.bs_lanes_planes.specs.Planes.{lane as lane_in};
 ghost use Rattle.bs_net.specs.Netlist.{circuit};
 ghost use Rattle.bs_stim.specs.Runs.{inputs_of};
-ghost use Rattle.bs_inspect_novel.specs.Values.{AreElsewhere, state_bit};
+ghost use Rattle.bs_inspect_novelty.specs.Values.{AreElsewhere, state_bit};
 ghost use Rattle.bs_inspect_novel.specs.Shown.{Grows, IsFull, IsMask, ShowsWords, words_value};
 
 use crate::look::misses;
 use bs_bits::{Bits, List, NoMemory};
+use bs_inspect_novelty::MAX_VALUES;
 use bs_lanes_planes::lane_bit;
 use bs_net::Netlist;
 use bs_stim::Runs;
 use std::alloc::Global;
-
-/// How many values other runs may have of a signal that is told.
-pub const MAX_VALUES: usize = 64;
 
 /// The bit of a lane at a place, and 0 past the end.
 #[tactic(auto, using(crate::proofs::ValueLemmas::bit_there, crate::proofs::ValueLemmas::bit_past))]
@@ -31,7 +29,7 @@ fn bit_of(words: &[u64], place: u32, lane: u32) -> bool
 }
 
 /// The value of a signal in a lane.
-#[tactic(auto, using(crate::proofs::ValueLemmas::value_more))]
+#[tactic(auto, using(bs_inspect_novelty::proofs::ValueLemmas::value_more))]
 fn value_of(alloc: Global, words: &[u64], places: &[u32], lane: u32) -> Result<Bits, NoMemory>
     requires { lane < 64 }
     ensures { IfOk result (λ bits. bits ≡ words_value places.now words.now lane) }

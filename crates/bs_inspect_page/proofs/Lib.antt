@@ -1,10 +1,7 @@
-pub mod PutLemmas
-pub mod RowLemmas
-pub mod CellLemmas
-pub mod EscapeLemmas
 pub mod PieceLemmas
 pub mod OpenLemmas
 pub mod StepLemmas
 pub mod DrawnLemmas
+pub mod LastLemmas
 pub mod PageLemmas
-pub mod WorkedRows
+pub mod Examples

@@ -7,11 +7,11 @@ use Rattle.bs_net.specs.Parts.{Parts}
 use Rattle.bs_report.specs.declared.report.Report.{Report}
 use Rattle.bs_inspect_page.specs.Opens.{opens_of}
 use Rattle.bs_net_names.specs.Signals.{Signal}
-use Rattle.bs_inspect_page.specs.Rows.{group_text}
-use Rattle.bs_inspect_page.proofs.PutLemmas.{four_put, three_put}
+use Rattle.bs_inspect_cells.specs.Rows.{group_text}
+use Rattle.bs_inspect_cells.proofs.PutLemmas.{four_put, three_put}
 use Rattle.bs_inspect_report.specs.Lemmas.{lemmas_logged}
 use Rattle.bs_inspect_page.specs.Front.{front_text}
-use Rattle.bs_inspect_page.specs.Page.{PageOptions, ShowsOpen, ShowsReport, end_text, flops_heading, input_figure, inputs_heading, page_text, state_figure, trace_front, trace_text}
+use Rattle.bs_inspect_page.specs.Page.{PageOptions, ShowsOpen, ShowsReport, end_text, flops_heading, input_figure, inputs_heading, page_text, state_figure, steps_shown, trace_front, trace_text}
 use Rattle.bs_inspect_page.specs.Steps.{steps_front, steps_part, steps_rows}
 
 pub opens_there : (result : Result (Vec ℕ Global) NoMemory) (raw : Parts) (r : Report) (a : PageOptions) (opens : List (List Bool)) →
@@ -22,18 +22,18 @@ opens_there result raw r a opens e shows = subst (λ (o : List (List Bool)). IfO
 
 pub trace_put : (r : Report) (opens : List (List Bool)) (flops inputs : List Signal) (old a b c d : List ℕ) → a ≡ old ++ trace_front r →
     b ≡ a ++ group_text inputs_heading (input_figure r) inputs → c ≡ b ++ group_text flops_heading (state_figure r opens) flops →
-    d ≡ c ++ end_text → d ≡ old ++ trace_text r opens flops inputs
+    d ≡ c ++ end_text r → d ≡ old ++ trace_text r opens flops inputs
 unfolding trace_text
 trace_put r opens flops inputs old a b c d e f g h =
-    four_put old (trace_front r) (group_text inputs_heading (input_figure r) inputs) (group_text flops_heading (state_figure r opens) flops) end_text
+    four_put old (trace_front r) (group_text inputs_heading (input_figure r) inputs) (group_text flops_heading (state_figure r opens) flops) (end_text r)
     a b c d e f g h
 
-pub page_put : (q : PageOptions) (raw : Parts) (r : Report) (opens : List (List Bool)) (flops inputs : List Signal) (old a b c : List ℕ) →
-    a ≡ old ++ front_text raw r q.netlist q.report → b ≡ a ++ steps_part r → c ≡ b ++ trace_text r opens flops inputs →
-    c ≡ old ++ page_text q raw r opens flops inputs
+pub page_put : (q : PageOptions) (raw : Parts) (r : Report) (opens : List (List Bool)) (last : List ℕ) (flops inputs : List Signal) (old a b c d : List ℕ) →
+    a ≡ old ++ front_text raw r q.netlist q.report → b ≡ a ++ steps_shown r → c ≡ b ++ last → d ≡ c ++ trace_text r opens flops inputs →
+    d ≡ old ++ page_text q raw r opens last flops inputs
 unfolding page_text
-page_put q raw r opens flops inputs old a b c e f g =
-    three_put old (front_text raw r q.netlist q.report) (steps_part r) (trace_text r opens flops inputs) a b c e f g
+page_put q raw r opens last flops inputs old a b c d e f g h =
+    four_put old (front_text raw r q.netlist q.report) (steps_shown r) last (trace_text r opens flops inputs) a b c d e f g h
 
 pub steps_put : (r : Report) (counts slice old a b c : List ℕ) → counts ≡ lemmas_logged r.log → slice ≡ counts → a ≡ old ++ steps_front →
     b ≡ a ++ steps_rows r slice → c ≡ b ++ codes "</tbody></table></div>\n" → c ≡ old ++ steps_part r

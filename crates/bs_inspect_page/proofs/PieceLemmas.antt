@@ -7,11 +7,12 @@ use Rattle.bs_report.specs.declared.report.Budgets.{Budgets}
 use Rattle.bs_report.specs.declared.report.Report.{Report}
 use Rattle.bs_report.specs.declared.report.Step.{Step}
 use Rattle.bs_inspect_report.specs.Steps.{list_word}
-use Rattle.bs_inspect_page.proofs.PutLemmas.{five_put, four_put, three_put, two_put}
-use Rattle.bs_inspect_page.specs.Columns.{columns_text, far_column, moment_text, origin_text}
-use Rattle.bs_inspect_page.specs.Front.{audit_part, budgets_line, chip_line, head_text, lists_words, shown_path, title_text}
+use Rattle.bs_inspect_cells.proofs.PutLemmas.{five_put, four_put, three_put, two_put}
+use Rattle.bs_inspect_page.specs.Columns.{far_column, moment_text, origin_text}
+use Rattle.bs_inspect_page.specs.Execution.{cycles_title, evidence_words, search_words}
+use Rattle.bs_inspect_page.specs.Front.{audit_part, budgets_line, chip_line, head_text, lists_words, title_text}
 use Rattle.bs_inspect_page.specs.Opens.{step_of}
-use Rattle.bs_inspect_page.specs.Page.{trace_front}
+use Rattle.bs_inspect_page.specs.Paths.{shown_path}
 use Rattle.bs_inspect_page.specs.Steps.{begin_cells, from_text, next_cell, step_end}
 use Rattle.bs_inspect_page.specs.Style.{style_text}
 
@@ -21,7 +22,7 @@ seven_put old x y z w v u t a b c d e f g h i j k l m n =
     three_put old x y (z ++ (w ++ (v ++ (u ++ t)))) a b g h i (five_put b z w v u t c d e f g j k l m n)
 
 -- a number that is appended
-number_put : (old : List ℕ) (n m : ℕ) (a : List ℕ) → n ≡ m → a ≡ old ++ decimal n → a ≡ old ++ decimal m
+pub number_put : (old : List ℕ) (n m : ℕ) (a : List ℕ) → n ≡ m → a ≡ old ++ decimal n → a ≡ old ++ decimal m
 number_put old n m a same e = e ∙ ap (λ (k : ℕ). old ++ decimal k) same
 
 pub chip_put : (raw : Parts) (n m : ℕ) (old a b c d e : List ℕ) → n ≡ length (circuit_of raw).flops → m ≡ length (circuit_of raw).inputs →
@@ -87,10 +88,26 @@ far_put r i n step old a b c same own e f g =
     three_put old (codes "<th scope='col'>-") (decimal (length r.states - (i + 1))) (origin_text (step_of r i)) a b c e
     (number_put a n (length r.states - (i + 1)) b same f) (g ∙ ap (λ (s : Option Step). b ++ origin_text s) own)
 
-pub front_put : (r : Report) (old a b : List ℕ) →
-    a ≡ old ++ codes "<h2 id='t'>Trace</h2>\n<p class='d'>Where a cell is hatched, other candidates of that list differ. A vector is a number of base 16.</p>\n<div class='late' tabindex='0' role='region' aria-labelledby='t'><table class='w'>\n" →
-    b ≡ a ++ columns_text r → b ≡ old ++ trace_front r
-unfolding trace_front
-front_put r old a b e f =
-    two_put old (codes "<h2 id='t'>Trace</h2>\n<p class='d'>Where a cell is hatched, other candidates of that list differ. A vector is a number of base 16.</p>\n<div class='late' tabindex='0' role='region' aria-labelledby='t'><table class='w'>\n")
-    (columns_text r) a b e f
+pub search_put : (k : Budgets) (netlist old a b c d e f g : List ℕ) → a ≡ old ++ codes "<li>asked for: " → b ≡ a ++ decimal k.conflicts →
+    c ≡ b ++ codes " lemmas a search</li></ul>\n<p class='d'>This page shows what the answer says. The answer is right if the first command writes the same one, with the job's own files. The others write clauses and their refutation, by which other checkers see that no shorter execution ends in the state:</p>\n<pre>backspace reach " →
+    d ≡ c ++ shown_path netlist → e ≡ d ++ codes " STATE CYCLES --conflicts " → f ≡ e ++ decimal k.conflicts → g ≡ f ++ codes "\n" →
+    g ≡ old ++ search_words k netlist
+unfolding search_words
+search_put k netlist old a b c d e f g h i j l m n o =
+    seven_put old (codes "<li>asked for: ") (decimal k.conflicts)
+    (codes " lemmas a search</li></ul>\n<p class='d'>This page shows what the answer says. The answer is right if the first command writes the same one, with the job's own files. The others write clauses and their refutation, by which other checkers see that no shorter execution ends in the state:</p>\n<pre>backspace reach ")
+    (shown_path netlist) (codes " STATE CYCLES --conflicts ") (decimal k.conflicts) (codes "\n") a b c d e f g h i j l m n o
+
+pub evidence_put : (command netlist answer old a b c d e f g : List ℕ) → a ≡ old ++ codes "backspace_inspect " → b ≡ a ++ command →
+    c ≡ b ++ codes " " → d ≡ c ++ shown_path netlist → e ≡ d ++ codes " STATE " → f ≡ e ++ shown_path answer → g ≡ f ++ codes "\n" →
+    g ≡ old ++ evidence_words command netlist answer
+unfolding evidence_words
+evidence_put command netlist answer old a b c d e f g h i j k l m n =
+    seven_put old (codes "backspace_inspect ") command (codes " ") (shown_path netlist) (codes " STATE ") (shown_path answer) (codes "\n")
+    a b c d e f g h i j k l m n
+
+pub cycles_put : (r : Report) (n : ℕ) (old a b : List ℕ) → n ≡ length r.inputs → a ≡ old ++ codes "Cycles from reset: " → b ≡ a ++ decimal n →
+    b ≡ old ++ cycles_title r
+unfolding cycles_title
+cycles_put r n old a b same e f =
+    two_put old (codes "Cycles from reset: ") (decimal (length r.inputs)) a b e (number_put a n (length r.inputs) b same f)

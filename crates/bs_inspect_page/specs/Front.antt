@@ -1,13 +1,15 @@
 -- What stands in front of the tables: the style, what was asked and how it ended.
-use Rattle.std.specs.Prelude.{ℕ, List, ◌++◌, length, codes, decimal}
+use Rattle.std.specs.Prelude.{ℕ, List, ◌++◌, length, codes, decimal, if◌then◌else◌}
 use Rattle.bs_net.specs.Parts.{Parts}
 use Rattle.bs_net.specs.Netlist.{circuit_of}
 use Rattle.bs_report.specs.declared.report.Budgets.{Budgets}
 use Rattle.bs_report.specs.declared.report.Report.{Report}
 use Rattle.bs_report.specs.declared.report.Stop.{Stop as StopCause}
 use Rattle.bs_report.specs.declared.report.Stop.TheVariants as stops
-use Rattle.bs_inspect_page.specs.Escapes.{html_escaped}
+use Rattle.bs_inspect_page.specs.Paths.{shown_path}
+use Rattle.bs_inspect_page.specs.Execution.{cycles_title, reached_text, search_part}
 use Rattle.bs_inspect_page.specs.Style.{style_text}
+use Rattle.bs_inspect_report.specs.Execution.{is_execution}
 
 abbrev pub stop_text : StopCause → List ℕ
 stop_text stops.Reset = codes "Stop <b>reset</b>: the states below are a way from the reset state to the dump."
@@ -17,16 +19,23 @@ stop_text stops.Empty = codes "Stop <b>empty</b>: no state with the stored signa
 stop_text stops.Candidates = codes "Stop <b>candidates</b>: the last list was cut, and no recorded run comes into a state of it."
 stop_text stops.Conflicts = codes "Stop <b>conflicts</b>: the last search spent its budget, and no recorded run comes into a state of its list."
 
+unfoldable pub steps_title : Report → List ℕ
+steps_title r = codes "Steps back from the crash: " ++ decimal (length r.steps)
+
 unfoldable pub title_text : Report → List ℕ
-title_text r = codes "Steps back from the crash: " ++ decimal (length r.steps)
+title_text r = if is_execution r then cycles_title r else steps_title r
 
 unfoldable pub head_text : Report → List ℕ
 head_text r =
     codes "<!doctype html>\n<html lang='en'><head><meta charset='utf-8'><meta name='viewport' content='width=device-width'>\n<title>"
     ++ (title_text r ++ (codes "</title>\n" ++ (style_text ++ codes "</head><body>\n")))
 
+-- what the stop means, or that the state was found
+abbrev pub end_words : Report → List ℕ
+end_words r = if is_execution r then reached_text else stop_text r.stop
+
 unfoldable pub stop_part : Report → List ℕ
-stop_part r = codes "<h1>" ++ (title_text r ++ (codes "</h1>\n<p>" ++ (stop_text r.stop ++ codes "</p>\n")))
+stop_part r = codes "<h1>" ++ (title_text r ++ (codes "</h1>\n<p>" ++ (end_words r ++ codes "</p>\n")))
 
 -- how large the chip is
 unfoldable pub chip_line : Parts → List ℕ
@@ -42,16 +51,19 @@ unfoldable pub budgets_line : Budgets → List ℕ
 budgets_line b =
     codes "<li>asked for: " ++ (decimal b.steps ++ (codes " steps, " ++ (decimal b.candidates ++ (codes " candidates a list, " ++ (decimal b.conflicts ++ codes " lemmas a search</li></ul>\n")))))
 
--- the name of a file, as HTML shows it
-unfoldable pub shown_path : List ℕ → List ℕ
-shown_path path = html_escaped path
-
 -- how the report is checked
 unfoldable pub audit_part : (netlist report : List ℕ) → List ℕ
 audit_part netlist report =
     codes "<p class='d'>This page shows what the report says. Whether the report is right, this command tells, with the job's own files:</p>\n<pre>backspace audit "
     ++ (shown_path netlist ++ (codes " SIGNATURE STIMULUS DUMP " ++ (shown_path report ++ codes "</pre>\n")))
 
+-- what a backtrace was asked for
+unfoldable pub backtrace_part : Report → (netlist report : List ℕ) → List ℕ
+backtrace_part r netlist report = lists_words r ++ (budgets_line r.budgets ++ audit_part netlist report)
+
+-- what was asked for
+unfoldable pub job_part : Report → (netlist report : List ℕ) → List ℕ
+job_part r netlist report = if is_execution r then search_part r.budgets netlist report else backtrace_part r netlist report
+
 unfoldable pub front_text : Parts → Report → (netlist report : List ℕ) → List ℕ
-front_text raw r netlist report =
-    head_text r ++ (stop_part r ++ (chip_line raw ++ (lists_words r ++ (budgets_line r.budgets ++ audit_part netlist report))))
+front_text raw r netlist report = head_text r ++ (stop_part r ++ (chip_line raw ++ job_part r netlist report))

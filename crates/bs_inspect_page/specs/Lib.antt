@@ -1,12 +1,10 @@
-pub mod Escapes
-pub mod Cells
-pub mod Figures
-pub mod Rows
-pub mod CellLaw
 pub mod Style
+pub mod Paths
+pub mod Execution
 pub mod Front
 pub mod Opens
 pub mod Columns
 pub mod Steps
+pub mod Last
 pub mod Page
 pub mod Law

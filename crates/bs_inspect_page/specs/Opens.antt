@@ -1,16 +1,11 @@
 -- Where other candidates of a list differ from the one that the trace goes through.
 use Rattle.std.specs.Prelude.{ℕ, ◌+◌, ◌-◌, ◌==◌, Bool, List, [], ◌∷◌, length, map, slice_get, Option, Some, None, if◌then◌else◌}
 use Rattle.std.specs.List.{range_with_len}
-use Rattle.bs_report.specs.declared.report.Cand.{Cand}
 use Rattle.bs_report.specs.declared.report.Report.{Report}
 use Rattle.bs_report.specs.declared.report.Step.{Step}
-use Rattle.bs_inspect_report.specs.Steps.{differs_at}
+use Rattle.bs_inspect_report.specs.Steps.{differing_bits}
 
--- for each flip-flop, whether candidates differ at it
-abbrev pub differing_bits : List Cand → List Bool
-differing_bits [] = []
-differing_bits (c ∷ cs) = map (differs_at c.state cs) (range_with_len 0 (length c.state))
-
+-- the flip-flops at which candidates of a step differ
 abbrev pub open_of : Option Step → List Bool
 open_of None = []
 open_of (Some step) = differing_bits step.cands

@@ -1,14 +1,18 @@
 -- The page of a report (docs/FORMATS.md, "The page").
-use Rattle.std.specs.Prelude.{◌≡◌, ℕ, ◌==◌, nat_lt, not, ◌&&◌, ◌||◌, Bool, List, [], ◌++◌, length, codes, filter, take, map}
+use Rattle.std.specs.Prelude.{◌≡◌, ℕ, ◌==◌, nat_lt, not, ◌&&◌, ◌||◌, Bool, List, [], ◌++◌, length, codes, filter, take, map, Option, Some, None, if◌then◌else◌}
 use Rattle.bs_net.specs.Parts.{Parts}
 use Rattle.bs_net_names.specs.Signals.{AreSignals, Signal}
 use Rattle.bs_report.specs.declared.report.Report.{Report}
-use Rattle.bs_inspect_page.specs.Cells.{Figure, is_lively}
-use Rattle.bs_inspect_page.specs.Rows.{group_text}
+use Rattle.bs_report.specs.declared.report.Step.{Step}
+use Rattle.bs_inspect_cells.specs.Cells.{Figure, is_lively}
+use Rattle.bs_inspect_cells.specs.Rows.{group_text}
+use Rattle.bs_inspect_report.specs.Execution.{is_execution}
 use Rattle.bs_inspect_report.specs.Keys.{flop_keys, input_keys}
+use Rattle.bs_inspect_report.specs.Steps.{differing_bits}
 use Rattle.bs_inspect_view.specs.Drawn.{is_nameless}
 use Rattle.bs_inspect_page.specs.Columns.{columns_text}
 use Rattle.bs_inspect_page.specs.Front.{front_text}
+use Rattle.bs_inspect_page.specs.Last.{has_open, list_text, unmet_list}
 use Rattle.bs_inspect_page.specs.Opens.{opens_of}
 use Rattle.bs_inspect_page.specs.Steps.{steps_part}
 use Rattle.bs_inspect_page.specs.declared.options.PageOptions.{PageOptions as CodeAsked}
@@ -52,16 +56,54 @@ pub record AreDrawnInputs (raw : Parts) (a : PageOptions) (drawn : List Signal) 
   pub are : AreSignals a.only (input_keys raw) signals
   pub kept : drawn ≡ take a.most signals
 
+-- ---- the flip-flops of the last list
+
+-- one that is asked for; else one whose name somebody gave, where candidates differ, or where there is but one candidate
+abbrev pub is_listed : PageOptions → Bool → List Bool → Signal → Bool
+is_listed a alone bits s = nat_lt 0 (length a.only) || (not (is_nameless s.base) && (alone || has_open bits s.places))
+
+-- the first of those that are shown
+abbrev pub listed_of : PageOptions → Step → List Signal → List Signal
+listed_of a step signals = take a.most (filter (is_listed a (length step.cands == 1) (differing_bits step.cands)) signals)
+
+-- the flip-flops that are shown, with the names of a netlist
+pub record AreListed (raw : Parts) (a : PageOptions) (step : Step) (listed : List Signal) : Type 0 where
+  pub signals : List Signal
+  pub are : AreSignals a.only (flop_keys raw) signals
+  pub kept : listed ≡ listed_of a step signals
+
+-- the text shows the list of a step
+pub record ShowsList (raw : Parts) (a : PageOptions) (step : Step) (text : List ℕ) : Type 0 where
+  pub flops : List Signal
+  pub are : AreListed raw a step flops
+  pub shown : text ≡ list_text step flops
+
+-- the text shows the list of a step, and is empty where there is no step
+abbrev pub ShowsAny : Parts → PageOptions → Option Step → List ℕ → Type 0
+ShowsAny raw a None text = text ≡ []
+ShowsAny raw a (Some step) text = ShowsList raw a step text
+
+-- the text shows the last list, if it has no hit
+pub record ShowsLast (raw : Parts) (r : Report) (a : PageOptions) (text : List ℕ) : Type 0 where
+  pub is : ShowsAny raw a (unmet_list r) text
+
 -- ---- the text
 
-unfoldable pub trace_front : Report → List ℕ
-trace_front r =
-    codes "<h2 id='t'>Trace</h2>\n<p class='d'>Where a cell is hatched, other candidates of that list differ. A vector is a number of base 16.</p>\n<div class='late' tabindex='0' role='region' aria-labelledby='t'><table class='w'>\n"
-    ++ columns_text r
+-- what stands above the table
+abbrev pub trace_words : Report → List ℕ
+trace_words r =
+    if is_execution r
+    then codes "<h2 id='t'>Trace</h2>\n<p class='d'>Cycle 0 is reset, and the last state is the one that was asked for. A vector is a number of base 16.</p>\n<div class='late' tabindex='0' role='region' aria-labelledby='t'><table class='w'>\n"
+    else codes "<h2 id='t'>Trace</h2>\n<p class='d'>Where a cell is hatched, other candidates of that list differ. A vector is a number of base 16.</p>\n<div class='late' tabindex='0' role='region' aria-labelledby='t'><table class='w'>\n"
 
-abbrev pub end_text : List ℕ
-end_text =
-    codes "</table></div>\n<p class='d'>A trace is a way from its first state to the dump, not surely the one that the chip took. The values of a cycle are those before its clock edge; the inputs of the dump's own cycle are not known.</p>\n</body></html>\n"
+unfoldable pub trace_front : Report → List ℕ
+trace_front r = trace_words r ++ columns_text r
+
+abbrev pub end_text : Report → List ℕ
+end_text r =
+    if is_execution r
+    then codes "</table></div>\n<p class='d'>An execution is a way from reset to the state that was asked for, not surely the only one. The values of a cycle are those before its clock edge.</p>\n</body></html>\n"
+    else codes "</table></div>\n<p class='d'>A trace is a way from its first state to the dump, not surely the one that the chip took. The values of a cycle are those before its clock edge; the inputs of the dump's own cycle are not known.</p>\n</body></html>\n"
 
 abbrev pub inputs_heading : List ℕ
 inputs_heading = codes "data inputs, in the cycle behind the state"
@@ -72,18 +114,25 @@ flops_heading = codes "flip-flops"
 unfoldable pub trace_text : Report → List (List Bool) → (flops inputs : List Signal) → List ℕ
 trace_text r opens flops inputs =
     trace_front r
-    ++ (group_text inputs_heading (input_figure r) inputs ++ (group_text flops_heading (state_figure r opens) flops ++ end_text))
+    ++ (group_text inputs_heading (input_figure r) inputs ++ (group_text flops_heading (state_figure r opens) flops ++ end_text r))
 
-unfoldable pub page_text : PageOptions → Parts → Report → List (List Bool) → (flops inputs : List Signal) → List ℕ
-page_text a raw r opens flops inputs = front_text raw r a.netlist a.report ++ (steps_part r ++ trace_text r opens flops inputs)
+-- the steps of a backtrace
+abbrev pub steps_shown : Report → List ℕ
+steps_shown r = if is_execution r then [] else steps_part r
+
+unfoldable pub page_text : PageOptions → Parts → Report → List (List Bool) → (last : List ℕ) → (flops inputs : List Signal) → List ℕ
+page_text a raw r opens last flops inputs =
+    front_text raw r a.netlist a.report ++ (steps_shown r ++ (last ++ trace_text r opens flops inputs))
 
 -- the text is the page of a report with the names of a netlist, where these bits are open; where names are given, these signals alone
 pub record ShowsOpen (raw : Parts) (r : Report) (a : PageOptions) (opens : List (List Bool)) (text : List ℕ) : Type 0 where
+  pub last : List ℕ
   pub flops : List Signal
   pub inputs : List Signal
+  pub is_last : ShowsLast raw r a last
   pub are_flops : AreDrawnFlops raw r a opens flops
   pub are_inputs : AreDrawnInputs raw a inputs
-  pub shown : text ≡ page_text a raw r opens flops inputs
+  pub shown : text ≡ page_text a raw r opens last flops inputs
 
 -- the same where those bits are open at which other candidates of a list differ
 abbrev pub ShowsReport : Parts → Report → PageOptions → List ℕ → Type 0

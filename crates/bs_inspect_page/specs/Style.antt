@@ -25,6 +25,7 @@ rules =
     codes "th{font-weight:400;text-align:left}" ∷
     codes "thead th{color:var(--dim);background:var(--soft);position:sticky;top:0;z-index:2}" ∷
     codes ".t th,.t td{padding:3px 12px;border-bottom:1px solid var(--line);white-space:nowrap;text-align:right}" ∷
+    codes ".n tr>:first-child{left:0;text-align:left;white-space:normal;overflow-wrap:anywhere;min-width:min(220px,30vw)}.n tbody th{position:sticky;z-index:1;background:var(--paper);font-family:ui-monospace,DejaVu Sans Mono,monospace;font-size:12px}.n thead>tr>:first-child{z-index:3}" ∷
     codes ".w{table-layout:fixed;width:1px;background:linear-gradient(270deg,var(--last) 88px,#0000 0)}" ∷
     codes ".w th{width:88px;padding:1px 2px}" ∷
     codes ".w tr>:first-child{width:300px;padding:2px 10px;text-align:left;overflow-wrap:anywhere;position:sticky;left:0;z-index:1;background:var(--paper);border-right:1px solid var(--line)}" ∷
@@ -42,7 +43,7 @@ rules =
     codes ".w .u{--o:repeating-linear-gradient(135deg,var(--open) 0 1.5px,#0000 0 6px)}" ∷
     codes ".w b{font-weight:400;display:inline-block;position:sticky;left:305px;padding:0 5px;max-width:100%;overflow:clip;text-overflow:ellipsis;line-height:13px;margin-top:1.5px;vertical-align:top}" ∷
     codes ".w .h b,.w .l b{opacity:0}" ∷
-    codes ".w .v.u b{background:var(--fill)}" ∷
+    codes ".w .v.u b{text-shadow:0 0 2px var(--fill),0 0 2px var(--fill),0 0 3px var(--fill),0 0 3px var(--fill)}" ∷
     codes ".w tr>:first-child span{white-space:normal}" ∷
     codes "@media (max-width:800px){body{padding:10px}.w tr>:first-child{width:130px;padding:2px 6px}.w b{left:135px}}" ∷
     codes "@media print{body{max-width:none}div{max-height:none;overflow:visible}}" ∷

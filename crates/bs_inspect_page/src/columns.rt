@@ -1,10 +1,12 @@
 //! The columns of the trace.
 ghost use Rattle.std.specs.Prelude.{◌≡◌, ◌<◌, ◌+◌, ◌-◌, ◌^◌, ◌++◌, length, OnOk, option_map};
 ghost use Rattle.std.specs.List.{flat_map, range_with_len};
-ghost use Rattle.bs_inspect_page.specs.Columns.{column_text, columns_text, count_text, far_column, listed_text, moment_text, more_word, origin_text};
+ghost use Rattle.bs_inspect_page.specs.Columns.{column_text, columns_text, corner_text, count_text, far_column, found_column, listed_text, moment_text, more_word, origin_text};
 
+use crate::execution::push_cycle_column;
 use crate::opens::step_of;
 use bs_bits::{NoMemory, push_number, push_piece};
+use bs_inspect_report::is_execution;
 use bs_report::{HitLine, ListEnd, Report, Step};
 
 /// Appends run and cycle.
@@ -34,7 +36,7 @@ fn push_more(text: &mut Vec<u8>, end: ListEnd) -> Result<(), NoMemory>
 
 /// Appends how many candidates a list has.
 #[tactic(auto, unfolding(crate::specs::Columns::count_text))]
-fn push_count(text: &mut Vec<u8>, step: &Step) -> Result<(), NoMemory>
+pub(crate) fn push_count(text: &mut Vec<u8>, step: &Step) -> Result<(), NoMemory>
     ensures { OnOk result (text.new.items ≡ text.old.items ++ count_text step.now) }
 {
     push_number(text, step.cands.len() as u64)?;
@@ -84,16 +86,43 @@ fn push_far_column(text: &mut Vec<u8>, report: &Report, i: usize) -> Result<(), 
     Ok(())
 }
 
+/// Appends the column of a state of a backtrace.
+fn push_found_column(text: &mut Vec<u8>, report: &Report, i: usize) -> Result<(), NoMemory>
+    requires there { i < length report.now.states }
+    requires small { i + 1 < 2 ^ 64 }
+    ensures { OnOk result (text.new.items ≡ text.old.items ++ found_column report.now i) }
+{
+    if i + 1 == report.states.len() {
+        return push_piece(text, b"<th scope='col' class='x'>dump</th>");
+    }
+    push_far_column(text, report, i)
+}
+
 /// Appends the column of a state.
 fn push_column(text: &mut Vec<u8>, report: &Report, i: usize) -> Result<(), NoMemory>
     requires there { i < length report.now.states }
     requires small { i + 1 < 2 ^ 64 }
     ensures { OnOk result (text.new.items ≡ text.old.items ++ column_text report.now i) }
 {
-    if i + 1 == report.states.len() {
-        return push_piece(text, b"<th scope='col' class='x'>dump</th>");
+    if is_execution(report) {
+        push_cycle_column(text, report, i)
+    } else {
+        push_found_column(text, report, i)
     }
-    push_far_column(text, report, i)
+}
+
+/// Appends what the columns say.
+fn push_corner(text: &mut Vec<u8>, report: &Report) -> Result<(), NoMemory>
+    ensures { OnOk result (text.new.items ≡ text.old.items ++ corner_text report.now) }
+{
+    if is_execution(report) {
+        push_piece(text, b"<thead><tr><th scope='col'>cycle</th>")
+    } else {
+        push_piece(
+            text,
+            b"<thead><tr><th scope='col'>cycles before the dump<span>recorded as run:cycle</span><span>candidates of the list</span></th>",
+        )
+    }
 }
 
 /// Appends the columns of the states.
@@ -112,10 +141,7 @@ fn push_all_columns(text: &mut Vec<u8>, report: &Report) -> Result<(), NoMemory>
 pub(crate) fn push_columns(text: &mut Vec<u8>, report: &Report) -> Result<(), NoMemory>
     ensures { OnOk result (text.new.items ≡ text.old.items ++ columns_text report.now) }
 {
-    push_piece(
-        text,
-        b"<thead><tr><th scope='col'>cycles before the dump<span>recorded as run:cycle</span><span>candidates of the list</span></th>",
-    )?;
+    push_corner(text, report)?;
     push_all_columns(text, report)?;
     push_piece(text, b"</tr></thead>\n")
 }

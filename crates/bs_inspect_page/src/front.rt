@@ -1,11 +1,13 @@
 //! What stands in front of the tables.
 ghost use Rattle.std.specs.Prelude.{◌≡◌, ◌++◌, length, OnOk};
 ghost use Rattle.bs_net.specs.Netlist.{circuit_of};
-ghost use Rattle.bs_inspect_page.specs.Front.{audit_part, budgets_line, chip_line, front_text, head_text, lists_words, shown_path, stop_part, stop_text, title_text};
+ghost use Rattle.bs_inspect_page.specs.Front.{audit_part, backtrace_part, budgets_line, chip_line, end_words, front_text, head_text, job_part, lists_words, steps_title, stop_part, stop_text, title_text};
 
-use crate::escape::push_escaped;
+use crate::execution::{push_cycles_title, push_search};
+use crate::paths::push_path;
 use crate::style::push_style;
 use bs_bits::{NoMemory, push_number, push_piece};
+use bs_inspect_report::is_execution;
 use bs_net::Netlist;
 use bs_report::{Budgets, Report, Stop};
 
@@ -62,13 +64,25 @@ fn input_count(net: &Netlist) -> u64
     net.data_inputs().len() as u64
 }
 
+/// Appends the title of a backtrace.
+#[tactic(auto, unfolding(crate::specs::Front::steps_title))]
+fn push_steps_title(text: &mut Vec<u8>, report: &Report) -> Result<(), NoMemory>
+    ensures { OnOk result (text.new.items ≡ text.old.items ++ steps_title report.now) }
+{
+    push_piece(text, b"Steps back from the crash: ")?;
+    push_number(text, step_count(report))
+}
+
 /// Appends the title.
 #[tactic(auto, unfolding(crate::specs::Front::title_text))]
 fn push_title(text: &mut Vec<u8>, report: &Report) -> Result<(), NoMemory>
     ensures { OnOk result (text.new.items ≡ text.old.items ++ title_text report.now) }
 {
-    push_piece(text, b"Steps back from the crash: ")?;
-    push_number(text, step_count(report))
+    if is_execution(report) {
+        push_cycles_title(text, report)
+    } else {
+        push_steps_title(text, report)
+    }
 }
 
 /// Appends the head of the page.
@@ -86,7 +100,21 @@ fn push_head(text: &mut Vec<u8>, report: &Report) -> Result<(), NoMemory>
     Ok(())
 }
 
-/// Appends the title and why the backtrace stopped.
+/// Appends what the stop means, or that the state was found.
+fn push_end_words(text: &mut Vec<u8>, report: &Report) -> Result<(), NoMemory>
+    ensures { OnOk result (text.new.items ≡ text.old.items ++ end_words report.now) }
+{
+    if is_execution(report) {
+        push_piece(
+            text,
+            b"The state that was asked for is <b>reached</b>: the states below are an execution from reset that ends in it, and no shorter one does.",
+        )
+    } else {
+        push_stop(text, report.stop)
+    }
+}
+
+/// Appends the title and how it ended.
 #[tactic(auto, unfolding(crate::specs::Front::stop_part))]
 fn push_stop_part(text: &mut Vec<u8>, report: &Report) -> Result<(), NoMemory>
     ensures { OnOk result (text.new.items ≡ text.old.items ++ stop_part report.now) }
@@ -94,7 +122,7 @@ fn push_stop_part(text: &mut Vec<u8>, report: &Report) -> Result<(), NoMemory>
     push_piece(text, b"<h1>")?;
     push_title(text, report)?;
     push_piece(text, b"</h1>\n<p>")?;
-    push_stop(text, report.stop)?;
+    push_end_words(text, report)?;
     push_piece(text, b"</p>\n")
 }
 
@@ -137,14 +165,6 @@ fn push_budgets(text: &mut Vec<u8>, budgets: Budgets) -> Result<(), NoMemory>
     Ok(())
 }
 
-/// Appends the name of a file, as HTML shows it.
-#[tactic(auto, unfolding(crate::specs::Front::shown_path))]
-fn push_path(text: &mut Vec<u8>, path: &str) -> Result<(), NoMemory>
-    ensures { OnOk result (text.new.items ≡ text.old.items ++ shown_path path.now) }
-{
-    push_escaped(text, path.as_bytes())
-}
-
 /// Appends how the report is checked.
 fn push_audit(text: &mut Vec<u8>, netlist: &str, report: &str) -> Result<(), NoMemory>
     ensures { OnOk result (text.new.items ≡ text.old.items ++ audit_part netlist.now report.now) }
@@ -158,6 +178,33 @@ fn push_audit(text: &mut Vec<u8>, netlist: &str, report: &str) -> Result<(), NoM
     push_path(text, report)?;
     push_piece(text, b"</pre>\n")?;
     Ok(())
+}
+
+/// Appends what a backtrace was asked for.
+#[tactic(auto, unfolding(crate::specs::Front::backtrace_part))]
+fn push_backtrace(
+    text: &mut Vec<u8>,
+    report: &Report,
+    netlist: &str,
+    path: &str,
+) -> Result<(), NoMemory>
+    ensures { OnOk result (text.new.items ≡ text.old.items ++ backtrace_part report.now netlist.now path.now) }
+{
+    push_lists(text, report)?;
+    push_budgets(text, report.budgets)?;
+    push_audit(text, netlist, path)
+}
+
+/// Appends what was asked for.
+#[tactic(auto, unfolding(crate::specs::Front::job_part))]
+fn push_job(text: &mut Vec<u8>, report: &Report, netlist: &str, path: &str) -> Result<(), NoMemory>
+    ensures { OnOk result (text.new.items ≡ text.old.items ++ job_part report.now netlist.now path.now) }
+{
+    if is_execution(report) {
+        push_search(text, report.budgets, netlist, path)
+    } else {
+        push_backtrace(text, report, netlist, path)
+    }
 }
 
 /// Appends what stands in front of the tables.
@@ -174,7 +221,5 @@ pub(crate) fn push_front(
     push_head(text, report)?;
     push_stop_part(text, report)?;
     push_chip(text, net)?;
-    push_lists(text, report)?;
-    push_budgets(text, report.budgets)?;
-    push_audit(text, netlist, path)
+    push_job(text, report, netlist, path)
 }

@@ -1,37 +1,13 @@
 //! Where other candidates of a list differ.
-ghost use Rattle.std.specs.Prelude.{◌≡◌, ◌<◌, ◌+◌, ◌^◌, length, map, IfOk, option_map};
-ghost use Rattle.std.specs.List.{range_with_len};
-ghost use Rattle.bs_inspect_report.specs.Steps.{differs_at};
-ghost use Rattle.bs_inspect_page.specs.Opens.{open_of, differing_bits, opens_of, step_of};
+ghost use Rattle.std.specs.Prelude.{◌≡◌, ◌<◌, ◌+◌, ◌^◌, length, IfOk, option_map};
+ghost use Rattle.bs_inspect_page.specs.Opens.{open_of, opens_of, step_of};
 
 use bs_bits::{Bits, List, NoMemory};
-use bs_inspect_report::{differs_at, member};
-use bs_report::{Cand, Report, Step};
+use bs_inspect_report::{differing_bits, member};
+use bs_report::{Report, Step};
 use std::alloc::Global;
 
-/// For each flip-flop, whether one of these candidates has another bit than this state.
-#[tactic(auto, using(crate::proofs::OpenLemmas::bits_more))]
-fn differing_from(alloc: Global, first: &Bits, cands: &[Cand]) -> Result<Bits, NoMemory>
-    ensures { IfOk result (λ bits. bits ≡ map (differs_at first.now cands.now) (range_with_len 0 (length first.now))) }
-{
-    let mut bits = Bits::new(alloc);
-    'places: for place in 0..first.len() {
-        bits.push(differs_at(first, cands, place))?;
-    }
-    Ok(bits)
-}
-
-/// For each flip-flop, whether candidates differ at it.
-fn differing_bits(alloc: Global, cands: &[Cand]) -> Result<Bits, NoMemory>
-    ensures { IfOk result (λ bits. bits ≡ differing_bits cands.now) }
-{
-    match cands {
-        [] => Ok(Bits::new(alloc)),
-        [first, rest @ ..] => differing_from(alloc, &first.state, rest),
-    }
-}
-
-/// The same of the list of a step, if there is one.
+/// For each flip-flop, whether candidates of a step's list differ at it.
 fn open_of(alloc: Global, step: Option<&Step>) -> Result<Bits, NoMemory>
     ensures { IfOk result (λ bits. bits ≡ open_of (option_map (λ s. s.now) step.entry)) }
 {

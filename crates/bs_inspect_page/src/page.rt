@@ -1,44 +1,77 @@
 //! The page of a report.
 ghost use Rattle.std.specs.Prelude.{◌≡◌, ◌<◌, ◌^◌, ◌++◌, length, map, All, IfOk, OnOk};
 ghost use Rattle.bs_net_names.specs.Signals.{signal_in};
-ghost use Rattle.bs_inspect_page.specs.Rows.{group_text};
-ghost use Rattle.bs_inspect_page.specs.Page.{AreDrawnFlops, AreDrawnInputs, ShowsOpen, ShowsReport, asked_in, end_text, flops_heading, inputs_heading, input_figure, page_text, state_figure, trace_front, trace_text};
+ghost use Rattle.bs_inspect_cells.specs.Rows.{group_text};
+ghost use Rattle.bs_inspect_page.specs.Page.{AreDrawnFlops, AreDrawnInputs, ShowsLast, ShowsOpen, ShowsReport, asked_in, end_text, flops_heading, inputs_heading, input_figure, page_text, state_figure, steps_shown, trace_front, trace_text, trace_words};
 
 use crate::columns::push_columns;
 use crate::drawn::{keep_first, keep_first_drawn};
-use crate::figure::Figure;
 use crate::front::push_front;
+use crate::last_list::last_text;
 use crate::opens::opens_of;
 use crate::options::PageOptions;
-use crate::rows::push_group;
 use crate::step_table::push_step_table;
 use bs_bits::{Bits, List, NoMemory, push_piece};
-use bs_inspect_report::{flop_signals, input_signals};
+use bs_inspect_cells::{Figure, push_group};
+use bs_inspect_report::{flop_signals, input_signals, is_execution};
 use bs_net::Netlist;
 use bs_net_names::Signal;
 use bs_report::Report;
 use std::alloc::Global;
 
+/// Appends what stands above the trace.
+fn push_trace_words(text: &mut Vec<u8>, report: &Report) -> Result<(), NoMemory>
+    ensures { OnOk result (text.new.items ≡ text.old.items ++ trace_words report.now) }
+{
+    if is_execution(report) {
+        push_piece(
+            text,
+            b"<h2 id='t'>Trace</h2>\n<p class='d'>Cycle 0 is reset, and the last state is the one that was asked for. A vector is a number of base 16.</p>\n<div class='late' tabindex='0' role='region' aria-labelledby='t'><table class='w'>\n",
+        )
+    } else {
+        push_piece(
+            text,
+            b"<h2 id='t'>Trace</h2>\n<p class='d'>Where a cell is hatched, other candidates of that list differ. A vector is a number of base 16.</p>\n<div class='late' tabindex='0' role='region' aria-labelledby='t'><table class='w'>\n",
+        )
+    }
+}
+
 /// Appends what stands in front of the trace.
+#[tactic(auto, unfolding(crate::specs::Page::trace_front))]
 fn push_trace_front(text: &mut Vec<u8>, report: &Report) -> Result<(), NoMemory>
     ensures { OnOk result (text.new.items ≡ text.old.items ++ trace_front report.now) }
 {
-    push_piece(
-        text,
-        b"<h2 id='t'>Trace</h2>\n<p class='d'>Where a cell is hatched, other candidates of that list differ. A vector is a number of base 16.</p>\n<div class='late' tabindex='0' role='region' aria-labelledby='t'><table class='w'>\n",
-    )?;
+    push_trace_words(text, report)?;
     push_columns(text, report)?;
     Ok(())
 }
 
 /// Appends the end of the page.
-fn push_end(text: &mut Vec<u8>) -> Result<(), NoMemory>
-    ensures { OnOk result (text.new.items ≡ text.old.items ++ end_text) }
+fn push_end(text: &mut Vec<u8>, report: &Report) -> Result<(), NoMemory>
+    ensures { OnOk result (text.new.items ≡ text.old.items ++ end_text report.now) }
 {
-    push_piece(
-        text,
-        b"</table></div>\n<p class='d'>A trace is a way from its first state to the dump, not surely the one that the chip took. The values of a cycle are those before its clock edge; the inputs of the dump's own cycle are not known.</p>\n</body></html>\n",
-    )
+    if is_execution(report) {
+        push_piece(
+            text,
+            b"</table></div>\n<p class='d'>An execution is a way from reset to the state that was asked for, not surely the only one. The values of a cycle are those before its clock edge.</p>\n</body></html>\n",
+        )
+    } else {
+        push_piece(
+            text,
+            b"</table></div>\n<p class='d'>A trace is a way from its first state to the dump, not surely the one that the chip took. The values of a cycle are those before its clock edge; the inputs of the dump's own cycle are not known.</p>\n</body></html>\n",
+        )
+    }
+}
+
+/// Appends the steps of a backtrace.
+fn push_steps(text: &mut Vec<u8>, report: &Report) -> Result<(), NoMemory>
+    ensures { OnOk result (text.new.items ≡ text.old.items ++ steps_shown report.now) }
+{
+    if is_execution(report) {
+        Ok(())
+    } else {
+        push_step_table(text, report)
+    }
 }
 
 /// Appends the rows of the data inputs.
@@ -91,7 +124,7 @@ fn push_trace(
     push_trace_front(text, report)?;
     push_inputs(text, report, inputs)?;
     push_flops(text, report, opens, flops)?;
-    push_end(text)?;
+    push_end(text, report)?;
     Ok(())
 }
 
@@ -129,28 +162,50 @@ fn drawn_inputs<'a>(
     Ok(signals)
 }
 
-/// Appends the page with these signals.
+/// Appends the page with these signals and this last list.
 fn push_page(
     text: &mut Vec<u8>,
     net: &Netlist,
     report: &Report,
     asked: &PageOptions<'_>,
     opens: &List<Bits>,
+    last: &[u8],
     flops: &[Signal<'_>],
     inputs: &[Signal<'_>],
 ) -> Result<(), NoMemory>
     requires few_flops { All (λ s. length s.places < 2 ^ 32) flops.now }
     requires few_inputs { All (λ s. length s.places < 2 ^ 32) inputs.now }
-    ensures { OnOk result (text.new.items ≡ text.old.items ++ page_text (asked_in asked.now) net.now.raw report.now opens.now (map signal_in flops.now) (map signal_in inputs.now)) }
+    ensures { OnOk result (text.new.items ≡ text.old.items ++ page_text (asked_in asked.now) net.now.raw report.now opens.now last.now (map signal_in flops.now) (map signal_in inputs.now)) }
 {
     push_front(text, net, report, asked.netlist, asked.report)?;
-    push_step_table(text, report)?;
+    push_steps(text, report)?;
+    push_piece(text, last)?;
     push_trace(text, report, opens, flops, inputs)?;
     Ok(())
 }
 
-/// The page with these signals.
+/// The page with these signals and this last list.
 fn text_of(
+    alloc: Global,
+    net: &Netlist,
+    report: &Report,
+    asked: &PageOptions<'_>,
+    opens: &List<Bits>,
+    last: &[u8],
+    flops: &[Signal<'_>],
+    inputs: &[Signal<'_>],
+) -> Result<Vec<u8>, NoMemory>
+    requires few_flops { All (λ s. length s.places < 2 ^ 32) flops.now }
+    requires few_inputs { All (λ s. length s.places < 2 ^ 32) inputs.now }
+    ensures { IfOk result (λ text. text.items ≡ page_text (asked_in asked.now) net.now.raw report.now opens.now last.now (map signal_in flops.now) (map signal_in inputs.now)) }
+{
+    let mut text = Vec::new(alloc);
+    push_page(&mut text, net, report, asked, opens, last, flops, inputs)?;
+    Ok(text)
+}
+
+/// The page with these signals.
+fn with_last(
     alloc: Global,
     net: &Netlist,
     report: &Report,
@@ -159,13 +214,25 @@ fn text_of(
     flops: &[Signal<'_>],
     inputs: &[Signal<'_>],
 ) -> Result<Vec<u8>, NoMemory>
+    requires are_flops { AreDrawnFlops net.now.raw report.now (asked_in asked.now) opens.now (map signal_in flops.now) }
+    requires are_inputs { AreDrawnInputs net.now.raw (asked_in asked.now) (map signal_in inputs.now) }
     requires few_flops { All (λ s. length s.places < 2 ^ 32) flops.now }
     requires few_inputs { All (λ s. length s.places < 2 ^ 32) inputs.now }
-    ensures { IfOk result (λ text. text.items ≡ page_text (asked_in asked.now) net.now.raw report.now opens.now (map signal_in flops.now) (map signal_in inputs.now)) }
+    ensures { IfOk result (λ text. ShowsOpen net.now.raw report.now (asked_in asked.now) opens.now text.items) }
 {
-    let mut text = Vec::new(alloc);
-    push_page(&mut text, net, report, asked, opens, flops, inputs)?;
-    Ok(text)
+    match last_text(alloc, net, report, asked) {
+        Ok(last) => text_of(
+            alloc,
+            net,
+            report,
+            asked,
+            opens,
+            last.as_slice(),
+            flops,
+            inputs,
+        ),
+        Err(refused) => Err(refused),
+    }
 }
 
 /// The page with these flip-flops.
@@ -182,7 +249,7 @@ fn with_inputs(
     ensures { IfOk result (λ text. ShowsOpen net.now.raw report.now (asked_in asked.now) opens.now text.items) }
 {
     match drawn_inputs(alloc, net, asked) {
-        Ok(inputs) => text_of(alloc, net, report, asked, opens, flops, inputs.as_slice()),
+        Ok(inputs) => with_last(alloc, net, report, asked, opens, flops, inputs.as_slice()),
         Err(refused) => Err(refused),
     }
 }
@@ -203,9 +270,10 @@ fn with_flops(
     }
 }
 
-/// A report as one page of HTML, with the names of a netlist: why the backtrace stopped, a table of its steps, and its trace, where each
-/// signal has a cell for each run of cycles with one value, and a cell is marked in which other candidates of its list differ. Where
-/// names are given, these signals alone.
+/// A report as one page of HTML, with the names of a netlist: why the backtrace stopped, a table of its steps, its last list, if that has no
+/// hit, and its trace, where each signal has a cell for each run of cycles with one value, and a cell is marked in which other candidates
+/// of its list differ. Of an execution that a search for a state found, what is known of it and the trace. Where names are given, these
+/// signals alone.
 #[tactic(auto, using(crate::proofs::PageLemmas::opens_there))]
 pub fn page_text(
     alloc: Global,

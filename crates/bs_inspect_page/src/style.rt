@@ -7,7 +7,7 @@ ghost use Rattle.bs_inspect_page.specs.Style.{rules_text, style_text};
 use bs_bits::{NoMemory, push_line, push_piece};
 
 /// The rules. A cell of class `h` is a bit that is 1, `l` one that is 0, `v` a vector; `u` one at which other candidates differ.
-const RULES: [&str; 41] = [
+const RULES: [&str; 42] = [
     ":root{color-scheme:light dark;--ink:#1c2430;--dim:#56606e;--line:#d9dee6;--paper:#fff;--soft:#f4f6f9;--wave:#1f5fae;--fill:#e6effa;--hit:#9a4a00;--dump:#b3202c;--last:#fdecee;--open:#c2410c73}",
     "@media (prefers-color-scheme:dark){:root{--ink:#e2e6ec;--dim:#a3acb9;--line:#39414d;--paper:#14181e;--soft:#1d232b;--wave:#74aef5;--fill:#21344d;--hit:#f0a860;--dump:#ff8a92;--last:#3a2024;--open:#ff9a5799}}",
     "*{box-sizing:border-box}",
@@ -28,6 +28,7 @@ const RULES: [&str; 41] = [
     "th{font-weight:400;text-align:left}",
     "thead th{color:var(--dim);background:var(--soft);position:sticky;top:0;z-index:2}",
     ".t th,.t td{padding:3px 12px;border-bottom:1px solid var(--line);white-space:nowrap;text-align:right}",
+    ".n tr>:first-child{left:0;text-align:left;white-space:normal;overflow-wrap:anywhere;min-width:min(220px,30vw)}.n tbody th{position:sticky;z-index:1;background:var(--paper);font-family:ui-monospace,DejaVu Sans Mono,monospace;font-size:12px}.n thead>tr>:first-child{z-index:3}",
     ".w{table-layout:fixed;width:1px;background:linear-gradient(270deg,var(--last) 88px,#0000 0)}",
     ".w th{width:88px;padding:1px 2px}",
     ".w tr>:first-child{width:300px;padding:2px 10px;text-align:left;overflow-wrap:anywhere;position:sticky;left:0;z-index:1;background:var(--paper);border-right:1px solid var(--line)}",
@@ -45,7 +46,7 @@ const RULES: [&str; 41] = [
     ".w .u{--o:repeating-linear-gradient(135deg,var(--open) 0 1.5px,#0000 0 6px)}",
     ".w b{font-weight:400;display:inline-block;position:sticky;left:305px;padding:0 5px;max-width:100%;overflow:clip;text-overflow:ellipsis;line-height:13px;margin-top:1.5px;vertical-align:top}",
     ".w .h b,.w .l b{opacity:0}",
-    ".w .v.u b{background:var(--fill)}",
+    ".w .v.u b{text-shadow:0 0 2px var(--fill),0 0 2px var(--fill),0 0 3px var(--fill),0 0 3px var(--fill)}",
     ".w tr>:first-child span{white-space:normal}",
     "@media (max-width:800px){body{padding:10px}.w tr>:first-child{width:130px;padding:2px 6px}.w b{left:135px}}",
     "@media print{body{max-width:none}div{max-height:none;overflow:visible}}",

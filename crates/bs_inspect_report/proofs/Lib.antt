@@ -4,3 +4,4 @@ pub mod PieceLemmas
 pub mod LemmaLemmas
 pub mod KnownLemmas
 pub mod TableLemmas
+pub mod Examples

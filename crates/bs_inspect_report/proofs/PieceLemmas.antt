@@ -1,13 +1,15 @@
 -- Pieces that are appended one after another.
-use Rattle.std.proofs.Common.{◌≡◌, ℕ, suc, zero, ◌<◌, ◌+◌, List, [], ◌∷◌, ◌++◌, length, ap, sym, ◌∙◌, arith, slice_get, Some}
+use Rattle.std.proofs.Common.{◌≡◌, ℕ, ◌+◌, List, [], ◌∷◌, ◌++◌, map, ap, sym, ◌∙◌, arith, slice_get, Some}
 use Rattle.std.proofs.Common.{Bool, true, false, cond, refl, append_assoc}
 use Rattle.std.specs.Prelude.{slice_index_or}
 use Rattle.std.specs.List.{count_by, range_with_len}
 use Rattle.std.proofs.lemmas.List.Sums.{sum_by-append, sum_by-cons}
 use Rattle.bs_bits.proofs.RangeLemmas.{range_push}
+use Rattle.std.proofs.lemmas.List.{map-append}
+use Rattle.bs_report.specs.declared.report.Cand.{Cand}
 use Rattle.bs_report.specs.declared.report.Report.{Report}
 use Rattle.bs_report.specs.declared.report.Step.{Step}
-use Rattle.bs_inspect_report.specs.Steps.{one_if, step_piece, step_line, step_at}
+use Rattle.bs_inspect_report.specs.Steps.{differs_at, one_if, step_piece, step_line, step_at}
 
 -- three pieces behind one another, the last with its line feed
 pub three_ended : (old s w e n a b c : List ℕ) → a ≡ old ++ s → b ≡ a ++ w → c ≡ b ++ (e ++ n) → c ≡ old ++ ((s ++ (w ++ e)) ++ n)
@@ -30,6 +32,17 @@ count_more p n count e =
     one_last : (b : Bool) → cond b 1 0 + 0 ≡ one_if b
     one_last true = refl
     one_last false = refl
+
+-- what stands at one place more
+pub placed_more : {X : Type 0} (p : ℕ → X) (n : ℕ) (xs after : List X) (x : X) → xs ≡ map p (range_with_len 0 n) → x ≡ p n → after ≡ xs ++ x ∷ [] →
+    after ≡ map p (range_with_len 0 (n + 1))
+placed_more p n xs after x e f g =
+    g ∙ ((λ i. e i ++ f i ∷ []) ∙ (sym (map-append p (range_with_len 0 n) (n ∷ [])) ∙ ap (map p) (sym (range_push n))))
+
+pub bits_more : (first : List Bool) (cands : List Cand) (n : ℕ) (bits after : List Bool) (b : Bool) →
+    bits ≡ map (differs_at first cands) (range_with_len 0 n) → b ≡ differs_at first cands n → after ≡ bits ++ b ∷ [] →
+    after ≡ map (differs_at first cands) (range_with_len 0 (n + 1))
+bits_more first cands n bits after b e f g = placed_more (differs_at first cands) n bits after b e f g
 
 -- the line of a step that is there
 pub step_there : (r : Report) (lemmas : List ℕ) (i : ℕ) (step : Step) → slice_get r.steps i ≡ Some step →

@@ -1,7 +1,7 @@
 -- The bits and the lines of signals, one after another; and how many bits a signal has.
 use Rattle.std.proofs.Common.{◌≡◌, ◌≤◌, ℕ, suc, ◌<◌, ◌+◌, ◌^◌, Bool, true, false, List, [], ◌∷◌, ◌++◌, length, map, take, get_or, refl, ap, sym, ◌∙◌}
 use Rattle.std.proofs.Common.{arith, append_assoc, Option}
-use Rattle.std.specs.Prelude.{Vec, Result, IfOk, if◌then◌else◌}
+use Rattle.std.specs.Prelude.{Vec, Result, IfOk}
 use Rattle.std.specs.List.{All, flat_map}
 use Rattle.std.specs.declared.alloc.Global.{Global}
 use Rattle.std.proofs.lemmas.Grind.{flat_map-append}
@@ -12,7 +12,7 @@ use Rattle.std.proofs.lemmas.Result.{IfOk-weaker}
 use Rattle.bs_bits.specs.declared.memory.NoMemory.{NoMemory}
 use Rattle.bs_net_names.specs.declared.signal.Signal.{Signal as CodeSignal}
 use Rattle.bs_net_names.specs.Keys.{key_parts}
-use Rattle.bs_net_names.specs.Signals.{AreSignals, Member, Signal, bits_from, bits_of, is_wanted, lower, members_from, members_of, signal_in, wanted}
+use Rattle.bs_net_names.specs.Signals.{AreSignals, Signal, bits_from, bits_of, is_wanted, lower, members_from, members_of, signal_in, wanted}
 use Rattle.bs_inspect_report.specs.Signal.{bit_at, signal_bits, signal_piece, signals_lines}
 
 pub bits_more : (bits : List Bool) (places : List ℕ) (i d : ℕ) (own : List Bool) → i < length places → own ≡ signal_bits bits (take i places) →

@@ -11,7 +11,7 @@ use Rattle.bs_net_names.specs.Signals.{Signal, signal_in}
 use Rattle.bs_inspect_report.specs.Table.{name_cell, name_cells, row_of, step_row, step_row_at, value_cell, value_cells}
 
 -- a signal's piece more
-piece_more : (piece : Signal → List ℕ) (signals : List CodeSignal) (i : ℕ) (d : CodeSignal) (old before after : List ℕ) → i < length signals →
+pub piece_more : (piece : Signal → List ℕ) (signals : List CodeSignal) (i : ℕ) (d : CodeSignal) (old before after : List ℕ) → i < length signals →
     before ≡ old ++ flat_map piece (map signal_in (take i signals)) → after ≡ before ++ piece (signal_in (get_or signals i d)) →
     after ≡ old ++ flat_map piece (map signal_in (take (i + 1) signals))
 piece_more piece signals i d old before after lt e f =

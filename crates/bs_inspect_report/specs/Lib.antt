@@ -3,6 +3,7 @@ pub mod Known
 pub mod Lemmas
 pub mod Signal
 pub mod Steps
+pub mod Execution
 pub mod Trace
 pub mod Table
 pub mod Remarks

@@ -1,5 +1,5 @@
 -- The steps of a report, a line each (docs/FORMATS.md, "Texts of `backspace_inspect`").
-use Rattle.std.specs.Prelude.{◌≡◌, ℕ, ◌+◌, Bool, false, not, List, [], ◌∷◌, ◌++◌, length, codes, decimal, count_by, slice_index_or, slice_get, Option}
+use Rattle.std.specs.Prelude.{ℕ, ◌+◌, Bool, not, List, [], ◌∷◌, ◌++◌, length, map, codes, decimal, count_by, slice_index_or, slice_get, Option}
 use Rattle.std.specs.Prelude.{Some, None, if◌then◌else◌}
 use Rattle.std.specs.Bool.{beq}
 use Rattle.std.specs.List.{flat_map, list_any, range_with_len}
@@ -21,6 +21,11 @@ differs_at first cands p = list_any (λ c. not (beq (bit_at c.state p) (bit_at f
 abbrev pub differing : List Cand → ℕ
 differing [] = 0
 differing (c ∷ cs) = count_by (differs_at c.state cs) (range_with_len 0 (length c.state))
+
+-- for each flip-flop, whether candidates differ at it
+abbrev pub differing_bits : List Cand → List Bool
+differing_bits [] = []
+differing_bits (c ∷ cs) = map (differs_at c.state cs) (range_with_len 0 (length c.state))
 
 -- 1 where it is so, and else 0
 abbrev pub one_if : Bool → ℕ

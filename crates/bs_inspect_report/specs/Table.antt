@@ -11,6 +11,7 @@ use Rattle.bs_net.specs.Parts.{Parts}
 use Rattle.bs_report.specs.declared.report.HitLine.{HitLine}
 use Rattle.bs_report.specs.declared.report.Report.{Report}
 use Rattle.bs_report.specs.declared.report.Step.{Step}
+use Rattle.bs_inspect_report.specs.Execution.{is_execution, place_word}
 use Rattle.bs_inspect_report.specs.Lemmas.{lemmas_logged}
 use Rattle.bs_inspect_report.specs.Signal.{signal_bits}
 use Rattle.bs_inspect_report.specs.Steps.{differing, list_word}
@@ -67,9 +68,17 @@ abbrev pub step_cells : Option Step → List ℕ
 step_cells None = codes ",none,,"
 step_cells (Some step) = hit_cells step.hit
 
+-- where a state of a backtrace comes from
+abbrev pub found_cells : Report → ℕ → List ℕ
+found_cells r i = if i + 1 == length r.states then codes ",dump,," else step_cells (slice_get r.steps (length r.states - 2 - i))
+
+-- where a state of an execution stands
+abbrev pub place_cells : Report → ℕ → List ℕ
+place_cells r i = codes "," ++ (place_word r i ++ codes ",,")
+
 -- where a state of the trace comes from, as in its text
 abbrev pub origin_cells : Report → ℕ → List ℕ
-origin_cells r i = if i + 1 == length r.states then codes ",dump,," else step_cells (slice_get r.steps (length r.states - 2 - i))
+origin_cells r i = if is_execution r then place_cells r i else found_cells r i
 
 -- a state of the trace: where it comes from, all flip-flops, and the input that leads on from it
 abbrev pub state_row : Report → Signals → ℕ → List ℕ

@@ -1,5 +1,5 @@
 -- The trace of a report with the names of a netlist (docs/FORMATS.md, "Texts of `backspace_inspect`").
-use Rattle.std.specs.Prelude.{◌≡◌, ℕ, ◌+◌, ◌-◌, ◌==◌, nat_lt, ◌||◌, Bool, List, [], ◌++◌, length, codes, decimal, slice_get, Option, Some, None, if◌then◌else◌}
+use Rattle.std.specs.Prelude.{◌≡◌, ℕ, ◌+◌, ◌-◌, ◌==◌, ◌||◌, Bool, List, [], ◌++◌, length, codes, decimal, slice_get, Option, Some, None, if◌then◌else◌}
 use Rattle.std.specs.List.{flat_map, range_with_len}
 use Rattle.bs_bits.specs.Lines.{line}
 use Rattle.bs_net_names.specs.Signals.{AreSignals, Signal}
@@ -7,6 +7,7 @@ use Rattle.bs_net.specs.Parts.{Parts}
 use Rattle.bs_report.specs.declared.report.HitLine.{HitLine}
 use Rattle.bs_report.specs.declared.report.Report.{Report}
 use Rattle.bs_report.specs.declared.report.Step.{Step}
+use Rattle.bs_inspect_report.specs.Execution.{is_execution, place_word}
 use Rattle.bs_inspect_report.specs.Keys.{flop_keys, input_keys}
 use Rattle.bs_inspect_report.specs.Signal.{signals_lines}
 
@@ -18,10 +19,18 @@ abbrev pub step_words : Option Step → List ℕ
 step_words None = codes " state none"
 step_words (Some step) = hit_words step.hit
 
--- where a state of the trace comes from: the last is the dump, and the one before it the hit of the first step, and so on
-abbrev pub origin_words : Report → ℕ → List ℕ
-origin_words r i =
+-- where a state of a backtrace comes from: the last is the dump, and the one before it the hit of the first step, and so on
+abbrev pub found_words : Report → ℕ → List ℕ
+found_words r i =
     if i + 1 == length r.states then codes " state dump" else step_words (slice_get r.steps (length r.states - 2 - i))
+
+-- where a state of an execution stands
+abbrev pub place_words : Report → ℕ → List ℕ
+place_words r i = codes " state " ++ place_word r i
+
+-- where a state of the trace comes from
+abbrev pub origin_words : Report → ℕ → List ℕ
+origin_words r i = if is_execution r then place_words r i else found_words r i
 
 -- the state before this one, where what has not changed since is left out
 abbrev pub state_before : Report → Bool → ℕ → Option (List Bool)

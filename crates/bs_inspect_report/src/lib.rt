@@ -1,12 +1,13 @@
 //! What a report tells: its trace with the names of a netlist, and its steps.
 //!
-//! Modules: `keys`, `known` (names that no net has), `signal`, `named` and `moment` (the lines of a
-//! cycle), `trace`, `lemmas` (of each step of a log), `steps`; `field`, `table` and `step_table` (the
-//! same for scripts), `remarks` (for a waveform). Used above: `TellsTrace` (`specs/Trace`), `TellsTable` and `steps_table`
-//! (`specs/Table`), `steps_text` (`specs/Steps`), `first_unknown` (`specs/Known`). A line: its
-//! definition and the function of the same name.
+//! Modules: `execution` (a trace that a search for a state found), `keys`, `known` (names that no net has), `signal`, `named` and
+//! `moment` (the lines of a cycle), `trace`, `lemmas` (of each step of a log), `steps`; `field`, `table` and `step_table` (the same for
+//! scripts), `remarks` (for a waveform). Used above: `TellsTrace` (`specs/Trace`), `TellsTable` and `steps_table` (`specs/Table`),
+//! `steps_text` (`specs/Steps`), `first_unknown` (`specs/Known`), `is_execution` (`specs/Execution`). A line: its definition and the
+//! function of the same name.
 #![tactic(auto)]
 
+mod execution;
 mod field;
 mod keys;
 mod known;
@@ -20,12 +21,14 @@ mod steps;
 mod table;
 mod trace;
 
+pub use execution::is_execution;
 pub use keys::{flop_keys, input_keys};
 pub use known::first_unknown;
 pub use lemmas::lemmas_logged;
 pub use moment::member;
 pub use remarks::remarks_text;
+pub use signal::{bit_at, push_signal_value};
 pub use step_table::steps_table;
-pub use steps::{differing, differs_at, number_at, push_end, steps_text};
+pub use steps::{differing, differing_bits, number_at, push_end, steps_text};
 pub use table::trace_table;
 pub use trace::{flop_signals, input_signals, trace_text};

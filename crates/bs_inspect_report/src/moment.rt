@@ -2,9 +2,10 @@
 ghost use Rattle.std.specs.Prelude.{◌≡◌, ◌<◌, ◌≤◌, ◌+◌, ◌^◌, ◌++◌, length, map, decimal, slice_get, All, OnOk, option_map};
 ghost use Rattle.bs_bits.specs.Lines.{line};
 ghost use Rattle.bs_net_names.specs.Signals.{signal_in};
-ghost use Rattle.bs_inspect_report.specs.Trace.{cycle_lines, flops_at, hit_words, inputs_at, origin_words, state_before, step_words};
+ghost use Rattle.bs_inspect_report.specs.Trace.{cycle_lines, flops_at, found_words, hit_words, inputs_at, origin_words, place_words, state_before, step_words};
 ghost use Rattle.bs_inspect_report.specs.Lines.{signals_in};
 
+use crate::execution::{is_execution, push_place_word};
 use crate::named::Signals;
 use crate::signal::push_signals;
 use bs_bits::{Bits, List, NoMemory, end_line, push_number, push_piece};
@@ -43,16 +44,39 @@ fn push_step_hit(text: &mut Vec<u8>, step: Option<&Step>) -> Result<(), NoMemory
     }
 }
 
+/// Appends where a state of a backtrace comes from.
+fn push_found(text: &mut Vec<u8>, report: &Report, i: usize) -> Result<(), NoMemory>
+    requires there { i < length report.now.states }
+    requires small { i + 1 < 2 ^ 64 }
+    ensures { OnOk result (text.new.items ≡ text.old.items ++ found_words report.now i) }
+{
+    if i + 1 == report.states.len() {
+        return push_piece(text, b" state dump");
+    }
+    push_step_hit(text, member(&report.steps, report.states.len() - 2 - i))
+}
+
+/// Appends where a state of an execution stands.
+fn push_place(text: &mut Vec<u8>, report: &Report, i: usize) -> Result<(), NoMemory>
+    requires there { i < length report.now.states }
+    requires small { i + 1 < 2 ^ 64 }
+    ensures { OnOk result (text.new.items ≡ text.old.items ++ place_words report.now i) }
+{
+    push_piece(text, b" state ")?;
+    push_place_word(text, report, i)
+}
+
 /// Appends where a state of the trace comes from.
 pub(crate) fn push_origin(text: &mut Vec<u8>, report: &Report, i: usize) -> Result<(), NoMemory>
     requires there { i < length report.now.states }
     requires small { i + 1 < 2 ^ 64 }
     ensures { OnOk result (text.new.items ≡ text.old.items ++ origin_words report.now i) }
 {
-    if i + 1 == report.states.len() {
-        return push_piece(text, b" state dump");
+    if is_execution(report) {
+        push_place(text, report, i)
+    } else {
+        push_found(text, report, i)
     }
-    push_step_hit(text, member(&report.steps, report.states.len() - 2 - i))
 }
 
 /// The state before this one, where what has not changed since is left out.

@@ -11,7 +11,7 @@ use bs_net_names::{Signal, push_name, push_value};
 use std::alloc::Global;
 
 /// The bit at a place of a state or an input; 0 past its end.
-pub(crate) fn bit_at(bits: &Bits, place: usize) -> bool
+pub fn bit_at(bits: &Bits, place: usize) -> bool
     ensures { result ≡ bit_at bits.now place }
 {
     if place < bits.len() {
@@ -51,11 +51,7 @@ fn has_changed(before: Option<&Bits>, now: &Bits, places: &[u32]) -> bool
 }
 
 /// Appends the value of a signal.
-pub(crate) fn push_signal_value(
-    text: &mut Vec<u8>,
-    bits: &Bits,
-    places: &[u32],
-) -> Result<(), NoMemory>
+pub fn push_signal_value(text: &mut Vec<u8>, bits: &Bits, places: &[u32]) -> Result<(), NoMemory>
     requires { length places.now < 2 ^ 32 }
     ensures { OnOk result (text.new.items ≡ text.old.items ++ value_text (signal_bits bits.now places.now)) }
 {

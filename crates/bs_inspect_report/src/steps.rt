@@ -1,9 +1,9 @@
 //! The steps of a report, a line each.
-ghost use Rattle.std.specs.Prelude.{◌≡◌, ◌<◌, ◌≤◌, ◌+◌, ◌^◌, ◌++◌, length, not, count_by, slice_index_or, IfOk, OnOk};
+ghost use Rattle.std.specs.Prelude.{◌≡◌, ◌<◌, ◌≤◌, ◌+◌, ◌^◌, ◌++◌, length, map, not, count_by, slice_index_or, IfOk, OnOk};
 ghost use Rattle.std.specs.Bool.{beq};
 ghost use Rattle.std.specs.List.{list_any, range_with_len};
 ghost use Rattle.bs_inspect_report.specs.Signal.{bit_at};
-ghost use Rattle.bs_inspect_report.specs.Steps.{differing, differs_at, end_words, hit_words, list_word, list_words, one_if, step_at, step_line, steps_text as steps_text_of, steps_lines};
+ghost use Rattle.bs_inspect_report.specs.Steps.{differing, differing_bits, differs_at, end_words, hit_words, list_word, list_words, one_if, step_at, step_line, steps_text as steps_text_of, steps_lines};
 
 use crate::lemmas::lemmas_logged;
 use crate::signal::bit_at;
@@ -47,6 +47,28 @@ pub fn differing(cands: &[Cand]) -> usize
     match cands {
         [] => 0,
         [first, rest @ ..] => count_differing(&first.state, rest),
+    }
+}
+
+/// For each flip-flop, whether one of these candidates has another bit than this state.
+#[tactic(auto, using(crate::proofs::PieceLemmas::bits_more))]
+fn differing_from(alloc: Global, first: &Bits, cands: &[Cand]) -> Result<Bits, NoMemory>
+    ensures { IfOk result (λ bits. bits ≡ map (differs_at first.now cands.now) (range_with_len 0 (length first.now))) }
+{
+    let mut bits = Bits::new(alloc);
+    'places: for place in 0..first.len() {
+        bits.push(differs_at(first, cands, place))?;
+    }
+    Ok(bits)
+}
+
+/// For each flip-flop, whether candidates differ at it.
+pub fn differing_bits(alloc: Global, cands: &[Cand]) -> Result<Bits, NoMemory>
+    ensures { IfOk result (λ bits. bits ≡ differing_bits cands.now) }
+{
+    match cands {
+        [] => Ok(Bits::new(alloc)),
+        [first, rest @ ..] => differing_from(alloc, &first.state, rest),
     }
 }
 

@@ -4,9 +4,10 @@ ghost use Rattle.std.specs.List.{flat_map, range_with_len};
 ghost use Rattle.std.specs.Str.{bytes_eq};
 ghost use Rattle.bs_net_names.specs.Rtl.{rtl_text};
 ghost use Rattle.bs_net_names.specs.Signals.{signal_in};
-ghost use Rattle.bs_inspect_report.specs.Table.{TellsTable, head_row, hit_cells, is_column, mark, name_cell, name_cells, origin_cells, state_row, step_cells, trace_rows, value_cell, value_cells};
+ghost use Rattle.bs_inspect_report.specs.Table.{TellsTable, found_cells, head_row, hit_cells, is_column, mark, name_cell, name_cells, origin_cells, place_cells, state_row, step_cells, trace_rows, value_cell, value_cells};
 ghost use Rattle.bs_inspect_report.specs.Lines.{signals_in};
 
+use crate::execution::{is_execution, push_place_word};
 use crate::field::push_field;
 use crate::moment::member;
 use crate::named::Signals;
@@ -145,16 +146,40 @@ fn push_step_cells(text: &mut Vec<u8>, step: Option<&Step>) -> Result<(), NoMemo
     }
 }
 
+/// Appends where a state of a backtrace comes from.
+fn push_found_cells(text: &mut Vec<u8>, report: &Report, i: usize) -> Result<(), NoMemory>
+    requires there { i < length report.now.states }
+    requires small { i + 1 < 2 ^ 64 }
+    ensures { OnOk result (text.new.items ≡ text.old.items ++ found_cells report.now i) }
+{
+    if i + 1 == report.states.len() {
+        return push_piece(text, b",dump,,");
+    }
+    push_step_cells(text, member(&report.steps, report.states.len() - 2 - i))
+}
+
+/// Appends where a state of an execution stands.
+fn push_place_cells(text: &mut Vec<u8>, report: &Report, i: usize) -> Result<(), NoMemory>
+    requires there { i < length report.now.states }
+    requires small { i + 1 < 2 ^ 64 }
+    ensures { OnOk result (text.new.items ≡ text.old.items ++ place_cells report.now i) }
+{
+    push_piece(text, b",")?;
+    push_place_word(text, report, i)?;
+    push_piece(text, b",,")
+}
+
 /// Appends where a state of the trace comes from.
 fn push_origin_cells(text: &mut Vec<u8>, report: &Report, i: usize) -> Result<(), NoMemory>
     requires there { i < length report.now.states }
     requires small { i + 1 < 2 ^ 64 }
     ensures { OnOk result (text.new.items ≡ text.old.items ++ origin_cells report.now i) }
 {
-    if i + 1 == report.states.len() {
-        return push_piece(text, b",dump,,");
+    if is_execution(report) {
+        push_place_cells(text, report, i)
+    } else {
+        push_found_cells(text, report, i)
     }
-    push_step_cells(text, member(&report.steps, report.states.len() - 2 - i))
 }
 
 /// Appends the row of a state.

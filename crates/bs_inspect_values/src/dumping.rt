@@ -47,9 +47,6 @@ pub struct DumpFiles<'a> {
     pub signature: Option<&'a str>,
 }
 
-/// Drops a value, which a walk that stops lets go.
-fn let_go<T: Drop>(_value: T) {}
-
 // ---- the values
 
 /// The states, by the names of the flip-flops, which have these keys in the netlist.
@@ -267,7 +264,7 @@ fn load_signed<S: Shelf>(
     match load_taken(alloc, shelf, net, files.names, taking) {
         Ok(states) => Ok(Dumped::Whole(Signed { choice, states })),
         Err(stop) => {
-            let_go(choice);
+            drop(choice);
             Err(stop)
         }
     }
@@ -318,7 +315,7 @@ fn load_with<S: Shelf>(
         (chosen_step (files_in files.entry) net.raw (files_in files.entry).signature) (chosen_step_looked (files_in files.entry) net.raw (files_in files.entry).signature) dumped_in dumped_in result }
 {
     let dumped = load_chosen(alloc, shelf, files, &net, files.signature);
-    let_go(net);
+    drop(net);
     dumped
 }
 

@@ -4,7 +4,7 @@ ghost use Rattle.bs_inspect_values.specs.declared.fault.MapFault.TheVariants.{No
 ghost use Rattle.bs_vcd_header.specs.declared.fault.VcdFault.TheVariants.{NoMemory as VcdWant};
 ghost use Rattle.bs_top_plan.specs.declared.walk.Refusal.TheVariants.{NoMemory as Want};
 ghost use Rattle.bs_top_files.specs.Refusals.{HasWords};
-ghost use Rattle.bs_inspect_values.specs.Words.{cycles_words, key_at, map_words, vcd_words};
+ghost use Rattle.bs_inspect_values.specs.Words.{key_at, map_words, vcd_words};
 
 use crate::fault::MapFault;
 use bs_bits::{NoMemory, push_number, push_piece};
@@ -104,11 +104,4 @@ pub fn vcd_refusal(alloc: Global, fault: VcdFault, keys: &[&[u8]]) -> Refusal
         VcdFault::Late(begin) => numbered(alloc, b"Late ", begin),
         VcdFault::NoMemory => Refusal::NoMemory,
     }
-}
-
-/// Why values have too many edges.
-pub fn cycles_refusal(alloc: Global) -> Refusal
-    ensures { HasWords cycles_words result }
-{
-    worded(alloc, b"TooManyCycles")
 }

@@ -35,9 +35,6 @@ pub struct Clocked<'a> {
     pub scope: Option<&'a str>,
 }
 
-/// Drops a value, which a walk that stops lets go.
-fn let_go<T: Drop>(_value: T) {}
-
 // ---- the values
 
 /// The inputs just before each rising edge of a file, by the names of the inputs, which have these keys in the netlist.
@@ -176,7 +173,7 @@ fn load_sampled<'a, S: Shelf>(
     match load_behind(alloc, shelf, keys, names, at, &mut runs, vcds) {
         Ok(()) => Ok(Sampled { data_clock, runs }),
         Err(stop) => {
-            let_go(runs);
+            drop(runs);
             Err(stop)
         }
     }
@@ -313,7 +310,7 @@ fn load_runs<S: Shelf>(
     match load_run(alloc, shelf, &net, names, at, vcds) {
         Ok(sampled) => Ok(Simulated { net, sampled }),
         Err(stop) => {
-            let_go(net);
+            drop(net);
             Err(stop)
         }
     }

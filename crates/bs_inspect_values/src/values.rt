@@ -21,7 +21,7 @@ ghost use Rattle.bs_inspect_values.specs.Words.{cycles_words, key_at, vcd_words}
 
 use crate::keys::maybe_bytes;
 use crate::lines::line_note;
-use crate::refusals::{cycles_refusal, key_at, vcd_refusal};
+use crate::refusals::{key_at, vcd_refusal};
 use bs_bits::{Bits, List, NoMemory};
 use bs_inspect_notes::{
     Subject, clock_note, cycles_note, early_note, ended_note, foreign, input_note, short_note,
@@ -260,7 +260,7 @@ fn cycles_diagnostic(alloc: Global, path: &str) -> Unread
     ensures words { HasWords cycles_words (word_refusal result) }
     ensures note { HasNote (exactly (cycles_text path.now)) (note_refusal result) }
 {
-    let words = cycles_refusal(alloc);
+    let words = bs_top_files::worded(alloc, b"TooManyCycles");
     let note = cycles_note(alloc, path);
     both(words, note)
 }

@@ -1,6 +1,5 @@
 pub mod AskedLemmas
-pub mod ChainLemmas
-pub mod OrderLemmas
+pub mod StillLemmas
 pub mod TableLemmas
 pub mod TellingLemmas
 pub mod WhyLemmas

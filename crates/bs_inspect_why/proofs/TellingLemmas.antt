@@ -1,35 +1,46 @@
 -- The text of accounts.
-use Rattle.std.proofs.Common.{◌≡◌, ℕ, ◌<◌, ◌≤◌, ◌+◌, ◌-◌, Bool, true, false, List, [], ◌++◌, length, map, get_or, refl, ap, sym, subst, ◌∙◌, arith, zero, suc}
+use Rattle.std.proofs.Common.{◌≡◌, ℕ, ◌<◌, ◌≤◌, ◌+◌, ◌-◌, Bool, true, false, not, List, [], ◌++◌, length, map, get_or, refl, ap, sym, subst, ◌∙◌, arith, zero, suc}
 use Rattle.std.specs.List.{All}
 use Rattle.std.proofs.lemmas.List.{get_or_append_left, get_or_default, get_or-map, length-map, length-append}
 use Rattle.std.proofs.lemmas.List.Elements.{All-filter}
 use Rattle.std.proofs.lemmas.List.FromFn.{get_or-map-range_with_len, length-map-range_with_len}
 use Rattle.std.proofs.lemmas.List.Sorted.{All-permutation}
 use Rattle.bs_net.specs.Circuit.{Circuit}
+use Rattle.bs_net.specs.Netlist.{Checked}
+use Rattle.bs_net.specs.Parts.{Parts}
 use Rattle.bs_net_facts.specs.declared.block.Block.{Block}
 use Rattle.bs_net_facts.specs.declared.fact.Fact.{Fact}
 use Rattle.bs_net_facts.specs.Blocks.{IsBlock, moved, stretch}
 use Rattle.bs_net_facts.specs.Facts.{IsReal, IsWayOf}
 use Rattle.bs_net_facts.specs.Seen.{Seen}
 use Rattle.bs_report.specs.declared.report.Report.{Report}
-use Rattle.bs_inspect_causes.specs.Accounts.{IsAccount, is_cause}
-use Rattle.bs_inspect_causes.specs.declared.account.Account.{Account}
+use Rattle.bs_inspect_accounts.specs.Accounts.{IsAccount, is_cause}
+use Rattle.bs_inspect_accounts.specs.declared.account.Account.{Account}
 use Rattle.bs_inspect_why_words.specs.Blocks.{Appends, TellsBlock}
 use Rattle.bs_inspect_why_words.specs.Heads.{Episode}
+use Rattle.bs_inspect_why_words.specs.Limits.{limits_of}
+use Rattle.bs_inspect_why_words.specs.Throughout.{TellsStills}
 use Rattle.bs_inspect_why_words.specs.declared.limits.Limits.{Limits}
 use Rattle.bs_inspect_why_words.proofs.BlockLemmas.{parts_begin, parts_more}
-use Rattle.bs_inspect_why.specs.declared.chain.Chain.{Chain}
-use Rattle.bs_inspect_why.specs.declared.chain.Place.{Place}
-use Rattle.bs_inspect_why.specs.Chains.{ArePlaces, IsWithin, account_at, alone, chain_at, chains_of, no_account, place_of, places_of}
-use Rattle.bs_inspect_why.specs.Why.{TellsAccounts, TellsChain, TellsChains, TellsPlaces, episode_of, ordered_at}
+use Rattle.bs_inspect_accounts.specs.declared.chain.Chain.{Chain}
+use Rattle.bs_inspect_accounts.specs.declared.chain.Place.{Place}
+use Rattle.bs_inspect_accounts.specs.Chains.{ArePlaces, IsWithin, account_at, alone, chain_at, chains_of, no_account, place_of, places_of}
+use Rattle.bs_inspect_why.specs.Stills.{AreStillsFor, is_covered, shown, used}
+use Rattle.bs_inspect_why.specs.Why.{TellsAccounts, TellsBlocks, TellsBlocksWith, TellsChain, TellsChains, TellsPlaces, episode_of, episode_with, ordered_at}
 use Rattle.bs_inspect_why.specs.Table.{accounts_table}
 
 -- ---- an account's facts
 
-pub causes_real : (c : Circuit) (states inputs : List (List Bool)) (a : Account) (e : Episode) → e ≡ episode_of a → IsAccount c states inputs a →
-    All (IsReal c states inputs) e.causes
-causes_real c states inputs a e same is =
-    subst (All (IsReal c states inputs)) (sym (ap (λ (x : Episode). x.causes) same ∙ is.causes)) (All-filter (is_cause a.block) (IsReal c states inputs) a.block.given is.block.real)
+pub shown_real : (c : Circuit) (states inputs : List (List Bool)) (stills causes : List Fact) (a : Account) → causes ≡ shown stills a.causes →
+    IsAccount c states inputs a → All (IsReal c states inputs) causes
+shown_real c states inputs stills causes a e is =
+    subst (All (IsReal c states inputs)) (sym e)
+    (All-filter (λ (f : Fact). not (is_covered stills f)) (IsReal c states inputs) a.causes
+    (subst (All (IsReal c states inputs)) (sym is.causes) (All-filter (is_cause a.block) (IsReal c states inputs) a.block.given is.block.real)))
+
+pub causes_real : (c : Circuit) (states inputs : List (List Bool)) (causes holds : List Fact) (a : Account) (e : Episode) →
+    e ≡ episode_with causes holds a → All (IsReal c states inputs) causes → All (IsReal c states inputs) e.causes
+causes_real c states inputs causes holds a e same real = subst (All (IsReal c states inputs)) (sym (ap (λ (x : Episode). x.causes) same)) real
 
 -- the bits at the first cycle are among those that last
 front_real : (P : Fact → Type 0) (bits : List Fact) (since n : ℕ) (k : ℕ) (d : Fact) → All P (stretch bits since (suc n)) → k < length bits →
@@ -59,25 +70,35 @@ bit_real c states inputs b is k d lt = by (b.at + 1 - b.since) refl
 bits_there : (c : Circuit) (states inputs : List (List Bool)) (a : Account) → IsAccount c states inputs a → All (λ f. f.net.0 < c.nets) a.block.bits
 bits_there c states inputs a is = λ k d lt. (bit_real c states inputs a.block is.block k d lt).placed
 
-pub bits_placed : (c : Circuit) (states inputs : List (List Bool)) (a : Account) (e : Episode) → e ≡ episode_of a → IsAccount c states inputs a →
-    All (λ f. f.net.0 < c.nets) e.bits
-bits_placed c states inputs a e same is =
+pub bits_placed : (c : Circuit) (states inputs : List (List Bool)) (causes holds : List Fact) (a : Account) (e : Episode) →
+    e ≡ episode_with causes holds a → IsAccount c states inputs a → All (λ f. f.net.0 < c.nets) e.bits
+bits_placed c states inputs causes holds a e same is =
     subst (All (λ (f : Fact). f.net.0 < c.nets)) (sym (ap (λ (x : Episode). x.bits) same)) (bits_there c states inputs a is)
 
-pub since_in_time : (c : Circuit) (states inputs : List (List Bool)) (a : Account) (e : Episode) → e ≡ episode_of a → IsWayOf c states inputs →
-    IsAccount c states inputs a → e.since ≤ length inputs
-since_in_time c states inputs a e same way is =
+pub since_in_time : (c : Circuit) (states inputs : List (List Bool)) (causes holds : List Fact) (a : Account) (e : Episode) →
+    e ≡ episode_with causes holds a → IsWayOf c states inputs → IsAccount c states inputs a → e.since ≤ length inputs
+since_in_time c states inputs causes holds a e same way is =
     let d : Fact = record { net = record { 0 = 0 }; cycle = 0; bit = false } in
     let since : e.since ≡ a.block.since = ap (λ (x : Episode). x.since) same in
     let there : a.block.since < length states = (bit_real c states inputs a.block is.block 0 d is.block.some).in_time in
     omega (arith, way.one_more, there, since)
 
-pub block_of : (m : Seen) (r : Report) (few : Limits) (steps : ℕ) (first last : Account) (e z : Episode) (old new : List ℕ) → e ≡ episode_of first →
-    z ≡ episode_of last → Appends (TellsBlock m r few steps e z) old new →
-    Appends (TellsBlock m r few steps (episode_of first) (episode_of last)) old new
-block_of m r few steps first last e z old new is_first is_last told =
-    subst (λ (y : Episode). Appends (TellsBlock m r few steps (episode_of first) y) old new) is_last
+pub block_of : (m : Seen) (r : Report) (few : Limits) (steps : ℕ) (front_causes front_holds back_causes back_holds : List Fact) (first last : Account)
+    (e z : Episode) (old new : List ℕ) → e ≡ episode_with front_causes front_holds first → z ≡ episode_with back_causes back_holds last →
+    Appends (TellsBlock m r few steps e z) old new →
+    Appends (TellsBlock m r few steps (episode_with front_causes front_holds first) (episode_with back_causes back_holds last)) old new
+block_of m r few steps front_causes front_holds back_causes back_holds first last e z old new is_first is_last told =
+    subst (λ (y : Episode). Appends (TellsBlock m r few steps (episode_with front_causes front_holds first) y) old new) is_last
     (subst (λ (x : Episode). Appends (TellsBlock m r few steps x z) old new) is_first told)
+
+pub block_shown : (m : Seen) (r : Report) (few : Limits) (stills : List Fact) (steps : ℕ)
+    (front_causes front_holds back_causes back_holds : List Fact) (first last : Account) (old new : List ℕ) → front_causes ≡ shown stills first.causes →
+    front_holds ≡ shown stills first.holds → back_causes ≡ shown stills last.causes → back_holds ≡ shown stills last.holds →
+    Appends (TellsBlock m r few steps (episode_with front_causes front_holds first) (episode_with back_causes back_holds last)) old new →
+    Appends (TellsBlock m r few steps (episode_of stills first) (episode_of stills last)) old new
+block_shown m r few stills steps fc fh bc bh first last old new fc_is fh_is bc_is bh_is told =
+    subst (λ (z : Episode). Appends (TellsBlock m r few steps (episode_of stills first) z) old new) (λ i. episode_with (bc_is i) (bh_is i) last)
+    (subst (λ (e : Episode). Appends (TellsBlock m r few steps e (episode_with bc bh last)) old new) (λ i. episode_with (fc_is i) (fh_is i) first) told)
 
 -- ---- chains
 
@@ -85,20 +106,20 @@ pub account_there : (c : Circuit) (states inputs : List (List Bool)) (accounts :
     All (IsAccount c states inputs) accounts → i < length accounts → a ≡ get_or accounts i a → IsAccount c states inputs a
 account_there c states inputs accounts i a all lt e = subst (IsAccount c states inputs) (sym e) (all i a lt)
 
-pub chain_told : (m : Seen) (r : Report) (few : Limits) (accounts : List Account) (c : Chain) (first last : Account) (old new : List ℕ) →
+pub chain_told : (m : Seen) (r : Report) (few : Limits) (stills : List Fact) (accounts : List Account) (c : Chain) (first last : Account) (old new : List ℕ) →
     IsWithin (length accounts) c → first ≡ get_or accounts c.first first → last ≡ get_or accounts c.last last →
-    Appends (TellsBlock m r few c.steps (episode_of first) (episode_of last)) old new → Appends (TellsChain m r few accounts c) old new
-chain_told m r few accounts c first last old new within at_first at_last told =
-    subst (λ (z : Account). Appends (TellsBlock m r few c.steps (episode_of (account_at accounts c.first)) (episode_of z)) old new)
+    Appends (TellsBlock m r few c.steps (episode_of stills first) (episode_of stills last)) old new → Appends (TellsChain m r few stills accounts c) old new
+chain_told m r few stills accounts c first last old new within at_first at_last told =
+    subst (λ (z : Account). Appends (TellsBlock m r few c.steps (episode_of stills (account_at accounts c.first)) (episode_of stills z)) old new)
     (at_last ∙ get_or_default accounts c.last last no_account within.last)
-    (subst (λ (a : Account). Appends (TellsBlock m r few c.steps (episode_of a) (episode_of last)) old new)
+    (subst (λ (a : Account). Appends (TellsBlock m r few c.steps (episode_of stills a) (episode_of stills last)) old new)
     (at_first ∙ get_or_default accounts c.first first no_account within.first) told)
 
-pub chain_here : (m : Seen) (r : Report) (few : Limits) (accounts : List Account) (chains : List Chain) (i : ℕ) (c : Chain) (old new : List ℕ) →
-    i < length chains → c ≡ get_or chains i c → Appends (TellsChain m r few accounts c) old new →
-    Appends (TellsChain m r few accounts (chain_at chains i)) old new
-chain_here m r few accounts chains i c old new lt e told =
-    subst (λ (x : Chain). Appends (TellsChain m r few accounts x) old new) (e ∙ get_or_default chains i c (alone 0) lt) told
+pub chain_here : (m : Seen) (r : Report) (few : Limits) (stills : List Fact) (accounts : List Account) (chains : List Chain) (i : ℕ) (c : Chain) (old new : List ℕ) →
+    i < length chains → c ≡ get_or chains i c → Appends (TellsChain m r few stills accounts c) old new →
+    Appends (TellsChain m r few stills accounts (chain_at chains i)) old new
+chain_here m r few stills accounts chains i c old new lt e told =
+    subst (λ (x : Chain). Appends (TellsChain m r few stills accounts x) old new) (e ∙ get_or_default chains i c (alone 0) lt) told
 
 -- ---- their order
 
@@ -120,42 +141,66 @@ place_there accounts chains ordered i place are lt e =
     (All-permutation (Stands (length chains)) (places_of accounts chains (length chains)) ordered are.same
     (made_there accounts chains (length chains)) i (record { at = 0; layer = 0; place = 0 }) lt)
 
-pub places_begin : (m : Seen) (r : Report) (few : Limits) (accounts : List Account) (chains : List Chain) (ordered : List Place) (text : List ℕ) →
-    Appends (TellsPlaces m r few accounts chains ordered 0) text text
-places_begin m r few accounts chains ordered text = parts_begin (λ i. TellsChain m r few accounts (chain_at chains (ordered_at ordered i))) text
+pub places_begin : (m : Seen) (r : Report) (few : Limits) (stills : List Fact) (accounts : List Account) (chains : List Chain) (ordered : List Place) (text : List ℕ) →
+    Appends (TellsPlaces m r few stills accounts chains ordered 0) text text
+places_begin m r few stills accounts chains ordered text = parts_begin (λ i. TellsChain m r few stills accounts (chain_at chains (ordered_at ordered i))) text
 
-pub places_more : (m : Seen) (r : Report) (few : Limits) (accounts : List Account) (chains : List Chain) (ordered : List Place) (i place : ℕ)
-    (old mid new : List ℕ) → place ≡ ordered_at ordered i → Appends (TellsPlaces m r few accounts chains ordered i) old mid →
-    Appends (TellsChain m r few accounts (chain_at chains place)) mid new → Appends (TellsPlaces m r few accounts chains ordered (i + 1)) old new
-places_more m r few accounts chains ordered i place old mid new e so_far told =
-    parts_more (λ k. TellsChain m r few accounts (chain_at chains (ordered_at ordered k))) i old mid new so_far
-    (subst (λ (n : ℕ). Appends (TellsChain m r few accounts (chain_at chains n)) mid new) e told)
+pub places_more : (m : Seen) (r : Report) (few : Limits) (stills : List Fact) (accounts : List Account) (chains : List Chain) (ordered : List Place) (i place : ℕ)
+    (old mid new : List ℕ) → place ≡ ordered_at ordered i → Appends (TellsPlaces m r few stills accounts chains ordered i) old mid →
+    Appends (TellsChain m r few stills accounts (chain_at chains place)) mid new → Appends (TellsPlaces m r few stills accounts chains ordered (i + 1)) old new
+places_more m r few stills accounts chains ordered i place old mid new e so_far told =
+    parts_more (λ k. TellsChain m r few stills accounts (chain_at chains (ordered_at ordered k))) i old mid new so_far
+    (subst (λ (n : ℕ). Appends (TellsChain m r few stills accounts (chain_at chains n)) mid new) e told)
 
-pub places_all : (m : Seen) (r : Report) (few : Limits) (accounts : List Account) (chains : List Chain) (ordered : List Place) (i : ℕ)
-    (old new : List ℕ) → i ≡ length ordered → Appends (TellsPlaces m r few accounts chains ordered i) old new →
-    Appends (TellsPlaces m r few accounts chains ordered (length ordered)) old new
-places_all m r few accounts chains ordered i old new e told =
-    subst (λ (k : ℕ). Appends (TellsPlaces m r few accounts chains ordered k) old new) e told
+pub places_all : (m : Seen) (r : Report) (few : Limits) (stills : List Fact) (accounts : List Account) (chains : List Chain) (ordered : List Place) (i : ℕ)
+    (old new : List ℕ) → i ≡ length ordered → Appends (TellsPlaces m r few stills accounts chains ordered i) old new →
+    Appends (TellsPlaces m r few stills accounts chains ordered (length ordered)) old new
+places_all m r few stills accounts chains ordered i old new e told =
+    subst (λ (k : ℕ). Appends (TellsPlaces m r few stills accounts chains ordered k) old new) e told
 
-pub chains_told : (m : Seen) (r : Report) (few : Limits) (accounts : List Account) (chains : List Chain) (ordered : List Place) (old new : List ℕ) →
-    ArePlaces accounts chains ordered → Appends (TellsPlaces m r few accounts chains ordered (length ordered)) old new →
-    Appends (TellsChains m r few accounts chains) old new
-chains_told m r few accounts chains ordered old new are told =
+pub chains_told : (m : Seen) (r : Report) (few : Limits) (stills : List Fact) (accounts : List Account) (chains : List Chain) (ordered : List Place) (old new : List ℕ) →
+    ArePlaces accounts chains ordered → Appends (TellsPlaces m r few stills accounts chains ordered (length ordered)) old new →
+    Appends (TellsChains m r few stills accounts chains) old new
+chains_told m r few stills accounts chains ordered old new are told =
     record { words = told.words; says = record { ordered = ordered; are = are; tells = told.says }; appended = told.appended }
 
-pub whole_text : (m : Seen) (r : Report) (few : Limits) (accounts : List Account) (chains : List Chain) (old text : List ℕ) → old ≡ [] →
-    chains ≡ chains_of accounts (length accounts) → Appends (TellsChains m r few accounts chains) old text →
-    TellsChains m r few accounts (chains_of accounts (length accounts)) text
-whole_text m r few accounts chains old text none e told =
+pub whole_text : (m : Seen) (r : Report) (few : Limits) (stills : List Fact) (accounts : List Account) (chains : List Chain) (old text : List ℕ) → old ≡ [] →
+    chains ≡ chains_of accounts (length accounts) → Appends (TellsChains m r few stills accounts chains) old text →
+    TellsChains m r few stills accounts (chains_of accounts (length accounts)) text
+whole_text m r few stills accounts chains old text none e told =
     let same : told.words ≡ text = sym (told.appended ∙ ap (λ (t : List ℕ). t ++ told.words) none) in
-    subst (λ (cs : List Chain). TellsChains m r few accounts cs text) e (subst (TellsChains m r few accounts chains) same told.says)
+    subst (λ (cs : List Chain). TellsChains m r few stills accounts cs text) e (subst (TellsChains m r few stills accounts chains) same told.says)
 
 -- ---- blocks, or a table
 
-pub table_told : (csv : Bool) (m : Seen) (r : Report) (few : Limits) (accounts : List Account) (text : List ℕ) → csv ≡ true →
-    text ≡ accounts_table m.net.raw accounts → TellsAccounts csv m r few accounts text
-table_told csv m r few accounts text is says = subst (λ (b : Bool). TellsAccounts b m r few accounts text) (sym is) says
+pub blocks_with : (m : Seen) (r : Report) (few : Limits) (stills : List Fact) (accounts : List Account) (k : Checked) (raw : Parts)
+    (kept slice : List Fact) (blocks text : List ℕ) → TellsChains m r few stills accounts (chains_of accounts (length accounts)) blocks →
+    kept ≡ used accounts stills → slice ≡ kept → k ≡ m.net → raw ≡ k.raw → Appends (TellsStills raw few.held slice) blocks text →
+    TellsBlocksWith m r few stills accounts text
+blocks_with m r few stills accounts k raw kept slice blocks text tells are same net_is raw_is more = record {
+  blocks = blocks;
+  throughout = more.words;
+  tells_blocks = tells;
+  tells_throughout =
+      subst (λ (fs : List Fact). TellsStills m.net.raw few.held fs more.words) (same ∙ are)
+      (subst (λ (x : Parts). TellsStills x few.held slice more.words) (raw_is ∙ ap (λ (x : Checked). x.raw) net_is) more.says);
+  says = more.appended;
+}
 
-pub blocks_told : (csv : Bool) (m : Seen) (r : Report) (few : Limits) (accounts : List Account) (text : List ℕ) → csv ≡ false →
-    TellsChains m r few accounts (chains_of accounts (length accounts)) text → TellsAccounts csv m r few accounts text
-blocks_told csv m r few accounts text is told = subst (λ (b : Bool). TellsAccounts b m r few accounts text) (sym is) told
+pub blocks_are : (m : Seen) (r : Report) (all : Bool) (few : Limits) (stills slice : List Fact) (accounts : List Account) (text : List ℕ) →
+    AreStillsFor all m stills → slice ≡ stills → few ≡ limits_of all → TellsBlocksWith m r few slice accounts text → TellsBlocks m r all accounts text
+blocks_are m r all few stills slice accounts text are same few_is tells = record {
+  stills = stills;
+  are = are;
+  tells =
+      subst (λ (fs : List Fact). TellsBlocksWith m r (limits_of all) fs accounts text) same
+      (subst (λ (l : Limits). TellsBlocksWith m r l slice accounts text) few_is tells);
+}
+
+pub table_told : (csv : Bool) (m : Seen) (r : Report) (all : Bool) (accounts : List Account) (text : List ℕ) → csv ≡ true →
+    text ≡ accounts_table m.net.raw accounts → TellsAccounts csv m r all accounts text
+table_told csv m r all accounts text is says = subst (λ (b : Bool). TellsAccounts b m r all accounts text) (sym is) says
+
+pub blocks_told : (csv : Bool) (m : Seen) (r : Report) (all : Bool) (accounts : List Account) (text : List ℕ) → csv ≡ false →
+    TellsBlocks m r all accounts text → TellsAccounts csv m r all accounts text
+blocks_told csv m r all accounts text is told = subst (λ (b : Bool). TellsAccounts b m r all accounts text) (sym is) told

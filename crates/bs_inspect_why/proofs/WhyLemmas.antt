@@ -12,9 +12,8 @@ use Rattle.bs_net_facts.specs.declared.fact.Fact.{Fact}
 use Rattle.bs_net_facts.specs.Facts.{IsReal, IsWayOf}
 use Rattle.bs_net_facts.specs.Seen.{Seen}
 use Rattle.bs_report.specs.declared.report.Report.{Report}
-use Rattle.bs_inspect_causes.specs.Accounts.{Explain, IsBreak, LeadsOn, has_net}
-use Rattle.bs_inspect_causes.specs.declared.account.Account.{Account}
-use Rattle.bs_inspect_why_words.specs.Limits.{limits_of}
+use Rattle.bs_inspect_accounts.specs.Accounts.{Explain, IsBreak, LeadsOn, has_net}
+use Rattle.bs_inspect_accounts.specs.declared.account.Account.{Account}
 use Rattle.bs_inspect_why.specs.declared.denial.Denial.{Denial}
 use Rattle.bs_inspect_why.specs.declared.denial.Denial.TheVariants.{Input, Trace, Open}
 use Rattle.bs_inspect_why.specs.declared.denial.Why.{Why}
@@ -25,7 +24,7 @@ use Rattle.bs_inspect_why.specs.Why.{Answers, AnswersAt, AnswersOn, TellsAccount
 -- ---- facts
 
 pub facts_told : (m : Seen) (r : Report) (q : Question) (asked : List Fact) (accounts : List Account) (text : List ℕ) →
-    Explain (circuit m.net) m.states m.inputs asked q.depth accounts → TellsAccounts q.csv m r (limits_of q.all) accounts text →
+    Explain (circuit m.net) m.states m.inputs asked q.depth accounts → TellsAccounts q.csv m r q.all accounts text →
     TellsFacts m r q asked text
 facts_told m r q asked accounts text explain tells = record { accounts = accounts; explain = explain; tells = tells }
 

@@ -1,6 +1,6 @@
 -- what public contracts rest on
 pub mod Question
-pub mod Chains
+pub mod Stills
 pub mod Table
 pub mod Denials
 pub mod Why

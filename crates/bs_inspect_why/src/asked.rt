@@ -3,7 +3,7 @@ ghost use Rattle.std.specs.Prelude.{◌≡◌, ◌<◌, ◌≤◌, ◌^◌, ◌�
 ghost use Rattle.std.specs.List.{flat_map};
 ghost use Rattle.bs_net.specs.Netlist.{circuit, parts_of};
 ghost use Rattle.bs_net_names.specs.Signals.{member_in, members_of};
-ghost use Rattle.bs_inspect_causes.specs.Accounts.{has_net};
+ghost use Rattle.bs_inspect_accounts.specs.Accounts.{has_net};
 ghost use Rattle.bs_inspect_why.specs.Question.{AreAsked, asked_net, asked_nets, IsAsked};
 
 use bs_bits::{List, NoMemory};

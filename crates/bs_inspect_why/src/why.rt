@@ -2,7 +2,7 @@
 ghost use Rattle.std.specs.Prelude.{◌≡◌, ◌<◌, ◌≤◌, ◌^◌, false, length, All, IfOk, MatchOption};
 ghost use Rattle.bs_net.specs.Netlist.{circuit};
 ghost use Rattle.bs_net_facts.specs.Facts.{IsReal, IsWayOf};
-ghost use Rattle.bs_inspect_causes.specs.Accounts.{Explain, has_net, LeadsOn};
+ghost use Rattle.bs_inspect_accounts.specs.Accounts.{Explain, has_net, LeadsOn};
 ghost use Rattle.bs_inspect_why.specs.Question.{AreAsked, asked_nets as nets_asked, moment_in, question_in};
 ghost use Rattle.bs_inspect_why.specs.Why.{Answers, AnswersAt, AnswersOn, TellsFacts};
 
@@ -12,7 +12,8 @@ use crate::question::Question;
 use crate::setting::{groups, stops};
 use crate::telling::accounts_text;
 use bs_bits::{List, NoMemory};
-use bs_inspect_causes::{Account, accounts_of, first_break};
+use bs_inspect_accounts::Account;
+use bs_inspect_causes::{accounts_of, first_break};
 use bs_inspect_cones::Scene;
 use bs_net::{NetId, Netlist};
 use bs_net_facts::{Fact, Moments};
@@ -36,7 +37,9 @@ fn accounts_by(
     ensures { IfOk result (λ accounts. Explain (circuit moments.now.net) moments.now.states moments.now.inputs facts.now question.now.depth accounts) }
 {
     let scene = Scene::new(alloc, moments, stops, groups)?;
-    let accounts = accounts_of(alloc, &scene, facts, question.depth, question.all)?;
+    let made = accounts_of(alloc, &scene, facts, question.depth, question.all);
+    drop(scene);
+    let accounts = made?;
     Ok(accounts)
 }
 
@@ -84,14 +87,16 @@ fn facts_text(
     ensures { IfOk result (λ text. TellsFacts moments.now report.now (question_in question.now) facts.now text.items) }
 {
     let accounts = accounts_told(alloc, moments, question, facts)?;
-    let text = accounts_text(
+    let told = accounts_text(
         alloc,
         moments,
         report,
         question.csv,
         question.all,
         accounts.slice(),
-    )?;
+    );
+    drop(accounts);
+    let text = told?;
     Ok(text)
 }
 
@@ -164,7 +169,9 @@ fn answer_on(
     ensures { IfOk result (AnswersOn net.now report.now (question_in question.now) nets.now at) }
 {
     let moments = Moments::of(alloc, net, &report.states, &report.inputs)?;
-    let why = answer_at(alloc, &moments, report, question, at, nets)?;
+    let answer = answer_at(alloc, &moments, report, question, at, nets);
+    drop(moments);
+    let why = answer?;
     Ok(why)
 }
 

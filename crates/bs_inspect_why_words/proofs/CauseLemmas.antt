@@ -19,7 +19,7 @@ use Rattle.bs_inspect_why_words.specs.Blocks.{Appends}
 use Rattle.bs_inspect_why_words.specs.Causes.{HasRows, TellsRows, TellsRowsOf, by_line, first_cycle, is_old, old_line, old_row, old_rows, old_words, only_bit, row_line, row_name, rows_lines}
 use Rattle.bs_inspect_why_words.specs.Facts.{fact_bits, fact_keys, signal_at}
 use Rattle.bs_inspect_why_words.specs.Rows.{AreRows, row_of, rows_of}
-use Rattle.bs_inspect_why_words.specs.Since.{AreAges}
+use Rattle.bs_inspect_accounts.specs.Since.{AreAges}
 use Rattle.bs_net_names.specs.Rtl.{rtl_text}
 use Rattle.bs_inspect_why_words.specs.declared.limits.TheConstants.{RECENT}
 use Rattle.bs_inspect_why_words.proofs.RowLemmas.{signal_is}

@@ -1,7 +1,6 @@
 pub mod StepLemmas
 pub mod KeyLemmas
 pub mod WordLemmas
-pub mod SinceLemmas
 pub mod RowLemmas
 pub mod CauseLemmas
 pub mod StretchLemmas

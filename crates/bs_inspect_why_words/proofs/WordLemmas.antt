@@ -1,20 +1,12 @@
 -- Signals and their values in words.
 use Rattle.std.proofs.Common.{◌≡◌, ℕ, ◌<◌, ◌≤◌, ◌+◌, ◌-◌, ◌^◌, Bool, false, List, [], ◌∷◌, ◌++◌, length, map, take, get_or, ap, sym, subst, ◌∙◌, arith}
 use Rattle.std.specs.List.{All}
-use Rattle.std.proofs.lemmas.List.{get_or_past, length-map}
 use Rattle.bs_net.specs.Parts.{Parts}
 use Rattle.bs_net_facts.specs.declared.fact.Fact.{Fact}
 use Rattle.bs_net_names.specs.Signals.{AreSignals, Signal, signal_in}
 use Rattle.bs_net_names.specs.declared.signal.Signal.{Signal as CodeSignal}
-use Rattle.bs_inspect_report.specs.Signal.{bit_at, signal_bits}
 use Rattle.bs_inspect_why_words.specs.Facts.{TellsFacts, TellsFirst, fact_bits, fact_keys, more_words, signals_words}
 use Rattle.bs_inspect_why_words.proofs.StepLemmas.{all_head, all_tail}
-
-pub bit_past : (bits : List Bool) (p : ℕ) → length bits ≤ p → false ≡ bit_at bits p
-bit_past bits p le = sym (get_or_past bits p false le)
-
-pub value_few : (bits : List Bool) (places : List ℕ) (own : List Bool) → own ≡ signal_bits bits places → length places < 2 ^ 32 → length own < 2 ^ 32
-value_few bits places own e few = omega (arith, few, ap length e, length-map places (bit_at bits))
 
 pub narrow_first : (s : CodeSignal) (rest : List CodeSignal) → All (λ s. length s.places < 2 ^ 32) (s ∷ rest) → length s.places < 2 ^ 32
 narrow_first s rest h = all_head (λ (x : CodeSignal). length x.places < 2 ^ 32) s rest h

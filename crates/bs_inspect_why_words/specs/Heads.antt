@@ -7,6 +7,7 @@ use Rattle.bs_net.specs.Circuit.{Circuit}
 use Rattle.bs_net.specs.Netlist.{circuit}
 use Rattle.bs_net_names.specs.Signals.{AreSignals, Signal}
 use Rattle.bs_net_names.specs.Values.{value_text}
+use Rattle.bs_inspect_report.specs.Execution.{is_execution}
 use Rattle.bs_inspect_report.specs.Signal.{signal_bits}
 use Rattle.bs_report.specs.declared.report.HitLine.{HitLine}
 use Rattle.bs_report.specs.declared.report.Report.{Report}
@@ -56,10 +57,14 @@ abbrev pub step_moment : Option Step → List ℕ
 step_moment None = []
 step_moment (Some step) = hit_moment step.hit
 
--- where a state of the trace comes from: the last is the dump, and the one before it the hit of the first step, and so on
-abbrev pub moment_words : Report → ℕ → List ℕ
-moment_words r i =
+-- where a state of a backtrace comes from: the last is the dump, and the one before it the hit of the first step, and so on
+abbrev pub found_moment : Report → ℕ → List ℕ
+found_moment r i =
     if nat_le (length r.states) (i + 1) then codes " (dump)" else step_moment (slice_get r.steps (length r.states - 2 - i))
+
+-- the same of any trace; a state of an execution is told by its cycle alone
+abbrev pub moment_words : Report → ℕ → List ℕ
+moment_words r i = if is_execution r then [] else found_moment r i
 
 -- since when the bits stand
 abbrev pub since_words : Episode → List ℕ

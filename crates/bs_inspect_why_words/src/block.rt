@@ -1,5 +1,5 @@
 //! The text of a block.
-ghost use Rattle.std.specs.Prelude.{◌≡◌, ◌<◌, ◌≤◌, length, codes, All, OnOk};
+ghost use Rattle.std.specs.Prelude.{◌≡◌, ◌<◌, ◌≤◌, length, All, OnOk};
 ghost use Rattle.bs_net.specs.Netlist.{circuit};
 ghost use Rattle.bs_net_facts.specs.Facts.{IsReal, IsWayOf};
 ghost use Rattle.bs_inspect_why_words.specs.Blocks.{Appends, TellsBlock, TellsCauses};
@@ -54,41 +54,22 @@ fn push_causes(
     Ok(())
 }
 
-/// Appends what kept the bits.
-fn push_kept(
+/// Appends the lines of facts, which are told by cycles.
+fn push_told(
     text: &mut Vec<u8>,
     moments: &Moments<'_>,
     limits: Limits,
+    lead: &[u8],
+    most: usize,
     facts: &[Fact],
 ) -> Result<(), NoMemory>
-    ensures { OnOk result (Appends (TellsGroups moments.now.net.raw (codes "    kept by ") limits.held limits.reasons limits.spans facts.now) text.old.items text.new.items) }
+    ensures { OnOk result (Appends (TellsGroups moments.now.net.raw lead.now most limits.reasons limits.spans facts.now) text.old.items text.new.items) }
 {
     push_by_cycles(
         text,
         moments.net().raw(),
-        b"    kept by ",
-        limits.held,
-        limits.reasons,
-        limits.spans,
-        facts,
-    )?;
-    Ok(())
-}
-
-/// Appends what did not matter.
-fn push_idle(
-    text: &mut Vec<u8>,
-    moments: &Moments<'_>,
-    limits: Limits,
-    facts: &[Fact],
-) -> Result<(), NoMemory>
-    ensures { OnOk result (Appends (TellsGroups moments.now.net.raw (codes "    whatever ") limits.idle limits.reasons limits.spans facts.now) text.old.items text.new.items) }
-{
-    push_by_cycles(
-        text,
-        moments.net().raw(),
-        b"    whatever ",
-        limits.idle,
+        lead,
+        most,
         limits.reasons,
         limits.spans,
         facts,
@@ -114,7 +95,21 @@ pub fn push_block(
 {
     push_head(text, moments, report, steps, first, last)?;
     push_causes(text, moments, limits, last.causes)?;
-    push_kept(text, moments, limits, first.holds)?;
-    push_idle(text, moments, limits, last.idle)?;
+    push_told(
+        text,
+        moments,
+        limits,
+        b"    kept by ",
+        limits.held,
+        first.holds,
+    )?;
+    push_told(
+        text,
+        moments,
+        limits,
+        b"    whatever ",
+        limits.idle,
+        last.idle,
+    )?;
     Ok(())
 }

@@ -1,5 +1,5 @@
 //! The lines of the causes of one cycle.
-ghost use Rattle.std.specs.Prelude.{◌≡◌, ◌<◌, ◌&&◌, ◌^◌, ◌++◌, length, slice_index_or, map, take, All, IfOk, OnOk};
+ghost use Rattle.std.specs.Prelude.{◌≡◌, ◌<◌, ◌&&◌, ◌^◌, ◌++◌, length, slice_index_or, map, All, IfOk, OnOk};
 ghost use Rattle.std.specs.Bool.{beq};
 ghost use Rattle.std.specs.List.{flat_map};
 ghost use Rattle.bs_net.specs.Netlist.{circuit};
@@ -12,9 +12,10 @@ ghost use Rattle.bs_inspect_why_words.specs.Facts.{signal_at};
 use crate::key::{fact_bits, fact_signals};
 use crate::limits::{Limits, RECENT};
 use crate::row::{Row, newest_rows};
-use crate::since::ages;
-use crate::words::{bit_at, push_more, push_signal};
+use crate::words::{first_of, push_more, push_signal};
 use bs_bits::{Bits, NoMemory, end_line, push_number, push_piece};
+use bs_inspect_accounts::ages;
+use bs_inspect_report::bit_at;
 use bs_net_facts::{Fact, Moments};
 use bs_net_names::{Signal, push_rtl_name, push_value};
 use std::alloc::Global;
@@ -124,7 +125,7 @@ fn front(places: &[u32]) -> u32
 fn only_bit(bits: &Bits, signal: &Signal<'_>) -> bool
     ensures { result ≡ only_bit bits.now (signal_in signal.now) }
 {
-    bit_at(bits, front(signal.places.slice()))
+    bit_at(bits, front(signal.places.slice()) as usize)
 }
 
 /// Whether two bits are the same.
@@ -244,18 +245,6 @@ fn push_names(text: &mut Vec<u8>, signals: &[Signal<'_>], rows: &[Row]) -> Resul
     }
 }
 
-/// The first of some rows.
-#[tactic(auto, using(crate::proofs::StepLemmas::all_first))]
-fn first_rows<'a>(rows: &'a [Row], most: usize) -> &'a [Row]
-    ensures { result.now ≡ take most rows.now }
-{
-    if most < rows.len() {
-        &rows[..most]
-    } else {
-        rows
-    }
-}
-
 /// Appends the line of the signals with a bit.
 #[tactic(auto, using(crate::proofs::CauseLemmas::first_placed, crate::proofs::CauseLemmas::old_none, crate::proofs::CauseLemmas::old_some))]
 fn push_old_line(
@@ -273,7 +262,7 @@ fn push_old_line(
         return Ok(());
     }
     push_by(text, cycle)?;
-    push_names(text, signals, first_rows(rows, most))?;
+    push_names(text, signals, first_of(rows, most))?;
     push_more(text, rows.len().saturating_sub(most))?;
     push_piece(text, b" = ")?;
     push_value(text, &[bit])?;

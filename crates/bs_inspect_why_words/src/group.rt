@@ -1,11 +1,12 @@
 //! Cycles of which the same is told.
-ghost use Rattle.std.specs.Prelude.{◌≡◌, ◌<◌, length, take, IfOk, IfSome, OnOk, None, Some};
+ghost use Rattle.std.specs.Prelude.{◌≡◌, ◌<◌, length, IfOk, IfSome, OnOk, None, Some};
 ghost use Rattle.std.specs.List.{position};
 ghost use Rattle.std.specs.Str.{bytes_eq};
 ghost use Rattle.bs_inspect_why_words.specs.Groups.{group_spans, groups_of, joined, joined_at, longer, place_of, single};
 
 use crate::limits::MAX_APART;
 use crate::reason::Reason;
+use crate::words::first_of;
 use bs_bits::{List, NoMemory};
 use std::alloc::Global;
 
@@ -58,18 +59,6 @@ fn add_cycle(group: &mut Group, cycle: u32) -> Result<(), NoMemory>
     Ok(())
 }
 
-/// The first groups.
-#[tactic(auto, using(crate::proofs::StepLemmas::all_first))]
-pub(crate) fn first_groups(groups: &[Group], most: usize) -> &[Group]
-    ensures { result.now ≡ take most groups.now }
-{
-    if most < groups.len() {
-        &groups[..most]
-    } else {
-        groups
-    }
-}
-
 /// The place of the first of some groups with these words.
 fn place_in(groups: &[Group], words: &[u8]) -> Option<usize>
     ensures { result ≡ position (λ g. bytes_eq g.words words.now) groups.now }
@@ -82,7 +71,7 @@ fn place_in(groups: &[Group], words: &[u8]) -> Option<usize>
 fn place_of(groups: &[Group], words: &[u8]) -> Option<usize>
     ensures { result ≡ place_of groups.now words.now }
 {
-    place_in(first_groups(groups, MAX_APART), words)
+    place_in(first_of(groups, MAX_APART), words)
 }
 
 /// Puts a reason to the group at a place.

@@ -3,14 +3,14 @@ ghost use Rattle.std.specs.Prelude.{◌≡◌, ◌<◌, ◌≤◌, ◌+◌, ◌^
 ghost use Rattle.bs_net.specs.Netlist.{circuit};
 ghost use Rattle.bs_net_names.specs.Signals.{signal_in};
 ghost use Rattle.bs_inspect_why_words.specs.Blocks.{Appends};
-ghost use Rattle.bs_inspect_why_words.specs.Heads.{AreBefore, at_words, before_count, before_words, episode_in, from_words, head_line, hit_moment, moment_words, since_words, step_moment, steps_words, TellsHead, TellsHeadOf, value_behind, values_words};
+ghost use Rattle.bs_inspect_why_words.specs.Heads.{AreBefore, at_words, before_count, before_words, episode_in, found_moment, from_words, head_line, hit_moment, moment_words, since_words, step_moment, steps_words, TellsHead, TellsHeadOf, value_behind, values_words};
 
 use crate::episode::Episode;
 use crate::key::{fact_bits, fact_signals};
-use crate::since::known_bit;
-use crate::words::{push_signal_value, push_signals};
+use crate::words::push_signals;
 use bs_bits::{Bits, NoMemory, end_line, push_number, push_piece};
-use bs_inspect_report::member;
+use bs_inspect_accounts::known_bit;
+use bs_inspect_report::{is_execution, member, push_signal_value};
 use bs_net_facts::{Fact, Moments};
 use bs_net_names::Signal;
 use bs_report::{HitLine, Report, Step};
@@ -42,15 +42,26 @@ fn push_step(text: &mut Vec<u8>, step: Option<&Step>) -> Result<(), NoMemory>
     }
 }
 
-/// Appends where a state of the trace comes from.
-fn push_moment(text: &mut Vec<u8>, report: &Report, i: usize) -> Result<(), NoMemory>
+/// Appends where a state of a backtrace comes from.
+fn push_found(text: &mut Vec<u8>, report: &Report, i: usize) -> Result<(), NoMemory>
     requires { i + 1 < 2 ^ 64 }
-    ensures { OnOk result (text.new.items ≡ text.old.items ++ moment_words report.now i) }
+    ensures { OnOk result (text.new.items ≡ text.old.items ++ found_moment report.now i) }
 {
     if report.states.len() <= i + 1 {
         return push_piece(text, b" (dump)");
     }
     push_step(text, member(&report.steps, report.states.len() - 2 - i))
+}
+
+/// Appends where a state of the trace comes from.
+fn push_moment(text: &mut Vec<u8>, report: &Report, i: usize) -> Result<(), NoMemory>
+    requires { i + 1 < 2 ^ 64 }
+    ensures { OnOk result (text.new.items ≡ text.old.items ++ moment_words report.now i) }
+{
+    if is_execution(report) {
+        return Ok(());
+    }
+    push_found(text, report, i)
 }
 
 /// Appends since when bits stand.

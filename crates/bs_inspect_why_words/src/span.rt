@@ -1,13 +1,13 @@
 //! The lines of groups.
-ghost use Rattle.std.specs.Prelude.{◌≡◌, ◌-◌, ◌++◌, length, take, IfOk, OnOk};
+ghost use Rattle.std.specs.Prelude.{◌≡◌, ◌-◌, ◌++◌, IfOk, OnOk};
 ghost use Rattle.std.specs.List.{flat_map};
 ghost use Rattle.bs_net.specs.Netlist.{parts_of};
 ghost use Rattle.bs_inspect_why_words.specs.Blocks.{Appends};
 ghost use Rattle.bs_inspect_why_words.specs.Groups.{end_words, group_line, groups_lines, rest_line, span_words, spans_words, AreGroups, TellsGroups};
 
-use crate::group::{Group, Span, first_groups, group_spans, groups_of};
+use crate::group::{Group, Span, group_spans, groups_of};
 use crate::reason::reasons;
-use crate::words::push_more;
+use crate::words::{first_of, push_more};
 use bs_bits::{NoMemory, end_line, push_number, push_piece};
 use bs_net::Raw;
 use bs_net_facts::Fact;
@@ -45,23 +45,11 @@ fn push_all_spans(text: &mut Vec<u8>, spans: &[Span]) -> Result<(), NoMemory>
     Ok(())
 }
 
-/// The first of some spans.
-#[tactic(auto, using(crate::proofs::StepLemmas::all_first))]
-fn first_spans(spans: &[Span], most: usize) -> &[Span]
-    ensures { result.now ≡ take most spans.now }
-{
-    if most < spans.len() {
-        &spans[..most]
-    } else {
-        spans
-    }
-}
-
 /// Appends the first spans, and how many more there are.
 fn push_spans(text: &mut Vec<u8>, most: usize, spans: &[Span]) -> Result<(), NoMemory>
     ensures { OnOk result (text.new.items ≡ text.old.items ++ spans_words most spans.now) }
 {
-    push_all_spans(text, first_spans(spans, most))?;
+    push_all_spans(text, first_of(spans, most))?;
     push_more(text, spans.len().saturating_sub(most))
 }
 
@@ -116,7 +104,7 @@ fn push_groups(
 ) -> Result<(), NoMemory>
     ensures { OnOk result (text.new.items ≡ text.old.items ++ groups_lines lead.now most spans groups.now) }
 {
-    push_all_groups(text, lead, spans, first_groups(groups, most))?;
+    push_all_groups(text, lead, spans, first_of(groups, most))?;
     push_rest(text, lead, groups.len().saturating_sub(most))
 }
 

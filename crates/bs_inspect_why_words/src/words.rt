@@ -3,54 +3,15 @@ ghost use Rattle.std.specs.Prelude.{◌≡◌, ◌<◌, ◌-◌, ◌^◌, ◌++�
 ghost use Rattle.std.specs.List.{flat_map};
 ghost use Rattle.bs_net.specs.Netlist.{parts_of};
 ghost use Rattle.bs_net_names.specs.Signals.{signal_in};
-ghost use Rattle.bs_net_names.specs.Values.{value_text};
-ghost use Rattle.bs_inspect_report.specs.Signal.{bit_at, signal_bits};
 ghost use Rattle.bs_inspect_why_words.specs.Facts.{behind_words, fact_bits, more_words, signal_words, signals_words, TellsFacts, TellsFirst};
 
 use crate::key::{fact_bits, fact_signals};
 use bs_bits::{Bits, List, NoMemory, push_number, push_piece};
+use bs_inspect_report::push_signal_value;
 use bs_net::Raw;
 use bs_net_facts::Fact;
-use bs_net_names::{Signal, push_rtl_name, push_value};
+use bs_net_names::{Signal, push_rtl_name};
 use std::alloc::Global;
-
-/// The bit at a place; 0 past the end.
-#[tactic(auto, using(crate::proofs::WordLemmas::bit_past))]
-pub(crate) fn bit_at(bits: &Bits, place: u32) -> bool
-    ensures { result ≡ bit_at bits.now place }
-{
-    if (place as usize) < bits.len() {
-        bits.get(place as usize)
-    } else {
-        false
-    }
-}
-
-/// The bits of a signal, the greatest first.
-#[tactic(auto, using(bs_inspect_report::proofs::SignalLemmas::bits_more))]
-fn signal_bits(alloc: Global, bits: &Bits, places: &[u32]) -> Result<Vec<bool>, NoMemory>
-    ensures { IfOk result (λ own. own.items ≡ signal_bits bits.now places.now) }
-{
-    let mut own = Vec::new(alloc);
-    'places: for place in places {
-        own.push(bit_at(bits, *place))?;
-    }
-    Ok(own)
-}
-
-/// Appends the value of a signal.
-#[tactic(auto, using(crate::proofs::WordLemmas::value_few))]
-pub(crate) fn push_signal_value(
-    text: &mut Vec<u8>,
-    bits: &Bits,
-    places: &[u32],
-) -> Result<(), NoMemory>
-    requires { length places.now < 2 ^ 32 }
-    ensures { OnOk result (text.new.items ≡ text.old.items ++ value_text (signal_bits bits.now places.now)) }
-{
-    let own = signal_bits(*text.allocator(), bits, places)?;
-    push_value(text, own.as_slice())
-}
 
 /// Appends a signal and its value.
 pub(crate) fn push_signal(
@@ -139,15 +100,15 @@ fn signals_text(alloc: Global, facts: &[Fact], signals: &[Signal<'_>]) -> Result
     Ok(words)
 }
 
-/// The first of some facts.
+/// The first members of a list.
 #[tactic(auto, using(crate::proofs::StepLemmas::all_first))]
-fn first_facts(facts: &[Fact], most: usize) -> &[Fact]
-    ensures { result.now ≡ take most facts.now }
+pub(crate) fn first_of<T>(members: &[T], most: usize) -> &[T]
+    ensures { result.now ≡ take most members.now }
 {
-    if most < facts.len() {
-        &facts[..most]
+    if most < members.len() {
+        &members[..most]
     } else {
-        facts
+        members
     }
 }
 
@@ -161,7 +122,7 @@ pub(crate) fn first_words(
 ) -> Result<List<u8>, NoMemory>
     ensures { IfOk result (λ words. TellsFirst (parts_of raw.now) most facts.now words) }
 {
-    let mut words = facts_words(alloc, raw, first_facts(facts, most))?;
+    let mut words = facts_words(alloc, raw, first_of(facts, most))?;
     push_more(&mut words, facts.len().saturating_sub(most))?;
     Ok(List::of(words))
 }

@@ -1,10 +1,10 @@
 -- What was read of the words behind a command, and the request that it is.
-use Rattle.std.proofs.Common.{◌≡◌, ◌∙◌, ℕ, ◌==◌, Bool, true, false, List, [], ◌∷◌, length, map, Option, Some, None, Result, Ok, Err, arith, refl, ap, sym, subst}
-use Rattle.std.specs.Prelude.{IfOk}
+use Rattle.std.proofs.Common.{◌≡◌, ◌∙◌, ℕ, ◌==◌, Bool, true, false, List, [], ◌∷◌, length, map, take, drop, Option, Some, None, Result, Ok, Err, arith, refl, ap, sym, subst}
+use Rattle.std.specs.Prelude.{IfOk, nat_lt}
 use Rattle.std.specs.Borrow.{Bor}
 use Rattle.std.specs.Option.{option_and_then, option_map}
 use Rattle.std.proofs.lemmas.Bool.{eqb-true}
-use Rattle.std.proofs.lemmas.List.{length-map}
+use Rattle.std.proofs.lemmas.List.{drop-map, length-map, take-map}
 use Rattle.bs_bits.specs.declared.memory.NoMemory.{NoMemory}
 use Rattle.bs_top_words.specs.declared.flags.Flag.TheVariants as F
 use Rattle.bs_top_words.specs.declared.given.Setting.{Setting as CodeSetting}
@@ -12,6 +12,7 @@ use Rattle.bs_top_words.specs.Asked.{setting_of}
 use Rattle.bs_top_words.specs.Given.{Given}
 use Rattle.bs_inspect_words.specs.declared.request.Request.{Request as CodeRequest}
 use Rattle.bs_inspect_words.specs.Asked.{shown_request}
+use Rattle.bs_inspect_words.specs.Request.{LengthsRequest, lengths_behind, lengths_words}
 use Rattle.bs_inspect_words.specs.Request.{EvidenceRequest, Cnf, Lrat, cnf_request, evidence_words, lrat_request}
 use Rattle.bs_inspect_words.specs.Request.{Request, Keys, Stimulus, are_runs, bare, from_of, keys_of, keys_request, name_of, only_name, stimulus_for, trace_flags, trace_of}
 use Rattle.bs_inspect_words.specs.Request.{trace_words, unscan_of, unscan_request, wave_flags, wave_of, wave_words, drawn_most, page_flags, page_of, page_words}
@@ -102,4 +103,14 @@ pub runs_none : (netlist : List ℕ) (vcds : Words) (clock : List ℕ) (scope na
     None ≡ stimulus_for netlist vcds clock scope names
 runs_none netlist vcds clock scope names not = sym (rw not refl)
 
--- ---- a length
+-- ---- lengths of an answer
+
+-- what is asked of lengths, by the first three words and those behind them
+pub lengths_there : {A : Type 0} (view : A → List ℕ) (words : List A) (asked : Option LengthsRequest) → nat_lt (length words) 3 ≡ false →
+    asked ≡ lengths_behind (map view (take 3 words)) (map view (drop 3 words)) → asked ≡ lengths_words (map view words)
+lengths_there view words asked enough is =
+    is ∙ ((λ i. lengths_behind (sym (take-map view 3 words) i) (sym (drop-map view 3 words) i))
+    ∙ sym (rw (length-map words view, enough) refl))
+
+pub lengths_few : {A : Type 0} (view : A → List ℕ) (words : List A) → nat_lt (length words) 3 ≡ true → None ≡ lengths_words (map view words)
+lengths_few view words few = sym (rw (length-map words view, few) refl)

@@ -12,11 +12,11 @@ use Rattle.bs_inspect_words.specs.declared.proposed.NovelRequest.{NovelRequest a
 use Rattle.bs_inspect_words.specs.declared.proposed.SignatureRequest.{SignatureRequest as CodeSignatureRequest}
 use Rattle.bs_inspect_words.specs.declared.causes.WhyRequest.{WhyRequest as CodeWhyRequest}
 use Rattle.bs_inspect_words.specs.declared.request.EvidenceRequest.{EvidenceRequest as CodeEvidenceRequest}
+use Rattle.bs_inspect_words.specs.declared.request.LengthsRequest.{LengthsRequest as CodeLengthsRequest}
 use Rattle.bs_inspect_words.specs.declared.request.Request.{Request as CodeRequest}
 use Rattle.bs_inspect_words.specs.declared.request.Request.TheVariants as R
-use Rattle.bs_inspect_words.specs.Request.{KeysRequest, TraceRequest, WaveRequest, StimulusRequest, DumpRequest, SignatureRequest, UnscanRequest, EvidenceRequest, PageRequest, NovelRequest, Request, WhyRequest}
-use Rattle.bs_inspect_words.specs.Request.{Help, Version, Flops, Inputs, Stats, Keys, Trace, TraceTable, Steps, StepsTable, Wave, Stimulus, Dump, Signature, Unscan, Cnf, Lrat, Page, Novel}
-use Rattle.bs_inspect_words.specs.Request.{Help, Version, Flops, Inputs, Stats, Keys, Trace, TraceTable, Steps, StepsTable, Wave, Stimulus, Dump, Signature, Unscan, Cnf, Lrat, Page, Novel, Why}
+use Rattle.bs_inspect_words.specs.Request.{KeysRequest, TraceRequest, WaveRequest, StimulusRequest, DumpRequest, SignatureRequest, UnscanRequest, EvidenceRequest, LengthsRequest, PageRequest, NovelRequest, Request, WhyRequest}
+use Rattle.bs_inspect_words.specs.Request.{Help, Version, Flops, Inputs, Stats, Keys, Trace, TraceTable, Steps, StepsTable, Wave, Stimulus, Dump, Signature, Unscan, Cnf, Lrat, ReachCnf, ReachLrat, Page, Novel, Why}
 
 abbrev pub keys_in : CodeKeysRequest → KeysRequest
 keys_in t = record { netlist = t.netlist.now; names = map (λ s. s.now) t.names.items }
@@ -56,6 +56,9 @@ unscan_in t = record { netlist = t.netlist.now; order = t.order.now; pattern = t
 abbrev pub evidence_in : CodeEvidenceRequest → EvidenceRequest
 evidence_in t = record { netlist = t.netlist.now; signature = t.signature.now; report = t.report.now; step = t.step }
 
+abbrev pub lengths_in : CodeLengthsRequest → LengthsRequest
+lengths_in t = record { netlist = t.netlist.now; state = t.state.now; answer = t.answer.now; length = t.length }
+
 abbrev pub page_in : CodePageRequest → PageRequest
 page_in t = record { netlist = t.netlist.now; report = t.report.now; most = t.most; only = map (λ s. s.now) t.only.items }
 
@@ -92,6 +95,8 @@ request_in (R.Signature t) = Signature (signature_in t)
 request_in (R.Unscan t) = Unscan (unscan_in t)
 request_in (R.Cnf t) = Cnf (evidence_in t)
 request_in (R.Lrat t) = Lrat (evidence_in t)
+request_in (R.ReachCnf t) = ReachCnf (lengths_in t)
+request_in (R.ReachLrat t) = ReachLrat (lengths_in t)
 request_in (R.Page t) = Page (page_in t)
 request_in (R.Novel t) = Novel (novel_in t)
 request_in (R.Why t) = Why (why_in t)

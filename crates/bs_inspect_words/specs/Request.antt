@@ -1,5 +1,5 @@
 -- Which words are a request, and which request they are (docs/FORMATS.md, "Words of `backspace_inspect`").
-use Rattle.std.specs.Prelude.{ℕ, nat_lt, nat_le, ◌==◌, Bool, true, false, ◌&&◌, ◌||◌, List, [], ◌∷◌, length, codes, Option, Some, None, if◌then◌else◌}
+use Rattle.std.specs.Prelude.{ℕ, nat_lt, nat_le, ◌==◌, Bool, true, false, ◌&&◌, ◌||◌, List, [], ◌∷◌, length, take, drop, codes, Option, Some, None, if◌then◌else◌}
 use Rattle.std.specs.Option.{option_map, option_and_then}
 use Rattle.std.specs.Str.{bytes_eq}
 use Rattle.bs_bits.specs.Lines.{number_in}
@@ -9,6 +9,7 @@ use Rattle.bs_top_words.specs.declared.flags.Flag.TheVariants as F
 use Rattle.bs_inspect_words.specs.declared.paged.TheConstants.{DEFAULT_DRAWN, MAX_DRAWN}
 use Rattle.bs_top_words.specs.declared.limits.TheConstants.{MAX_BITS, MAX_BOUND}
 use Rattle.bs_top_words.specs.Given.{Setting, Given, read_all, start}
+use Rattle.bs_top_words.specs.Job.{is_state}
 use Rattle.bs_top_words.specs.Options.{number_between}
 use Rattle.bs_vcd.specs.declared.cycles.When.{When}
 use Rattle.bs_vcd.specs.declared.cycles.When.TheVariants as W
@@ -82,6 +83,14 @@ pub record EvidenceRequest : Type 0 where
   pub report : List ℕ
   pub step : Option ℕ
 
+-- the files of `reach-cnf` and `reach-lrat`, the bits of a state between them, and a length; where there is none, all lengths that the
+-- answer refutes are meant
+pub record LengthsRequest : Type 0 where
+  pub netlist : List ℕ
+  pub state : List ℕ
+  pub answer : List ℕ
+  pub length : Option ℕ
+
 -- the files of `novel`, the number of a run, and how many lines it tells at most
 pub record NovelRequest : Type 0 where
   pub netlist : List ℕ
@@ -119,6 +128,8 @@ pub data Request : Type 0 where
   Unscan : UnscanRequest → Request
   Cnf : EvidenceRequest → Request
   Lrat : EvidenceRequest → Request
+  ReachCnf : LengthsRequest → Request
+  ReachLrat : LengthsRequest → Request
   Page : PageRequest → Request
   Novel : NovelRequest → Request
   Why : WhyRequest → Request
@@ -384,6 +395,39 @@ cnf_request given = option_map (λ (t : EvidenceRequest). Cnf t) (evidence_words
 abbrev pub lrat_request : Given → Option Request
 lrat_request given = option_map (λ (t : EvidenceRequest). Lrat t) (evidence_words given.positions given.settings)
 
+-- ---- lengths of an answer
+
+-- the length that a word is: a number of cycles
+abbrev pub cycles_of : List ℕ → Option (Option ℕ)
+cycles_of word = option_map (λ (n : ℕ). Some n) (number_between 1 MAX_BOUND word)
+
+abbrev pub cycles_behind : (option number : List ℕ) → Option (Option ℕ)
+cycles_behind option number = if bytes_eq option (codes "--length") then cycles_of number else None
+
+-- the length behind the words by position, if there is one
+abbrev pub length_of : List (List ℕ) → Option (Option ℕ)
+length_of [] = Some None
+length_of (option ∷ number ∷ []) = cycles_behind option number
+length_of _ = None
+
+-- a state is one or more characters 0 and 1
+abbrev pub lengths_for : (netlist state answer : List ℕ) → Option ℕ → Option LengthsRequest
+lengths_for netlist state answer length =
+    if is_state state then Some record { netlist = netlist; state = state; answer = answer; length = length } else None
+
+abbrev pub lengths_at : List (List ℕ) → Option (Option ℕ) → Option LengthsRequest
+lengths_at (netlist ∷ state ∷ answer ∷ []) (Some length) = lengths_for netlist state answer length
+lengths_at _ length = None
+
+-- three words by position, and those behind them
+abbrev pub lengths_behind : (positions behind : List (List ℕ)) → Option LengthsRequest
+lengths_behind positions behind =
+    option_and_then (λ (given : Given). lengths_at given.positions (length_of behind)) (read_all [] positions start)
+
+-- `reach-cnf` and `reach-lrat` have a file name, the bits of a state and a file name, and last perhaps `--length` and a number
+abbrev pub lengths_words : List (List ℕ) → Option LengthsRequest
+lengths_words words = if nat_lt (length words) 3 then None else lengths_behind (take 3 words) (drop 3 words)
+
 -- ---- the values that one run alone has
 
 abbrev pub novel_flags : List Flag
@@ -493,7 +537,17 @@ command_request command given =
     else (if bytes_eq command (codes "page") then page_request given
     else other_request command given))))
 
+-- the request of a command whose options stand anywhere behind it
+abbrev pub given_request : List ℕ → List (List ℕ) → Option Request
+given_request command words = option_and_then (command_request command) (read_all all_flags words start)
+
+abbrev pub spelled_request : List ℕ → List (List ℕ) → Option Request
+spelled_request command words =
+    if bytes_eq command (codes "reach-cnf") then option_map (λ (t : LengthsRequest). ReachCnf t) (lengths_words words)
+    else (if bytes_eq command (codes "reach-lrat") then option_map (λ (t : LengthsRequest). ReachLrat t) (lengths_words words)
+    else given_request command words)
+
 -- the request that words are: the first is the command
 abbrev pub request_of : List (List ℕ) → Option Request
 request_of [] = None
-request_of (command ∷ words) = option_and_then (command_request command) (read_all all_flags words start)
+request_of (command ∷ words) = spelled_request command words

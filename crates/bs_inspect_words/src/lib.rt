@@ -1,7 +1,7 @@
 //! The words of a command line of the companion: which are a request, and which one they are.
 //!
 //! Modules: `settings` (options and their values), `request` and `proposed` (`Request`), `named`, `report`, `simulation`,
-//! `signature`, `novel`, `evidence`, `page`, `why` (the commands; what the last two ask: `paged`, `causes`),
+//! `signature`, `novel`, `evidence`, `lengths`, `page`, `why` (the commands; what the last two ask: `paged`, `causes`),
 //! `reading` (`read_request`). Words by position and
 //! options are parted by bs_top_words. Used above:
 //! `read_request` answers `request_of` (`specs/Request`). A command: a record and a variant of `Request` in code and
@@ -11,6 +11,7 @@
 
 mod causes;
 mod evidence;
+mod lengths;
 mod named;
 mod novel;
 mod page;
@@ -30,6 +31,6 @@ pub use paged::{DEFAULT_DRAWN, MAX_DRAWN, PageRequest};
 pub use proposed::{NovelRequest, SignatureRequest};
 pub use reading::read_request;
 pub use request::{
-    DumpRequest, EvidenceRequest, KeysRequest, Request, StimulusRequest, TraceRequest,
-    UnscanRequest, WaveRequest,
+    DumpRequest, EvidenceRequest, KeysRequest, LengthsRequest, Request, StimulusRequest,
+    TraceRequest, UnscanRequest, WaveRequest,
 };

@@ -3,9 +3,10 @@ ghost use Rattle.std.specs.Prelude.{◌≡◌, map, string_bytes, IfOk};
 ghost use Rattle.bs_top_words.specs.Asked.{given_in, shown};
 ghost use Rattle.bs_top_words.specs.Given.{read_all, start};
 ghost use Rattle.bs_inspect_words.specs.Asked.{shown_request};
-ghost use Rattle.bs_inspect_words.specs.Request.{all_flags, bare_request, command_request, is_help, is_version, other_request, request_of};
+ghost use Rattle.bs_inspect_words.specs.Request.{all_flags, bare_request, command_request, given_request, is_help, is_version, other_request, request_of, spelled_request};
 
 use crate::evidence::{cnf_request, lrat_request};
+use crate::lengths::{reach_cnf_request, reach_lrat_request};
 use crate::named::{
     flops_request, help_request, inputs_request, keys_request, stats_request, unscan_request,
     version_request,
@@ -140,6 +141,38 @@ fn read_shown<'a>(alloc: Global, words: &'a [String]) -> Result<Option<Given<'a>
     Ok(given)
 }
 
+/// The request of a command whose options stand anywhere behind it.
+fn given_request<'a>(
+    alloc: Global,
+    command: &str,
+    words: &'a [String],
+) -> Result<Option<Request<'a>>, NoMemory>
+    ensures { IfOk result (λ request. shown_request request ≡ given_request command.now (map string_bytes words.now)) }
+{
+    let Some(given) = read_shown(alloc, words)? else {
+        return Ok(None);
+    };
+    let request = command_request(alloc, command, &given)?;
+    Ok(request)
+}
+
+/// The request of a command and the words behind it.
+fn spelled_request<'a>(
+    alloc: Global,
+    command: &str,
+    words: &'a [String],
+) -> Result<Option<Request<'a>>, NoMemory>
+    ensures { IfOk result (λ request. shown_request request ≡ spelled_request command.now (map string_bytes words.now)) }
+{
+    if command == "reach-cnf" {
+        return reach_cnf_request(alloc, words);
+    }
+    if command == "reach-lrat" {
+        return reach_lrat_request(alloc, words);
+    }
+    given_request(alloc, command, words)
+}
+
 /// The request that the words of a command line are, without the program's name, if they are one. The first word is the
 /// command.
 pub fn read_request(alloc: Global, words: &[String]) -> Result<Option<Request<'_>>, NoMemory>
@@ -148,9 +181,6 @@ pub fn read_request(alloc: Global, words: &[String]) -> Result<Option<Request<'_
     let [command, rest @ ..] = words else {
         return Ok(None);
     };
-    let Some(given) = read_shown(alloc, rest)? else {
-        return Ok(None);
-    };
-    let request = command_request(alloc, command.as_str(), &given)?;
+    let request = spelled_request(alloc, command.as_str(), rest)?;
     Ok(request)
 }

@@ -73,6 +73,16 @@ pub struct EvidenceRequest<'a> {
     pub step: Option<u64>,
 }
 
+/// `reach-cnf` and `reach-lrat`: the names of its files, the bits of a state, and a length; where there is none, all lengths that the
+/// answer refutes are meant.
+#[derive(Clone, Copy)]
+pub struct LengthsRequest<'a> {
+    pub netlist: &'a str,
+    pub state: &'a str,
+    pub answer: &'a str,
+    pub length: Option<u64>,
+}
+
 /// What a command line asks to be told.
 #[derive(Drop)]
 pub enum Request<'a> {
@@ -110,6 +120,10 @@ pub enum Request<'a> {
     Cnf(EvidenceRequest<'a>),
     /// The proof that a step's list is complete, or all lists.
     Lrat(EvidenceRequest<'a>),
+    /// The clauses on which it stands that a state is not reached in a length, or in any that an answer refutes.
+    ReachCnf(LengthsRequest<'a>),
+    /// The proof that a state is not reached in a length, or in any that an answer refutes.
+    ReachLrat(LengthsRequest<'a>),
     /// A report as a page.
     Page(PageRequest<'a>),
     /// The values that one recorded run alone has.

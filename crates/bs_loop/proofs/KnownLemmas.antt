@@ -48,7 +48,7 @@ nothing_here m e = cc
 -- ---- where no moment before the present is at hand
 
 known_alone : (r : Recording) (now : Dump) (stored : List Bool) (at : Option Moment) (sought : Sought) →
-    ((m : Moment) → at ≡ Some m → 1 ≤ m.cycle → ⊥) → SoughtOfAll r now.state stored now.older sought → IsCutAt r MAX_ASKS sought →
+    ((m : Moment) → at ≡ Some m → 1 ≤ m.cycle → ⊥) → SoughtOfAll r now.state stored now.older sought → IsCutAt r stored MAX_ASKS sought →
     IsKnown r now stored at (known_by sought None None).cand (known_by sought None None).answer
 known_alone r now stored at (Found f) never h far =
     record {
@@ -59,7 +59,7 @@ known_alone r now stored at (Found f) never h far =
 known_alone r now stored at NoMoment never h far =
     record { right = tt; reach = record { is = refl; none = h }; sooner = λ m e low. absurd (never m e low) }
 known_alone r now stored at (Cut m) never h far =
-    record { right = tt; reach = record { none = h; far = far }; sooner = λ m e low. absurd (never m e low) }
+    record { right = tt; reach = record { stays = h; far = far }; sooner = λ m e low. absurd (never m e low) }
 known_alone r now stored at (Unsaid m) never h far = record { right = tt; reach = h; sooner = λ m e low. absurd (never m e low) }
 
 -- ---- where it is
@@ -125,7 +125,7 @@ found_sooner r now stored m cand found run cycle floor first state =
     })
 
 known_above : (r : Recording) (now : Dump) (stored : List Bool) (m : Moment) (cand : Cand) (sought : Sought) → IsFloor r now stored m cand →
-    SoughtSooner r now.state stored now.older (moment m.run (m.cycle - 1)) sought → IsCutAt r MAX_ASKS sought →
+    SoughtSooner r now.state stored now.older (moment m.run (m.cycle - 1)) sought → IsCutAt r stored MAX_ASKS sought →
     IsKnown r now stored (Some m) (known_by sought (Some (moment m.run (m.cycle - 1))) (Some cand)).cand
     (known_by sought (Some (moment m.run (m.cycle - 1))) (Some cand)).answer
 known_above r now stored m cand (Found f) floor h far =
@@ -152,7 +152,7 @@ known_above r now stored m cand NoMoment floor h far =
       sooner = floor_sooner r now stored m cand floor;
     }
 known_above r now stored m cand (Cut o) floor h far =
-    record { right = floor.right; reach = record { none = h; far = far }; sooner = floor_sooner r now stored m cand floor }
+    record { right = floor.right; reach = record { stays = h; far = far }; sooner = floor_sooner r now stored m cand floor }
 known_above r now stored m cand (Unsaid o) floor h far =
     record { right = floor.right; reach = h; sooner = floor_sooner r now stored m cand floor }
 
@@ -181,7 +181,7 @@ floor_may r now (Some m) most stands few =
 
 pub is_known : (r : Recording) (now : Dump) (stored : List Bool) (at : Option Moment) (sought : Sought) → IsRecording r → IfSome at (StandsIn r now) →
     signatures_of now ≡ stored ∷ option_to_list now.older → SoughtWithin r now.state stored now.older (floor_of at) sought →
-    IsCutAt r MAX_ASKS sought →
+    IsCutAt r stored MAX_ASKS sought →
     IsKnown r now stored at (known_by sought (floor_of at) (known_before r at)).cand (known_by sought (floor_of at) (known_before r at)).answer
 is_known r now stored None sought sound stands held h far = known_alone r now stored None sought (λ m e low. nothing_here m e) h far
 is_known r now stored (Some m) sought sound stands held h far =
@@ -336,7 +336,7 @@ met_counted r now stored known first old new k b listing circuits choices whole 
 -- ---- what a search has seen of a list
 
 seen_whole : (r : Recording) (now : Dump) (stored : List Bool) (known : Option Cand) (cands : List Cand) (first : Option Moment) (reach : Reach) →
-    Reaches r (asked_in r now.state stored now.older) known first reach →
+    Reaches r (asked_in r now.state stored now.older) stored known first reach →
     (MatchOption known (IsOfNone r (asked_in r now.state stored now.older) first) (IsOfFirst r (asked_in r now.state stored now.older) first) →
     first_moment r.circuit r.runs (listed cands) ≡ first_moment r.circuit r.runs (asked_in r now.state stored now.older)) →
     Sees r cands (seen_at first reach)
@@ -349,7 +349,7 @@ seen_whole r now stored known cands first (Unanswered m) h met = tt
 
 seen_given : (r : Recording) (now : Dump) (stored : List Bool) (known : Option Cand) (answer : SearchAnswer) (old new : PreimageState) (k b : ℕ)
     (listing : Listing) → old.circuit ≡ r.circuit → old.choice ≡ r.choice →
-    Reaches r (asked_in r now.state stored now.older) known answer.first answer.reach →
+    Reaches r (asked_in r now.state stored now.older) stored known answer.first answer.reach →
     HasListed old new now.state stored now.older known k b listing → (end : ListEnd) → listing.end ≡ end →
     Sees r listing.cands (seen_by (Some answer) end)
 seen_given r now stored known answer old new k b listing circuits choices h l (Finished id) e =

@@ -21,7 +21,7 @@ use Rattle.bs_loop.specs.declared.known.SearchAnswer.{SearchAnswer}
 use Rattle.bs_loop.specs.declared.known.Reach.{Reach}
 use Rattle.bs_loop.specs.declared.known.Reach.TheVariants.{Whole, Limited, Unanswered}
 use Rattle.bs_loop.specs.KnownCand.{reach_by, IsAsked, Reaches}
-use Rattle.bs_loop.specs.Searched.{HitsBy, HitsFirst, AreSearched, IsOneSearched, IsTurnSearched}
+use Rattle.bs_loop.specs.Searched.{HitsBy, HitsFirst, AreSearched, WereSearched, IsOneSearched, IsTurnSearched}
 use Rattle.bs_loop.specs.Turn.{step_of, HasLookedFrom}
 use Rattle.bs_loop.proofs.KnownLemmas.{met_finished, met_counted}
 
@@ -41,7 +41,7 @@ unasked_met r now stored known old new k b listing circuits choices l Conflicts 
 
 -- one that a whole search answered
 asked_met : (r : Recording) (now : Dump) (stored : List Bool) (known : Option Cand) (first : Option Moment) (old new : PreimageState) (k b : ℕ)
-    (listing : Listing) → old.circuit ≡ r.circuit → old.choice ≡ r.choice → Reaches r (asked_in r now.state stored now.older) known first Whole →
+    (listing : Listing) → old.circuit ≡ r.circuit → old.choice ≡ r.choice → Reaches r (asked_in r now.state stored now.older) stored known first Whole →
     HasListed old new now.state stored now.older known k b listing → (end : ListEnd) → listing.end ≡ end → end ≢ Conflicts →
     first_moment r.circuit r.runs (listed listing.cands) ≡ first_moment r.circuit r.runs (asked_in r now.state stored now.older)
 asked_met r now stored known first old new k b listing circuits choices h l (Finished id) e spent =
@@ -53,7 +53,7 @@ asked_met r now stored known first old new k b listing circuits choices h l Conf
 given_hits : (r : Recording) (budgets : Budgets) (old new : PreimageState) (now : Dump) (stored : List Bool) (at : Option Moment) (listing : Listing)
     (hit : Option Hit) (reach : Reach) (answer : SearchAnswer) (given_reach : Reach) → old.circuit ≡ r.circuit → old.choice ≡ r.choice →
     (from : HasLookedFrom r budgets old new now stored at listing hit reach) →
-    Reaches r (asked_in r now.state stored now.older) from.known answer.first given_reach → HitsBy r (step_of now stored listing hit) given_reach
+    Reaches r (asked_in r now.state stored now.older) stored from.known answer.first given_reach → HitsBy r (step_of now stored listing hit) given_reach
 given_hits r budgets old new now stored at listing hit reach answer Whole circuits choices from h =
     λ spent.
     from.back.line
@@ -130,3 +130,9 @@ searched_more r steps more reaches longer all turn = by turn.either
     by : ((more ≡ steps) × (longer ≡ reaches)) ⊎ IsOneSearched r steps more reaches longer → AreSearched r more longer
     by (inl same) = subst (λ (l : List Step). AreSearched r l longer) (sym same.0) (subst (AreSearched r steps) (sym same.1) all)
     by (inr one) = one_more r steps more reaches longer all one
+
+-- what was searched for the steps of a result
+pub were_searched : {A E : Type 0} (r : Recording) (steps : A → List Step) (reaches : List Reach) (result : Result A E) →
+    IfOk result (λ way. AreSearched r (steps way) reaches) → IfOk result (λ way. WereSearched r (steps way))
+were_searched r steps reaches (Ok way) are = record { reaches = reaches; are = are }
+were_searched r steps reaches (Err want) are = tt

@@ -12,7 +12,7 @@ use Rattle.bs_preimage.specs.Listed.{IsRightCand}
 use Rattle.bs_preimage_recorded.specs.declared.search.Sought.{Sought}
 use Rattle.bs_preimage_recorded.specs.declared.search.Sought.TheVariants.{Found, NoMoment, Cut, Unsaid}
 use Rattle.bs_preimage_recorded.specs.declared.search.TheConstants.{MAX_ASKS}
-use Rattle.bs_preimage_recorded.specs.Search.{asked_in, place_of, NoneSooner}
+use Rattle.bs_preimage_recorded.specs.Search.{asked_in, alike_before, StaysOpen}
 use Rattle.bs_loop.specs.declared.known.SearchAnswer.{SearchAnswer}
 use Rattle.bs_loop.specs.declared.known.KnownCand.{KnownCand}
 use Rattle.bs_loop.specs.declared.known.Reach.{Reach}
@@ -44,17 +44,18 @@ pub record IsOfNone (r : Recording) (states : List (List Bool)) (first : Option 
   pub is : first ≡ None
   pub none : NoneReached r.circuit r.runs states
 
--- no moment before one is in one of these states, and there are as many as a search asks about
-pub record IsCutFar (r : Recording) (states : List (List Bool)) (m : Moment) : Type 0 where
-  pub none : NoneSooner r states m
-  pub far : MAX_ASKS ≤ place_of r m
+-- No moment before one is in one of these states, and of as many of them as a search may ask about the signature has the hash of the stored
+-- one.
+pub record IsCutFar (r : Recording) (states : List (List Bool)) (stored : List Bool) (m : Moment) : Type 0 where
+  pub stays : StaysOpen r states stored m
+  pub far : MAX_ASKS ≤ alike_before r stored m
 
--- How far the recorded moments were searched for one of these states: the known candidate is of the first of all, or no moment is in one;
--- or the search was cut.
-abbrev pub Reaches : Recording → List (List Bool) → Option Cand → Option Moment → Reach → Type 0
-Reaches r states known first Whole = MatchOption known (IsOfNone r states first) (IsOfFirst r states first)
-Reaches r states known first (Limited m) = IsCutFar r states m
-Reaches r states known first (Unanswered m) = NoneSooner r states m
+-- How far the recorded moments were searched for one of these states, which have this stored signature: the known candidate is of the first
+-- of all, or no moment is in one; or the search was cut.
+abbrev pub Reaches : Recording → List (List Bool) → List Bool → Option Cand → Option Moment → Reach → Type 0
+Reaches r states stored known first Whole = MatchOption known (IsOfNone r states first) (IsOfFirst r states first)
+Reaches r states stored known first (Limited m) = IsCutFar r states stored m
+Reaches r states stored known first (Unanswered m) = StaysOpen r states stored m
 
 -- a candidate is known that has the state of a moment before the cycle of another
 pub record HasSooner (r : Recording) (known : Option Cand) (m : Moment) : Type 0 where
@@ -69,7 +70,7 @@ pub record HasSooner (r : Recording) (known : Option Cand) (m : Moment) : Type 0
 -- is known.
 pub record IsKnown (r : Recording) (now : Dump) (stored : List Bool) (at : Option Moment) (known : Option Cand) (answer : SearchAnswer) : Type 0 where
   pub right : IfSome known (IsRightCand r.circuit r.choice now.state stored now.older)
-  pub reach : Reaches r (asked_in r now.state stored now.older) known answer.first answer.reach
+  pub reach : Reaches r (asked_in r now.state stored now.older) stored known answer.first answer.reach
   pub sooner : (m : Moment) → at ≡ Some m → 1 ≤ m.cycle → HasSooner r known m
 
 -- an answer was given

@@ -7,7 +7,7 @@ use Rattle.bs_report.specs.declared.report.HitLine.{HitLine}
 use Rattle.bs_report.specs.declared.report.ListEnd.TheVariants.{Conflicts}
 use Rattle.bs_report.specs.declared.report.Step.{Step}
 use Rattle.bs_report_good.specs.Step.{stored_of}
-use Rattle.bs_preimage_recorded.specs.Search.{NoneSooner}
+use Rattle.bs_preimage_recorded.specs.Search.{StaysOpen}
 use Rattle.bs_loop.specs.KnownCand.{IsCutFar}
 use Rattle.bs_loop.specs.declared.known.Reach.{Reach}
 use Rattle.bs_loop.specs.declared.known.Reach.TheVariants.{Whole, Limited, Unanswered}
@@ -23,11 +23,12 @@ sought_by r step = predecessors r.circuit r.choice step.present (stored_of step)
 
 -- A step whose search was whole, and whose list did not end with conflicts, hits the first moment of any run in a predecessor, of all
 -- predecessors and not only of the listed ones; and where it has no hit, no recorded moment is in one. Where the search was cut, no moment
--- before one is, of which nothing is known: there are as many before it as a search may ask about, or the solver said nothing of it.
+-- before one is, of which nothing is known. Its signature has the hash of the stored one. So have as many before it as a search may ask
+-- about, or else the solver said nothing of it.
 abbrev pub HitsBy : Recording → Step → Reach → Type 0
 HitsBy r step Whole = step.end ≢ Conflicts → step.hit ≡ hit_among r (sought_by r step)
-HitsBy r step (Limited m) = IsCutFar r (sought_by r step) m
-HitsBy r step (Unanswered m) = NoneSooner r (sought_by r step) m
+HitsBy r step (Limited m) = IsCutFar r (sought_by r step) step.stored m
+HitsBy r step (Unanswered m) = StaysOpen r (sought_by r step) step.stored m
 
 pub record HitsFirst (r : Recording) (step : Step) (reach : Reach) : Type 0 where
   pub hit : HitsBy r step reach
@@ -36,6 +37,11 @@ pub record HitsFirst (r : Recording) (step : Step) (reach : Reach) : Type 0 wher
 pub record AreSearched (r : Recording) (steps : List Step) (reaches : List Reach) : Type 0 where
   pub count : length reaches ≡ length steps
   pub each : (i : ℕ) (step : Step) (reach : Reach) → slice_get steps i ≡ Some step → slice_get reaches i ≡ Some reach → HitsFirst r step reach
+
+-- they do, by what was searched for each
+pub record WereSearched (r : Recording) (steps : List Step) : Type 0 where
+  pub reaches : List Reach
+  pub are : AreSearched r steps reaches
 
 -- one more step, and how far was searched for it
 pub record IsOneSearched (r : Recording) (steps more : List Step) (reaches longer : List Reach) : Type 0 where

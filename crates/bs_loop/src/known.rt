@@ -26,7 +26,8 @@ use std::alloc::Global;
 pub enum Reach {
     /// The step hits the first moment of all, or none is in one, unless its list ended with conflicts.
     Whole,
-    /// As many states as the limit were asked about. No moment before this one is in a predecessor.
+    /// As many states as the limit were asked about, each with the hash of the stored signature. No moment before this one is in a
+    /// predecessor.
     Limited(Moment),
     /// The solver did not say whether the state of this moment is a predecessor. No moment before it is in one.
     Unanswered(Moment),
@@ -96,7 +97,7 @@ fn seek<'a>(
     requires stored { signatures_of now.now ≡ stored.now ∷ option_to_list now.now.older }
     requires conflicts { 1 ≤ b }
     ensures sought { IfOk result (SoughtWithin chip.old.recording now.now.state stored.now now.now.older (floor_of at)) }
-    ensures cut { IfOk result (IsCutAt chip.old.recording MAX_ASKS) }
+    ensures cut { IfOk result (IsCutAt chip.old.recording stored.now MAX_ASKS) }
     ensures chip { chip.new ≡ chip.old }
     ensures finder { finder.new.recording ≡ finder.old.recording }
 {

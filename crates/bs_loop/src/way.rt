@@ -19,7 +19,7 @@ ghost use Rattle.bs_loop.specs.Made.{HasMade};
 ghost use Rattle.bs_loop.specs.Way.{HasEnded};
 ghost use Rattle.bs_loop.specs.Report.{IsAlikeButLog, IsOfWay, IsWithLog};
 ghost use Rattle.bs_loop.specs.Bound.{HasBound};
-ghost use Rattle.bs_loop.specs.Searched.{AreSearched};
+ghost use Rattle.bs_loop.specs.Searched.{AreSearched, WereSearched};
 
 use crate::known::Reach;
 use crate::steps::turn;
@@ -109,13 +109,11 @@ fn walk(
     preimage: &mut Preimage<'_>,
     dump: &Dump,
     budgets: &Budgets,
-    searched: &mut List<Reach>,
 ) -> Result<Way, NoMemory>
-    requires searched { searched.old ≡ [] }
     requires fresh { preimage.old ≡ fresh chip.old.recording.circuit chip.old.recording.choice }
     requires dump { DumpFits chip.old.recording.circuit chip.old.recording.choice dump.now }
     requires budgets { IsBudget budgets.now }
-    ensures searched { IfOk result (λ way. AreSearched chip.old.recording way.steps searched.new) }
+    ensures searched { IfOk result (λ way. WereSearched chip.old.recording way.steps) }
     ensures made { IfOk result (λ way. HasMade (crash_of chip.old.recording dump.now) budgets.now way.steps preimage.new) }
     ensures few { IfOk result (λ way. length way.steps ≤ budgets.now.steps) }
     ensures stop { IfOk result (λ way. StopsFor (crash_of chip.old.recording dump.now) budgets.now way.steps way.stop) }
@@ -124,7 +122,17 @@ fn walk(
     match finder_of(alloc, chip, preimage) {
         Ok(found) => {
             let mut finder = found;
-            let way = walk_turns(alloc, chip, &mut finder, preimage, dump, budgets, searched);
+            let mut searched = List::new(alloc);
+            let way = walk_turns(
+                alloc,
+                chip,
+                &mut finder,
+                preimage,
+                dump,
+                budgets,
+                &mut searched,
+            );
+            drop(searched);
             drop(finder);
             way
         }
@@ -183,18 +191,16 @@ fn unlogged(
     preimage: &mut Preimage<'_>,
     dump: &Dump,
     budgets: &Budgets,
-    searched: &mut List<Reach>,
 ) -> Result<Report, NoMemory>
-    requires searched { searched.old ≡ [] }
     requires fresh { preimage.old ≡ fresh chip.old.recording.circuit chip.old.recording.choice }
     requires dump { DumpFits chip.old.recording.circuit chip.old.recording.choice dump.now }
     requires budgets { IsBudget budgets.now }
-    ensures searched { IfOk result (λ r. AreSearched chip.old.recording r.steps searched.new) }
+    ensures searched { IfOk result (λ r. WereSearched chip.old.recording r.steps) }
     ensures way { IfOk result (λ r. IsOfWay dump.now budgets.now r.steps r.stop r) }
     ensures ended { IfOk result (λ r. HasEnded (crash_of chip.old.recording dump.now) budgets.now r.steps preimage.new r.stop) }
     ensures chip { chip.new.recording ≡ chip.old.recording }
 {
-    match walk(alloc, chip, preimage, dump, budgets, searched) {
+    match walk(alloc, chip, preimage, dump, budgets) {
         Ok(way) => reported(alloc, way, dump, budgets),
         Err(want) => Err(want),
     }
@@ -239,41 +245,11 @@ fn logged(report: Result<Report, NoMemory>, preimage: Preimage<'_>) -> Result<Re
     }
 }
 
-/// The backtrace of a dump, as `backtrace`, and for each step how far the recorded moments were searched. Where the search was whole the
-/// step hits the first moment of any run whose state is a predecessor that agrees with the stored signatures, of all predecessors and
-/// not only of the listed ones, unless its list ends with conflicts; and where it was cut, no moment before the one that it came to is
-/// in a predecessor.
-pub fn backtrace_searched(
-    alloc: Global,
-    chip: &mut Chip<'_>,
-    preimage: Preimage<'_>,
-    dump: &Dump,
-    budgets: &Budgets,
-    searched: &mut List<Reach>,
-) -> Result<Report, NoMemory>
-    requires searched { searched.old ≡ [] }
-    requires fresh { preimage ≡ fresh chip.old.recording.circuit chip.old.recording.choice }
-    requires dump { DumpFits chip.old.recording.circuit chip.old.recording.choice dump.now }
-    requires budgets { IsBudget budgets.now }
-    ensures budgets { IfOk result (λ r. r.budgets ≡ budgets.now) }
-    ensures good { IfOk result (IsGood (crash_of chip.old.recording dump.now)) }
-    ensures valid { IfOk result (λ r. IsValid (crash_of chip.old.recording dump.now) (basis_of chip.old.recording.circuit chip.old.recording.choice (map present_of r.steps)) r) }
-    ensures progress { IfOk result GoesBack }
-    ensures bound { IfOk result (λ r. HasBound (basis_of chip.old.recording.circuit chip.old.recording.choice (map present_of r.steps)).problem r) }
-    ensures readable { IfOk result HasReportText }
-    ensures trace { IfOk result (λ r. length r.states ≡ length r.inputs + 1) }
-    ensures lean { IfOk result (λ r. IsLean (basis_of chip.old.recording.circuit chip.old.recording.choice (map present_of r.steps)).problem (history_of r.log)) }
-    ensures searched { IfOk result (λ r. AreSearched chip.old.recording r.steps searched.new) }
-    ensures chip { chip.new.recording ≡ chip.old.recording }
-{
-    chip.is_recording();
-    let mut preimage = preimage;
-    let report = unlogged(alloc, chip, &mut preimage, dump, budgets, searched);
-    logged(report, preimage)
-}
-
 /// The backtrace of a dump: its report is good and valid. The dump has the widths of the chip, and `preimage` is of the same
-/// netlist and signature. The moment before a hit is among the candidates that follow, unless their list ends with conflicts.
+/// netlist and signature. The moment before a hit is among the candidates that follow, unless their list ends with conflicts. Where a
+/// list is about to be cut, the recorded moments are searched. Where the search was whole the step hits the first moment of any run whose
+/// state is a predecessor that agrees with the stored signatures, of all predecessors and not only of the listed ones, unless its list
+/// ends with conflicts; and where it was cut, no moment before the one that it came to is in a predecessor.
 pub fn backtrace(
     alloc: Global,
     chip: &mut Chip<'_>,
@@ -292,10 +268,11 @@ pub fn backtrace(
     ensures readable { IfOk result HasReportText }
     ensures trace { IfOk result (λ r. length r.states ≡ length r.inputs + 1) }
     ensures lean { IfOk result (λ r. IsLean (basis_of chip.old.recording.circuit chip.old.recording.choice (map present_of r.steps)).problem (history_of r.log)) }
+    ensures searched { IfOk result (λ r. WereSearched chip.old.recording r.steps) }
     ensures chip { chip.new.recording ≡ chip.old.recording }
 {
-    let mut searched = List::new(alloc);
-    let report = backtrace_searched(alloc, chip, preimage, dump, budgets, &mut searched);
-    drop(searched);
-    report
+    chip.is_recording();
+    let mut preimage = preimage;
+    let report = unlogged(alloc, chip, &mut preimage, dump, budgets);
+    logged(report, preimage)
 }

@@ -1,14 +1,20 @@
 -- Notes on files that do not read, on an output that does not take the answer, and on a moment that no run has.
-use Rattle.std.specs.Prelude.{◌≡◌, ℕ, List, [], ◌++◌, codes, decimal, length, nat_le, ◌&&◌, Option, Some, None, IfNone, if◌then◌else◌}
+use Rattle.std.specs.Prelude.{◌≡◌, ℕ, List, [], ◌++◌, codes, decimal, length, nat_le, ◌&&◌, Option, Some, None, if◌then◌else◌}
 use Rattle.std.specs.declared.io.ErrorKind.{ErrorKind}
 use Rattle.bs_stim.specs.Runs.{Stimulus, run_at}
 use Rattle.bs_top_plan.specs.declared.file.File.{File}
 use Rattle.bs_top_plan.specs.Files.{file_word, limit_of}
 use Rattle.bs_note_files.specs.Notes.{file_text, pair_text, plain_text}
+use Rattle.bs_note_calls.specs.Reasons.{output_reason, unread_reason}
 
--- a file that does not read: its name, and some reason
-abbrev pub IsUnreadNote : List ℕ → List ℕ → Type 0
-IsUnreadNote path note = (reason : List ℕ) × (note ≡ file_text path reason)
+-- a file that does not read: its name, and the reason by the kind of the error, where it is known
+abbrev pub unread_text : List ℕ → Option ErrorKind → List ℕ
+unread_text path kind = file_text path (unread_reason path kind)
+
+-- the note is on a file that does not read, by some kind of error
+pub record IsUnreadNote (path note : List ℕ) : Type 0 where
+  pub kind : Option ErrorKind
+  pub written : note ≡ unread_text path kind
 
 -- a file that is longer than its limit
 abbrev pub long_sentence : File → List ℕ
@@ -17,7 +23,7 @@ long_sentence file = codes "the file has more bytes than a " ++ (file_word file 
 abbrev pub long_text : File → List ℕ → List ℕ
 long_text file path = file_text path (long_sentence file)
 
--- an output that did not take a line, after so many whole lines, for some reason
+-- an output that did not take a line, after so many whole lines, for a reason
 abbrev pub output_sentence : ℕ → List ℕ → List ℕ
 output_sentence lines reason = codes "standard output failed after " ++ (decimal lines ++ (codes " whole lines: " ++ reason))
 
@@ -26,10 +32,9 @@ output_text lines reason =
     pair_text (output_sentence lines reason)
     (codes "what went out is the front of the answer; send it to a file with room, or let the reader read on")
 
-pub record IsOutputNote (lines : ℕ) (kind : Option ErrorKind) (note : List ℕ) : Type 0 where
-  pub reason : List ℕ
-  pub none : IfNone kind (reason ≡ codes "no reason is known")
-  pub written : note ≡ output_text lines reason
+-- the note is on an output that took so many whole lines, by this kind of error
+abbrev pub IsOutputNote : ℕ → Option ErrorKind → List ℕ → Type 0
+IsOutputNote lines kind note = note ≡ output_text lines (output_reason kind)
 
 -- out of memory
 abbrev pub memory_text : List ℕ

@@ -1,14 +1,8 @@
 -- Notes on the stops of a run.
-use Rattle.std.specs.Prelude.{◌==◌, ℕ, List, ◌++◌, codes, decimal, Option, Some, None, Vec, if◌then◌else◌}
-use Rattle.std.specs.declared.alloc.Global.{Global}
+use Rattle.std.specs.Prelude.{◌==◌, ℕ, List, ◌++◌, codes, decimal, Option, Some, None, if◌then◌else◌}
 use Rattle.bs_report.specs.declared.report.Stop.{Stop}
 use Rattle.bs_report.specs.declared.report.Stop.TheVariants as S
 use Rattle.bs_note_files.specs.Notes.{pair_text}
-
--- the bytes of a note, where there is one
-abbrev pub items_of : Option (Vec ℕ Global) → Option (List ℕ)
-items_of None = None
-items_of (Some note) = Some note.items
 
 -- two sentences, the first with the number of a step behind it
 abbrev pub step_text : List ℕ → ℕ → List ℕ → List ℕ

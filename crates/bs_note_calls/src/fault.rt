@@ -1,9 +1,12 @@
 //! Notes on files that do not read, on an output that does not take the answer, on a report that is not valid, and on a moment that no
 //! run has.
-ghost use Rattle.std.specs.Prelude.{◌≡◌, ◌++◌, codes, decimal, IfNone, IfOk, OnOk};
-ghost use Rattle.bs_note_calls.specs.Faults.{cycles_of, cycles_text, IsOutputNote, IsUnreadNote, large_text, long_sentence, long_text};
-ghost use Rattle.bs_note_calls.specs.Faults.{output_sentence, output_text, range_text, rejected_text};
+ghost use Rattle.std.specs.Prelude.{◌≡◌, ◌≤◌, ◌++◌, codes, decimal, length, IfOk, OnOk};
+ghost use Rattle.bs_top_plan.specs.Files.{file_word};
+ghost use Rattle.bs_note_calls.specs.Faults.{cycles_of, cycles_text, IsOutputNote, large_text, long_sentence, long_text};
+ghost use Rattle.bs_note_calls.specs.Faults.{output_sentence, output_text, range_text, rejected_text, unread_text};
 
+use crate::brief::{Brief, brief_on_file, brief_pair};
+use crate::reason::{output_reason, unread_reason};
 use bs_bits::{NoMemory, push_number, push_piece};
 use bs_note_files::{file_note, pair_note};
 use bs_stim::Runs;
@@ -11,116 +14,92 @@ use bs_top_plan::File;
 use std::alloc::Global;
 use std::io::ErrorKind;
 
-/// The words for a kind of fault.
-fn words_of(alloc: Global, kind: ErrorKind) -> Result<Vec<u8>, NoMemory> {
-    let words = format!(in alloc; "{kind}")?;
-    Ok(words.as_bytes().to_vec(alloc)?)
-}
-
-/// The words for a kind of fault of a file, as the system has them.
-fn system_words(alloc: Global, kind: ErrorKind) -> Result<Vec<u8>, NoMemory> {
-    match kind {
-        ErrorKind::NotFound => Ok(b"No such file or directory (os error 2)".to_vec(alloc)?),
-        ErrorKind::IsADirectory => Ok(b"Is a directory (os error 21)".to_vec(alloc)?),
-        ErrorKind::PermissionDenied => Ok(b"Permission denied (os error 13)".to_vec(alloc)?),
-        _ => words_of(alloc, kind),
-    }
-}
-
-/// The same, or what is said where no kind is known.
-fn cause_words(alloc: Global, kind: Option<ErrorKind>) -> Result<Vec<u8>, NoMemory> {
-    match kind {
-        Some(kind) => system_words(alloc, kind),
-        None => Ok(b"this file could not be read".to_vec(alloc)?),
-    }
-}
-
-/// The reason for which a file does not read: the word `-` is the name of a file as any other.
-fn reason_of(alloc: Global, kind: Option<ErrorKind>, path: &str) -> Result<Vec<u8>, NoMemory> {
-    if path == "-" {
-        return Ok(
-            b"there is no such file, and standard input is read as /dev/stdin alone".to_vec(alloc)?,
-        );
-    }
-    cause_words(alloc, kind)
-}
-
 /// A note on a file that does not read: its name, and the system's reason where one is known.
-pub fn unread_note(alloc: Global, kind: Option<ErrorKind>, path: &str) -> Result<Vec<u8>, NoMemory>
-    ensures { IfOk result (λ note. IsUnreadNote path.now note.items) }
+pub fn unread_note(kind: Option<ErrorKind>, path: &str) -> Brief
+    ensures { result ≡ unread_text path.now kind }
 {
-    let reason = reason_of(alloc, kind, path)?;
-    let note = caused_note(alloc, path, &reason)?;
-    Ok(note)
+    brief_on_file(path, unread_reason(path, kind).as_bytes())
 }
 
-/// A note on a file that does not read for a reason.
-fn caused_note(alloc: Global, path: &str, reason: &[u8]) -> Result<Vec<u8>, NoMemory>
-    ensures { IfOk result (λ note. IsUnreadNote path.now note.items) }
+/// The end of what is said of a file that is longer than its limit.
+fn limit_words(limit: u64) -> Brief
+    ensures text { result ≡ codes " may have: " ++ decimal limit }
+    ensures short { length result ≤ 31 }
 {
-    let note = file_note(alloc, path, reason)?;
-    Ok(note)
+    let mut said = Brief::of(b" may have: ");
+    said.push_number(limit);
+    said
+}
+
+/// What is said of a file of this kind, with such an end.
+fn limit_sentence(word: &[u8], end: &[u8]) -> Brief
+    requires word { length word.now ≤ 16 }
+    requires end { length end.now ≤ 31 }
+    ensures text { result ≡ codes "the file has more bytes than a " ++ (word.now ++ end.now) }
+    ensures short { length result ≤ 100 }
+{
+    let mut said = Brief::of(b"the file has more bytes than a ");
+    said.push(word);
+    said.push(end);
+    said
+}
+
+/// The word for a file.
+#[tactic(auto, using(crate::proofs::WordLemmas::file_words_are_short))]
+fn word_of(file: File) -> &'static str
+    ensures word { result.now ≡ file_word file }
+    ensures short { length result.now ≤ 16 }
+{
+    file.word()
 }
 
 /// What is said of a file that is longer than its limit.
-fn long_sentence(alloc: Global, file: File) -> Result<Vec<u8>, NoMemory>
-    ensures { IfOk result (λ said. said.items ≡ long_sentence file) }
+fn long_sentence(file: File) -> Brief
+    ensures text { result ≡ long_sentence file }
+    ensures short { length result ≤ 100 }
 {
-    let mut said = b"the file has more bytes than a ".to_vec(alloc)?;
-    push_piece(&mut said, file.word().as_bytes())?;
-    push_piece(&mut said, b" may have: ")?;
-    push_number(&mut said, file.limit())?;
-    Ok(said)
+    let end = limit_words(file.limit());
+    limit_sentence(word_of(file).as_bytes(), end.bytes())
 }
 
 /// A note on a file that is longer than its limit.
-pub fn long_note(alloc: Global, file: File, path: &str) -> Result<Vec<u8>, NoMemory>
-    ensures { IfOk result (λ note. note.items ≡ long_text file path.now) }
+pub fn long_note(file: File, path: &str) -> Brief
+    ensures { result ≡ long_text file path.now }
 {
-    let said = long_sentence(alloc, file)?;
-    file_note(alloc, path, &said)
-}
-
-/// The words for a kind of fault, where it is known.
-fn kind_words(alloc: Global, kind: Option<ErrorKind>) -> Result<Vec<u8>, NoMemory>
-    ensures { IfOk result (λ words. IfNone kind (words.items ≡ codes "no reason is known")) }
-{
-    match kind {
-        Some(kind) => words_of(alloc, kind),
-        None => Ok(b"no reason is known".to_vec(alloc)?),
-    }
+    let said = long_sentence(file);
+    brief_on_file(path, said.bytes())
 }
 
 /// What is said of an output that did not take a line, after so many.
-fn output_sentence(alloc: Global, lines: u64, reason: &[u8]) -> Result<Vec<u8>, NoMemory>
-    ensures { IfOk result (λ said. said.items ≡ output_sentence lines reason.now) }
+fn output_sentence(lines: u64, reason: &[u8]) -> Brief
+    requires { length reason.now ≤ 64 }
+    ensures text { result ≡ output_sentence lines reason.now }
+    ensures short { length result ≤ 200 }
 {
-    let mut said = b"standard output failed after ".to_vec(alloc)?;
-    push_number(&mut said, lines)?;
-    push_piece(&mut said, b" whole lines: ")?;
-    push_piece(&mut said, reason)?;
-    Ok(said)
+    let mut said = Brief::of(b"standard output failed after ");
+    said.push_number(lines);
+    said.push(b" whole lines: ");
+    said.push(reason);
+    said
 }
 
 /// A note on an output that did not take a line for a reason.
-fn reason_note(alloc: Global, lines: u64, reason: &[u8]) -> Result<Vec<u8>, NoMemory>
-    ensures { IfOk result (λ note. note.items ≡ output_text lines reason.now) }
+fn reason_note(lines: u64, reason: &[u8]) -> Brief
+    requires { length reason.now ≤ 64 }
+    ensures { result ≡ output_text lines reason.now }
 {
-    let said = output_sentence(alloc, lines, reason)?;
-    pair_note(
-        alloc,
-        &said,
+    let said = output_sentence(lines, reason);
+    brief_pair(
+        said.bytes(),
         b"what went out is the front of the answer; send it to a file with room, or let the reader read on",
     )
 }
 
 /// A note on an output that did not take a line: how many lines it took before, and the system's reason where one is known.
-pub fn output_note(alloc: Global, lines: u64, kind: Option<ErrorKind>) -> Result<Vec<u8>, NoMemory>
-    ensures { IfOk result (λ note. IsOutputNote lines kind note.items) }
+pub fn output_note(lines: u64, kind: Option<ErrorKind>) -> Brief
+    ensures { IsOutputNote lines kind result }
 {
-    let words = kind_words(alloc, kind)?;
-    let note = reason_note(alloc, lines, &words)?;
-    Ok(note)
+    reason_note(lines, output_reason(kind).as_bytes())
 }
 
 /// A note on a report that is not valid.

@@ -50,7 +50,7 @@ IsNamePlace text name at =
 
 -- a sentence with the key of a net in its middle
 abbrev pub keyed_text : List ℕ → List ℕ → List ℕ
-keyed_text key last = codes "the net `" ++ (shown_line key ++ (codes "`" ++ last))
+keyed_text key last = codes "the net `" ++ (shown_line key ++ last)
 
 -- a note on the first place of a text at which the name of a key stands
 pub record IsKeyNote (path text key sentence label note : List ℕ) : Type 0 where
@@ -93,13 +93,13 @@ count_sentence Terminals = codes "a gate has at most 64 inputs, and one has "
 abbrev pub IsCheckNote : Parts → List ℕ → List ℕ → NetFault → List ℕ → Type 0
 IsCheckNote r path text (net.TooMany count number) note = note ≡ file_text path (count_sentence count ++ decimal number)
 IsCheckNote r path text (net.SecondDriver n) note =
-    IsNetNote path text (net_key r n) (codes " has two drivers") (codes "one input, gate output or flip-flop may drive a net") note
+    IsNetNote path text (net_key r n) (codes "` has two drivers") (codes "one input, gate output or flip-flop may drive a net") note
 IsCheckNote r path text (net.Undriven n) note =
-    IsNetNote path text (net_key r n) (codes " is read and has no driver") (codes "is the name misspelt, or a gate missing?") note
+    IsNetNote path text (net_key r n) (codes "` is read and has no driver") (codes "is the name misspelt, or a gate missing?") note
 IsCheckNote r path text (net.Loop gates) note = IsRingNote r path text gates note
 IsCheckNote r path text net.NoFlop note =
     note ≡ file_text path (codes "there is no flip-flop: cells are dff, dffs, dffe and dffr (docs/FORMATS.md, Netlists)")
 IsCheckNote r path text (net.ClockMixed n) note =
-    IsNetNote path text (net_key r n) (codes " is no single clock")
+    IsNetNote path text (net_key r n) (codes "` is no single clock")
     (codes "all flip-flops take one input port bit as their clock, and no gate and no d, e or r reads it: make a gated clock an enable (dffe), negedge posedge, and keep one clock's part") note
 IsCheckNote r path text net.NoMemory note = note ≡ file_text path (codes "memory ran out")

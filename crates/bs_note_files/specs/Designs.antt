@@ -16,15 +16,15 @@ name_piece name = codes " " ++ shown_line name
 abbrev pub modules_text : List (List ℕ) → List ℕ
 modules_text names = codes "modules instance one another in a ring:" ++ flat_map name_piece (take RING names)
 
-unfoldable pub twice_saying : Saying
+abbrev pub twice_saying : Saying
 twice_saying = saying (codes "an earlier module, or an earlier instance in this module, has the same name") (codes "give it a name of its own")
 
-unfoldable pub connect_saying : Saying
+abbrev pub connect_saying : Saying
 connect_saying =
     saying (codes "this does not go with a port of the instanced module")
     (codes "each connection is of a port of its own, with as many bits, and a constant is of no output")
 
-unfoldable pub own_nets_saying : Saying
+abbrev pub own_nets_saying : Saying
 own_nets_saying =
     saying (codes "up to this module the modules declare more than 4194304 nets") (codes "make ports and wires narrower, or give a part of the design")
 

@@ -36,11 +36,13 @@ head_text path s = shown_line path ++ (codes ":" ++ (decimal s.line ++ (codes ":
 abbrev pub line_at : List ℕ → Spot → List ℕ
 line_at text s = take (s.end - s.start) (drop s.start text)
 
+-- a line as it is shown, and a caret under one of its columns with a few words behind it
+abbrev pub shown_text : List ℕ → ℕ → List ℕ → List ℕ
+shown_text line column label = shown_line line ++ (codes "\n" ++ (caret line column ++ (codes " " ++ (label ++ codes "\n"))))
+
 -- a sentence on a place of a file: the place, the line itself, and a caret under the place with a few words behind it
 abbrev pub placed_text : List ℕ → List ℕ → Spot → List ℕ → List ℕ → List ℕ
-placed_text path text s sentence label =
-    plain_text (head_text path s ++ sentence) ++ (shown_line (line_at text s) ++ (codes "\n" ++
-    (caret (line_at text s) s.column ++ (codes " " ++ (label ++ codes "\n")))))
+placed_text path text s sentence label = plain_text (head_text path s ++ sentence) ++ shown_text (line_at text s) s.column label
 
 -- the note says this on this place of the text, and stands on the line and column of the place
 pub record IsPlacedNote (path text : List ℕ) (at : ℕ) (says : Saying) (note : List ℕ) : Type 0 where

@@ -8,7 +8,7 @@ ghost use Rattle.bs_note_files.specs.Checks.{joins_before, keyed_text, output_of
 ghost use Rattle.bs_note_files.specs.Notes.{file_text};
 ghost use Rattle.bs_note_files.specs.Parts.{IsFirstPlace, NoneOf};
 
-use crate::form::{Message, file_note, note_on};
+use crate::form::{Message, file_note, name_sentence, note_on};
 use crate::part::{before, behind};
 use bs_bits::{NoMemory, push_number, push_piece};
 use bs_net::{Count, NetFault, NetId, Raw};
@@ -107,17 +107,6 @@ fn place_of_name(text: &[u8], name: &[u8]) -> usize
     }
 }
 
-/// A sentence with the key of a net in its middle.
-fn keyed(alloc: Global, key: &[u8], last: &str) -> Result<Vec<u8>, NoMemory>
-    ensures { IfOk result (λ said. said.items ≡ keyed_text key.now last.now) }
-{
-    let mut said = b"the net `".to_vec(alloc)?;
-    push_quoted(&mut said, key)?;
-    push_piece(&mut said, b"`")?;
-    push_piece(&mut said, last.as_bytes())?;
-    Ok(said)
-}
-
 /// A note on the first place of a text at which the name of a key stands.
 pub fn key_note(
     alloc: Global,
@@ -141,12 +130,12 @@ fn net_note(
     path: &str,
     text: &[u8],
     key: &[u8],
-    last: &str,
+    last: &[u8],
     label: &[u8],
 ) -> Result<Vec<u8>, NoMemory>
     ensures { IfOk result (λ note. IsNetNote path.now text.now key.now last.now label.now note.items) }
 {
-    let said = keyed(alloc, key, last)?;
+    let said = name_sentence(alloc, b"the net `", key, last)?;
     let note = key_note(alloc, path, text, key, &said, label)?;
     Ok(note)
 }
@@ -193,19 +182,19 @@ fn push_net(said: &mut Vec<u8>, raw: &Raw, net: NetId) -> Result<(), NoMemory>
     push_quoted(said, key_of(raw, net))
 }
 
-/// The first gates of a ring, as many as are named.
+/// The first members of a ring, as many as are named.
 #[tactic(auto, using(std::proofs::lemmas::List::take_min))]
-fn named(gates: &[u32]) -> &[u32]
-    ensures { result.now ≡ take RING gates.now }
+pub fn ring_front<T>(members: &[T]) -> &[T]
+    ensures { result.now ≡ take RING members.now }
 {
-    &gates[..RING.min(gates.len())]
+    &members[..RING.min(members.len())]
 }
 
 /// The keys of the first gates of a ring.
 fn ring_keys(alloc: Global, raw: &Raw, gates: &[u32]) -> Result<Vec<u8>, NoMemory>
     ensures { IfOk result (λ said. said.items ≡ ring_text (parts_of raw.now) gates.now) }
 {
-    let named = named(gates);
+    let named = ring_front(gates);
     let mut said = b"gates read one another in a ring, by their output nets:".to_vec(alloc)?;
     'gates: for &gate in named {
         push_gate(&mut said, raw, gate)?;
@@ -280,7 +269,7 @@ pub fn check_note(
             path,
             text,
             key_of(raw, *net),
-            " has two drivers",
+            b"` has two drivers",
             b"one input, gate output or flip-flop may drive a net",
         ),
         NetFault::Undriven(net) => net_note(
@@ -288,7 +277,7 @@ pub fn check_note(
             path,
             text,
             key_of(raw, *net),
-            " is read and has no driver",
+            b"` is read and has no driver",
             b"is the name misspelt, or a gate missing?",
         ),
         NetFault::Loop(gates) => ring_note(alloc, path, text, raw, gates.slice()),
@@ -302,7 +291,7 @@ pub fn check_note(
             path,
             text,
             key_of(raw, *net),
-            " is no single clock",
+            b"` is no single clock",
             b"all flip-flops take one input port bit as their clock, and no gate and no d, e or r reads it: make a gated clock an enable (dffe), negedge posedge, and keep one clock's part",
         ),
         NetFault::NoMemory => file_note(alloc, path, b"memory ran out"),

@@ -3,7 +3,7 @@ ghost use Rattle.std.specs.Prelude.{◌≡◌, ◌≤◌, ◌<◌, ℕ, length, 
 ghost use Rattle.bs_note_files.specs.Flaws.{FlawIs, is_stray, IsFlawNote, IsLineNote, IsStartNote, loose_at, stray_at};
 ghost use Rattle.bs_note_files.specs.Notes.{said};
 ghost use Rattle.bs_note_files.specs.Parts.{IsFirstPlace, NoneOf};
-ghost use Rattle.bs_note_files.specs.Sayings.{loose_saying, packed_saying, stray_saying};
+ghost use Rattle.bs_note_files.specs.Sayings.{packed_saying, stray_saying};
 
 use crate::form::{Message, note_on, say};
 use crate::part::numbered_line;
@@ -89,16 +89,6 @@ fn stray_message(byte: u8) -> Message<'static>
     )
 }
 
-/// What is said of a space too many.
-fn loose_message() -> Message<'static>
-    ensures { said result ≡ loose_saying }
-{
-    say(
-        "a space too many: words are parted by one space, and none stands at an end of a line",
-        "take it out",
-    )
-}
-
 /// What is wrong with a line at sight, and where in it.
 fn flaw_of(line: &[u8]) -> Option<(usize, Message<'static>)>
     ensures is { FlawIs line.now result }
@@ -106,19 +96,16 @@ fn flaw_of(line: &[u8]) -> Option<(usize, Message<'static>)>
 {
     match first_stray(line) {
         Some(k) => Some((k, stray_message(line[k]))),
-        None => loose_flaw(line),
-    }
-}
-
-/// The first space too many.
-fn loose_flaw(line: &[u8]) -> Option<(usize, Message<'static>)>
-    requires { NoneOf (stray_at line.now) (length line.now) }
-    ensures is { FlawIs line.now result }
-    ensures there { IfSome result (λ found. found.0 < length line.now) }
-{
-    match first_loose(line) {
-        Some(k) => Some((k, loose_message())),
-        None => None,
+        None => match first_loose(line) {
+            Some(k) => Some((
+                k,
+                say(
+                    "a space too many: words are parted by one space, and none stands at an end of a line",
+                    "take it out",
+                ),
+            )),
+            None => None,
+        },
     }
 }
 

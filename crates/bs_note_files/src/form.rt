@@ -1,7 +1,8 @@
 //! The forms of a note.
-ghost use Rattle.std.specs.Prelude.{◌≡◌, ◌≤◌, ◌++◌, length, OnOk, IfOk};
+ghost use Rattle.std.specs.Prelude.{◌≡◌, ◌<◌, ◌≤◌, ◌++◌, length, OnOk, IfOk};
+ghost use Rattle.bs_note_places.specs.Quotes.{shown_line};
 ghost use Rattle.bs_note_places.specs.Spots.{IsSpot};
-ghost use Rattle.bs_note_files.specs.Notes.{file_text, head_text, IsNoteOn, IsPlacedNote, line_at, pair_text, placed_text, plain_text, said, saying};
+ghost use Rattle.bs_note_files.specs.Notes.{file_text, head_text, IsNoteOn, IsPlacedNote, line_at, pair_text, placed_text, plain_text, said, saying, shown_text};
 
 use bs_bits::{NoMemory, push_number, push_piece};
 use bs_note_places::{Spot, push_caret, push_quoted, spot_of};
@@ -33,6 +34,21 @@ pub fn plain_note(alloc: Global, sentence: &[u8]) -> Result<Vec<u8>, NoMemory>
     Ok(note)
 }
 
+/// A sentence with a name in its middle, as it is shown.
+pub fn name_sentence(
+    alloc: Global,
+    before: &[u8],
+    name: &[u8],
+    behind: &[u8],
+) -> Result<Vec<u8>, NoMemory>
+    ensures { IfOk result (λ said. said.items ≡ before.now ++ (shown_line name.now ++ behind.now)) }
+{
+    let mut said = before.to_vec(alloc)?;
+    push_quoted(&mut said, name)?;
+    push_piece(&mut said, behind)?;
+    Ok(said)
+}
+
 /// Appends `PATH:LINE:COLUMN: `.
 fn push_head(note: &mut Vec<u8>, path: &str, spot: Spot) -> Result<(), NoMemory>
     ensures { OnOk result (note.new.items ≡ note.old.items ++ head_text path.now spot) }
@@ -54,6 +70,19 @@ pub fn line_at(text: &[u8], at: usize, spot: Spot) -> &[u8]
     &text[spot.start..spot.end]
 }
 
+/// Appends a line as it is shown, and a caret under one of its columns with a label.
+fn push_shown(note: &mut Vec<u8>, line: &[u8], column: usize, label: &[u8]) -> Result<(), NoMemory>
+    requires { 0 < column }
+    ensures { OnOk result (note.new.items ≡ note.old.items ++ shown_text line.now column label.now) }
+{
+    push_quoted(note, line)?;
+    push_piece(note, b"\n")?;
+    push_caret(note, line, column)?;
+    push_piece(note, b" ")?;
+    push_piece(note, label)?;
+    push_piece(note, b"\n")
+}
+
 /// A note on a place of a text.
 fn note_at(
     alloc: Global,
@@ -71,12 +100,7 @@ fn note_at(
     push_head(&mut note, path, spot)?;
     push_piece(&mut note, message.sentence)?;
     push_piece(&mut note, b"\n")?;
-    push_quoted(&mut note, line)?;
-    push_piece(&mut note, b"\n")?;
-    push_caret(&mut note, line, spot.column)?;
-    push_piece(&mut note, b" ")?;
-    push_piece(&mut note, message.label)?;
-    push_piece(&mut note, b"\n")?;
+    push_shown(&mut note, line, spot.column, message.label)?;
     Ok(note)
 }
 

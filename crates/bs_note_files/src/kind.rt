@@ -55,23 +55,18 @@ fn rank(file: File) -> u8
     }
 }
 
-/// The second file, where it is another than the first.
-fn other_than(file: File, kind: File) -> Option<File>
-    ensures { result ≡ other_than file kind }
-{
-    if rank(kind) == rank(file) {
-        None
-    } else {
-        Some(kind)
-    }
-}
-
 /// The file that a text seems to be, where it is another than the one it is given as.
 pub fn mistaken(file: File, text: &[u8]) -> Option<File>
     ensures { result ≡ mistaken file text.now }
 {
     match kind_of_text(text) {
-        Some(kind) => other_than(file, kind),
+        Some(kind) => {
+            if rank(kind) == rank(file) {
+                None
+            } else {
+                Some(kind)
+            }
+        }
         None => None,
     }
 }

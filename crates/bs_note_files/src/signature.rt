@@ -11,7 +11,7 @@ ghost use Rattle.bs_note_files.specs.Notes.{said};
 ghost use Rattle.bs_note_files.specs.Signatures.{AreKeys, form_saying, IsKey, IsNoKey, IsSignatureNote, IsUnknownNote, IsUnknownOn, IsUnknownWord, key_piece, SaysUnknown, unknown_label, unknown_sentence};
 
 use crate::flaw::{flaw_note, start_note};
-use crate::form::{Message, file_note, note_on, say};
+use crate::form::{Message, file_note, name_sentence, note_on, say};
 use crate::part::numbered_line;
 use bs_bits::{NoMemory, push_piece};
 use bs_net::{Netlist, Raw};
@@ -85,16 +85,6 @@ fn label_of(alloc: Global, raw: &Raw, name: &[u8], flops: &[usize]) -> Result<Ve
     Ok(label)
 }
 
-/// What is said of a name that is no key.
-fn sentence_of(alloc: Global, name: &[u8]) -> Result<Vec<u8>, NoMemory>
-    ensures { IfOk result (λ said. said.items ≡ unknown_sentence name.now) }
-{
-    let mut said = b"no flip-flop has the key `".to_vec(alloc)?;
-    push_quoted(&mut said, name)?;
-    push_piece(&mut said, b"`, the name of its output net")?;
-    Ok(said)
-}
-
 /// A note on a name that is no flip-flop's key, on its place.
 fn name_note(
     alloc: Global,
@@ -107,7 +97,12 @@ fn name_note(
     ensures { IfOk result (λ note. SaysUnknown (parts_of raw.now) path.now text.now at name.now note.items) }
 {
     let flops = nearest_flops(alloc, raw, name)?;
-    let sentence = sentence_of(alloc, name)?;
+    let sentence = name_sentence(
+        alloc,
+        b"no flip-flop has the key `",
+        name,
+        b"`, the name of its output net",
+    )?;
     let label = label_of(alloc, raw, name, &flops)?;
     let message = Message {
         sentence: &sentence,
@@ -156,15 +151,6 @@ fn unknown_note(
     }
 }
 
-/// Whether a line begins like a comment.
-fn is_comment(line: &[u8]) -> bool
-    ensures { result ≡ starts_with nat_eq line.now (codes "#") || starts_with nat_eq line.now (codes "//") }
-{
-    let hash = line.starts_with(b"#".as_slice());
-    let slashes = line.starts_with(b"//".as_slice());
-    hash || slashes
-}
-
 /// The form of a line.
 fn form_of(line: &[u8]) -> Message<'static>
     ensures { said result ≡ form_saying line.now }
@@ -175,7 +161,9 @@ fn form_of(line: &[u8]) -> Message<'static>
             "write `xor NAME NAME ..` for the parity of several; an index is a part of the key, as of `[0]\\a.b`: `backspace_inspect keys` tells it",
         );
     }
-    if is_comment(line) {
+    let hash = line.starts_with(b"#".as_slice());
+    let slashes = line.starts_with(b"//".as_slice());
+    if hash || slashes {
         return say("a signature has no comments", "take the line out");
     }
     say(

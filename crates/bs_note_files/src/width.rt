@@ -1,18 +1,9 @@
 //! Sentences on lines with another number of bits than there should be.
-ghost use Rattle.std.specs.Prelude.{◌≡◌, decimal, IfOk};
+ghost use Rattle.std.specs.Prelude.{◌≡◌, IfOk};
 ghost use Rattle.bs_note_files.specs.Sayings.{bits_in, width_text};
 
 use bs_bits::{NoMemory, push_number, push_piece};
 use std::alloc::Global;
-
-/// A number in digits.
-fn number_text(alloc: Global, number: usize) -> Result<Vec<u8>, NoMemory>
-    ensures { IfOk result (λ said. said.items ≡ decimal number) }
-{
-    let mut said = Vec::new(alloc);
-    push_number(&mut said, number as u64)?;
-    Ok(said)
-}
 
 /// How many bits a line has, and how many are due, of what.
 pub fn width_sentence(
@@ -23,7 +14,8 @@ pub fn width_sentence(
 ) -> Result<Vec<u8>, NoMemory>
     ensures { IfOk result (λ said. said.items ≡ width_text bits due of.now) }
 {
-    let mut said = number_text(alloc, bits)?;
+    let mut said = Vec::new(alloc);
+    push_number(&mut said, bits as u64)?;
     push_piece(&mut said, b" bits stand here, and ")?;
     push_number(&mut said, due as u64)?;
     push_piece(&mut said, b" are due: one for each ")?;

@@ -1,15 +1,16 @@
 -- Run after run, and cycle after cycle.
-use Rattle.std.proofs.Common.{◌≡◌, ◌≢◌, ℕ, ◌+◌, ◌-◌, ◌*◌, ◌<◌, ◌≤◌, Bool, true, false, List, ◌∷◌, length, refl, ap, subst, sym, ◌∙◌, arith, ⊎_elim}
+use Rattle.std.proofs.Common.{◌≡◌, ◌≢◌, ℕ, zero, ◌+◌, ◌-◌, ◌<◌, ◌≤◌, Bool, true, false, List, [], ◌∷◌, ◌++◌, length, refl, ap, subst, sym, ◌∙◌, arith, ⊎_elim}
 use Rattle.std.proofs.Common.{Option}
-use Rattle.std.proofs.Math.Nat.{suc-mul}
-use Rattle.std.specs.Prelude.{◌&&◌, suc}
+use Rattle.std.specs.Prelude.{◌&&◌, suc, cond, nat_le, sum_by, Result, Ok, Err, IfOk}
+use Rattle.std.specs.List.{range_with_len}
 use Rattle.std.specs.Option.{option_to_list}
-use Rattle.std.proofs.lemmas.Bool.{and_parts, cases_eq, cases_lt}
+use Rattle.std.proofs.lemmas.Bool.{and_from, and_parts, cases_eq, cases_lt, le-leb}
+use Rattle.std.proofs.lemmas.List.Sums.{sum_by_push}
 use Rattle.bs_bits.specs.Bits.{bits_eq}
 use Rattle.bs_net.specs.Circuit.{Circuit, all_bits}
 use Rattle.bs_scan.specs.Choice.{Chosen, depth_of}
 use Rattle.bs_scan.specs.Crash.{Recording}
-use Rattle.bs_scan.specs.Moments.{Moment, moment, run_of, state_at, is_listed}
+use Rattle.bs_scan.specs.Moments.{Moment, moment, IsMoment, run_of, state_at, is_listed}
 use Rattle.bs_scan.specs.Signature.{signature, may_hold, agrees, some_input_leads, predecessors}
 use Rattle.bs_scan.proofs.SignatureLemmas.{bits_same_is}
 use Rattle.std.proofs.lemmas.List.Elements.{recursion_from_All}
@@ -20,7 +21,7 @@ use Rattle.bs_report_good.proofs.GoodLemmas.{listed_member, filter_member, passi
 use Rattle.bs_chip_forward.specs.Forward.{LeadsNowhere, NoneLeadBefore}
 use Rattle.bs_chip.specs.Lockstep.{IsLongest, IsLowest, NoneAmong, NoneBefore}
 use Rattle.bs_chip.specs.Replay.{lists}
-use Rattle.bs_chip.specs.SignatureHashes.{signature_at, NoneAlike, IsNextAlike}
+use Rattle.bs_chip.specs.SignatureHashes.{signature_at, is_alike, NoneAlike, IsNextAlike}
 use Rattle.bs_chip.proofs.TrackLemmas.{behind_all}
 use Rattle.bs_preimage.specs.declared.probe.Probed.{Probed}
 use Rattle.bs_preimage.specs.declared.probe.Probed.TheVariants.{Predecessor, NoPredecessor, Unknown}
@@ -29,8 +30,8 @@ use Rattle.bs_preimage_recorded.specs.declared.search.Recorded.{Recorded}
 use Rattle.bs_preimage_recorded.specs.declared.search.Sought.{Sought}
 use Rattle.bs_preimage_recorded.specs.declared.search.Sought.TheVariants.{Found, NoMoment, Cut, Unsaid}
 use Rattle.bs_preimage_recorded.specs.declared.search.Turn.TheVariants.{GoOn}
-use Rattle.bs_preimage_recorded.specs.Search.{asked_in, place_of, turn_by, HasTried, HasTurned, IsCutAt, IsOpenAt, SoughtAt, SoughtBefore}
-use Rattle.bs_preimage_recorded.specs.Search.{SoughtSooner, SoughtOfAll, TurnsTo, IsFirstRecorded, NoneSooner}
+use Rattle.bs_preimage_recorded.specs.Search.{asked_in, is_recorded, alike_at, alike_below, alike_before, turn_by, HasTried, HasTurned, IsCutAt}
+use Rattle.bs_preimage_recorded.specs.Search.{IsOpenAt, SoughtAt, SoughtBefore, SoughtSooner, SoughtOfAll, TurnsTo, IsFirstRecorded, StaysOpen}
 
 -- ---- a state with another signature
 
@@ -142,9 +143,15 @@ passed r present stored older cycle from below run next within nowhere = (
 
 -- the run that is next stays open
 pub open_at : (r : Recording) (present stored : List Bool) (older : Option (List Bool)) (cycle from run : ℕ) → IsNextAlike r stored cycle from run →
-    IsOpenAt r (asked_in r present stored older) cycle from (moment run cycle)
+    IsOpenAt r (asked_in r present stored older) stored cycle from (moment run cycle)
 open_at r present stored older cycle from run next =
-    record { cycle_is = refl; behind = next.behind; before = none_among r present stored older cycle from (run - 1) next.before }
+    record {
+      cycle_is = refl;
+      behind = next.behind;
+      there = next.is_moment;
+      alike = next.alike;
+      before = none_among r present stored older cycle from (run - 1) next.before;
+    }
 
 pub turned : (r : Recording) (present stored : List Bool) (older : Option (List Bool)) (cycle from below run : ℕ) (said : Probed) →
     IsNextAlike r stored cycle from run → run ≤ below →
@@ -169,11 +176,85 @@ turned r present stored older cycle from below run NoPredecessor next within h =
 )
 turned r present stored older cycle from below run Unknown next within h = open_at r present stored older cycle from run next
 
+-- ---- how many are alike
+
+-- the numbers up to one more
+up_to_next : (a n : ℕ) → range_with_len a (suc n) ≡ range_with_len a n ++ (a + n) ∷ []
+up_to_next a zero = let same : a ≡ a + 0 = omega arith in ap (λ (k : ℕ). k ∷ []) same
+up_to_next a (suc n) =
+    let same : a + 1 + n ≡ a + suc n = omega arith in
+    ap (λ (l : List ℕ). a ∷ l) (up_to_next (a + 1) n ∙ ap (λ (k : ℕ). range_with_len (a + 1) n ++ k ∷ []) same)
+
+-- one number more adds what it counts
+sum_next : (f : ℕ → ℕ) (a n k : ℕ) → k ≡ a + n → sum_by f (range_with_len a (n + 1)) ≡ sum_by f (range_with_len a n) + f k
+sum_next f a n k is =
+    let next : n + 1 ≡ suc n = omega arith in
+    ap (λ (m : ℕ). sum_by f (range_with_len a m)) next
+    ∙ (ap (sum_by f) (up_to_next a n) ∙ (sum_by_push f (range_with_len a n) (a + n) ∙ ap (λ (j : ℕ). sum_by f (range_with_len a n) + f j) (sym is)))
+
+sum_further : (f : ℕ → ℕ) (a n more : ℕ) → sum_by f (range_with_len a n) ≤ sum_by f (range_with_len a (n + more))
+sum_further f a n zero = let same : n + 0 ≡ n = omega arith in subst (λ (m : ℕ). sum_by f (range_with_len a n) ≤ sum_by f (range_with_len a m)) (sym same) (omega arith)
+sum_further f a n (suc more) =
+    let same : n + more + 1 ≡ n + suc more = omega arith in
+    let step = sum_next f a (n + more) (a + (n + more)) refl in
+    let so_far = sum_further f a n more in
+    subst (λ (m : ℕ). sum_by f (range_with_len a n) ≤ sum_by f (range_with_len a m)) same (omega (arith, step, so_far))
+
+-- no fewer up to a later run
+pub alike_further : (r : Recording) (stored : List Bool) (cycle from below : ℕ) → from ≤ below → alike_at r stored cycle from ≤ alike_at r stored cycle below
+alike_further r stored cycle from below le =
+    let same : from + (below - from) ≡ below = omega (arith, le) in
+    subst (λ (m : ℕ). alike_at r stored cycle from ≤ alike_at r stored cycle m) same
+    (sum_further (λ (run : ℕ). cond (is_recorded r.runs (moment run cycle) && is_alike r stored (moment run cycle)) 1 0) 1 from (below - from))
+
+is_recorded_by : (r : Recording) (m : Moment) → IsMoment r.runs m → is_recorded r.runs m ≡ true
+is_recorded_by r m there =
+    and_from (nat_le m.run (length r.runs)) (nat_le m.cycle (length (run_of r.runs m.run))) (le-leb m.run (length r.runs) there.recorded)
+    (le-leb m.cycle (length (run_of r.runs m.run)) there.lasts)
+
+-- a run that is alike is one more than those before it
+alike_one : (r : Recording) (stored : List Bool) (cycle run : ℕ) → 1 ≤ run → IsMoment r.runs (moment run cycle) →
+    is_alike r stored (moment run cycle) ≡ true → alike_at r stored cycle run ≡ alike_at r stored cycle (run - 1) + 1
+alike_one r stored cycle run some there alike =
+    let test : ℕ → ℕ = λ k. cond (is_recorded r.runs (moment k cycle) && is_alike r stored (moment k cycle)) 1 0 in
+    let back : run - 1 + 1 ≡ run = omega (arith, some) in
+    let at : run ≡ 1 + (run - 1) = omega (arith, some) in
+    let counts : test run ≡ 1 =
+    ap (λ (b : Bool). cond b 1 0)
+    (and_from (is_recorded r.runs (moment run cycle)) (is_alike r stored (moment run cycle)) (is_recorded_by r (moment run cycle) there) alike) in
+    ap (alike_at r stored cycle) (sym back) ∙ (sum_next test 1 (run - 1) run at ∙ ap (λ (n : ℕ). alike_at r stored cycle (run - 1) + n) counts)
+
+-- so is the next one that is alike
+pub alike_more : (r : Recording) (stored : List Bool) (cycle from run : ℕ) → IsNextAlike r stored cycle from run →
+    alike_at r stored cycle from + 1 ≤ alike_at r stored cycle run
+alike_more r stored cycle from run next =
+    let some : 1 ≤ run = omega (arith, next.behind) in
+    let so_far = alike_further r stored cycle from (run - 1) (omega (arith, next.behind)) in
+    let one = alike_one r stored cycle run some next.is_moment next.alike in
+    omega (arith, so_far, one)
+
 -- one try is taken
-pub tried_one : (old new from below run cycle : ℕ) (said : Probed) → old ≡ new + 1 → from < run → HasTurned old new from below (turn_by said run cycle)
-tried_one old new from below run cycle (Predecessor cand) one behind = tt
-tried_one old new from below run cycle NoPredecessor one behind = omega (arith, one, behind)
-tried_one old new from below run cycle Unknown one behind = tt
+pub tried_one : (r : Recording) (stored : List Bool) (old new cycle from below run : ℕ) (said : Probed) → old ≡ new + 1 → IsNextAlike r stored cycle from run →
+    HasTurned old new (alike_at r stored cycle) from below (turn_by said run cycle)
+tried_one r stored old new cycle from below run (Predecessor cand) one next = tt
+tried_one r stored old new cycle from below run NoPredecessor one next = let more = alike_more r stored cycle from run next in omega (arith, one, more)
+tried_one r stored old new cycle from below run Unknown one next = tt
+
+-- no try is left
+pub tried_all : (r : Recording) (stored : List Bool) (old cycle from run : ℕ) → old ≡ 0 → from < run →
+    old + alike_at r stored cycle from ≤ alike_at r stored cycle (run - 1)
+tried_all r stored old cycle from run none behind =
+    let more = alike_further r stored cycle from (run - 1) (omega (arith, behind)) in omega (arith, none, more)
+
+-- no try is taken up to a later run
+pub tried_none : (r : Recording) (stored : List Bool) (first old cycle from below : ℕ) → from ≤ below → first ≤ old + alike_at r stored cycle from →
+    first ≤ old + alike_at r stored cycle below
+tried_none r stored first old cycle from below le so_far = let more = alike_further r stored cycle from below le in omega (arith, so_far, more)
+
+-- the tries up to a run and behind it
+pub tried_further : (r : Recording) (stored : List Bool) (first old new cycle from run : ℕ) → first ≤ old + alike_at r stored cycle from →
+    old + alike_at r stored cycle from ≤ new + alike_at r stored cycle run → first ≤ new + alike_at r stored cycle run
+tried_further r stored first old new cycle from run so_far here = omega (arith, so_far, here)
 
 -- ---- the runs of a cycle
 
@@ -192,10 +273,16 @@ pub fewer_runs : (r : Recording) (states : List (List Bool)) (cycle from below :
     NoneAmong r.circuit r.runs states cycle 0 below
 fewer_runs r states cycle from below le a = record { each = λ n lo hi there last. a.each n lo (omega (arith, hi, le)) there last }
 
-open_further : (r : Recording) (states : List (List Bool)) (cycle from : ℕ) (m : Moment) → NoneAmong r.circuit r.runs states cycle 0 from →
-    IsOpenAt r states cycle from m → IsOpenAt r states cycle 0 m
-open_further r states cycle from m none h =
-    record { cycle_is = h.cycle_is; behind = omega (arith, h.behind); before = both_spans r states cycle from (m.run - 1) none h.before }
+open_further : (r : Recording) (states : List (List Bool)) (stored : List Bool) (cycle from : ℕ) (m : Moment) → NoneAmong r.circuit r.runs states cycle 0 from →
+    IsOpenAt r states stored cycle from m → IsOpenAt r states stored cycle 0 m
+open_further r states stored cycle from m none h =
+    record {
+      cycle_is = h.cycle_is;
+      behind = omega (arith, h.behind);
+      there = h.there;
+      alike = h.alike;
+      before = both_spans r states cycle from (m.run - 1) none h.before;
+    }
 
 pub sought_at : (r : Recording) (present stored : List Bool) (older : Option (List Bool)) (cycle from below : ℕ) (sought : Sought) →
     NoneAmong r.circuit r.runs (asked_in r present stored older) cycle 0 from → SoughtAt r present stored older cycle from below sought →
@@ -213,16 +300,16 @@ sought_at r present stored older cycle from below (Found f) none h =
       h.2,
     )
 sought_at r present stored older cycle from below NoMoment none h = both_spans r (asked_in r present stored older) cycle from below none h
-sought_at r present stored older cycle from below (Cut m) none h = open_further r (asked_in r present stored older) cycle from m none h
-sought_at r present stored older cycle from below (Unsaid m) none h = open_further r (asked_in r present stored older) cycle from m none h
+sought_at r present stored older cycle from below (Cut m) none h = open_further r (asked_in r present stored older) stored cycle from m none h
+sought_at r present stored older cycle from below (Unsaid m) none h = open_further r (asked_in r present stored older) stored cycle from m none h
 
 -- the tries of the runs so far and of what is left
-pub tried_at : (first old new from below : ℕ) (sought : Sought) → first ≤ old + from → HasTried (old + from) new below (λ m. m.run - 1) sought →
-    HasTried first new below (λ m. m.run - 1) sought
-tried_at first old new from below (Found f) so_far h = tt
-tried_at first old new from below NoMoment so_far h = omega (arith, so_far, h)
-tried_at first old new from below (Cut m) so_far h = omega (arith, so_far, h)
-tried_at first old new from below (Unsaid m) so_far h = tt
+pub tried_at : (first old new passed alike : ℕ) (before : Moment → ℕ) (sought : Sought) → first ≤ old + passed →
+    HasTried (old + passed) new alike before sought → HasTried first new alike before sought
+tried_at first old new passed alike before (Found f) so_far h = tt
+tried_at first old new passed alike before NoMoment so_far h = omega (arith, so_far, h)
+tried_at first old new passed alike before (Cut m) so_far h = omega (arith, so_far, h)
+tried_at first old new passed alike before (Unsaid m) so_far h = tt
 
 -- ---- the cycles
 
@@ -238,12 +325,16 @@ found_first r present stored older cycle below f none h =
       recorded = h.2;
     }
 
-pub open_sooner : (r : Recording) (states : List (List Bool)) (cycle : ℕ) (m : Moment) → NoneBefore r.circuit r.runs states cycle →
-    IsOpenAt r states cycle 0 m → NoneSooner r states m
-open_sooner r states cycle m none h =
+pub open_sooner : (r : Recording) (states : List (List Bool)) (stored : List Bool) (cycle : ℕ) (m : Moment) → NoneBefore r.circuit r.runs states cycle →
+    IsOpenAt r states stored cycle 0 m → StaysOpen r states stored m
+open_sooner r states stored cycle m none h =
     record {
-      cycles = subst (λ (n : ℕ). NoneBefore r.circuit r.runs states n) (sym h.cycle_is) none;
-      runs = subst (λ (n : ℕ). NoneAmong r.circuit r.runs states n 0 (m.run - 1)) (sym h.cycle_is) h.before;
+      there = h.there;
+      alike = h.alike;
+      sooner = record {
+        cycles = subst (λ (n : ℕ). NoneBefore r.circuit r.runs states n) (sym h.cycle_is) none;
+        runs = subst (λ (n : ℕ). NoneAmong r.circuit r.runs states n 0 (m.run - 1)) (sym h.cycle_is) h.before;
+      };
     }
 
 pub sooner_found : (r : Recording) (present stored : List Bool) (older : Option (List Bool)) (m : Moment) (sought : Sought) →
@@ -251,8 +342,8 @@ pub sooner_found : (r : Recording) (present stored : List Bool) (older : Option 
     SoughtSooner r present stored older m sought
 sooner_found r present stored older m (Found f) none h = found_first r present stored older m.cycle (m.run - 1) f none h
 sooner_found r present stored older m NoMoment none h = record { cycles = none; runs = h }
-sooner_found r present stored older m (Cut o) none h = open_sooner r (asked_in r present stored older) m.cycle o none h
-sooner_found r present stored older m (Unsaid o) none h = open_sooner r (asked_in r present stored older) m.cycle o none h
+sooner_found r present stored older m (Cut o) none h = open_sooner r (asked_in r present stored older) stored m.cycle o none h
+sooner_found r present stored older m (Unsaid o) none h = open_sooner r (asked_in r present stored older) stored m.cycle o none h
 
 pub of_all : (r : Recording) (present stored : List Bool) (older : Option (List Bool)) (most : ℕ) (sought : Sought) → IsLongest r.runs most →
     SoughtBefore r present stored older (most + 1) sought → SoughtOfAll r present stored older sought
@@ -264,29 +355,48 @@ of_all r present stored older most (Unsaid o) longest h = h
 
 -- ---- the tries of cycles
 
-one_cycle_more : (cycle runs : ℕ) → (cycle + 1) * runs ≡ cycle * runs + runs
-one_cycle_more cycle runs = let next : cycle + 1 ≡ suc cycle = omega arith in ap (λ (n : ℕ). n * runs) next ∙ suc-mul cycle runs
+pub tried_cycle : (r : Recording) (stored : List Bool) (first old new cycle runs : ℕ) → runs ≡ length r.runs → first ≤ old + alike_below r stored cycle →
+    old ≤ new + alike_at r stored cycle runs → first ≤ new + alike_below r stored (cycle + 1)
+tried_cycle r stored first old new cycle runs is so_far here =
+    let last : old ≤ new + alike_at r stored cycle (length r.runs) = subst (λ (n : ℕ). old ≤ new + alike_at r stored cycle n) is here in
+    let none : cycle ≡ 0 + cycle = omega arith in
+    let more : alike_below r stored (cycle + 1) ≡ alike_below r stored cycle + alike_at r stored cycle (length r.runs) =
+    sum_next (λ (c : ℕ). alike_at r stored c (length r.runs)) 0 cycle cycle none in
+    omega (arith, so_far, last, more)
 
-pub tried_cycle : (first old new cycle runs : ℕ) → first ≤ old + cycle * runs → old ≤ new + runs → first ≤ new + (cycle + 1) * runs
-tried_cycle first old new cycle runs so_far here = let more = one_cycle_more cycle runs in omega (arith, so_far, here, more)
+-- all cycles are passed
+pub tried_cycles : (r : Recording) (stored : List Bool) (first old cycle limit : ℕ) → cycle ≡ limit → first ≤ old + alike_below r stored cycle →
+    first ≤ old + alike_below r stored limit
+tried_cycles r stored first old cycle limit is so_far = subst (λ (n : ℕ). first ≤ old + alike_below r stored n) is so_far
 
 -- the search is cut in a cycle, behind those before it
-pub cut_in_cycle : (r : Recording) (states : List (List Bool)) (cycle first old : ℕ) (m : Moment) → first ≤ old + cycle * length r.runs →
-    IsOpenAt r states cycle 0 m → old ≤ m.run - 1 → first ≤ place_of r m
-cut_in_cycle r states cycle first old m so_far h here =
-    subst (λ (n : ℕ). first ≤ n * length r.runs + (m.run - 1)) (sym h.cycle_is) (omega (arith, so_far, here))
+pub cut_in_cycle : (r : Recording) (states : List (List Bool)) (stored : List Bool) (cycle first old : ℕ) (m : Moment) →
+    first ≤ old + alike_below r stored cycle → IsOpenAt r states stored cycle 0 m → old ≤ alike_at r stored cycle (m.run - 1) →
+    first ≤ alike_before r stored m
+cut_in_cycle r states stored cycle first old m so_far h here =
+    subst (λ (n : ℕ). first ≤ alike_below r stored n + alike_at r stored n (m.run - 1)) (sym h.cycle_is) (omega (arith, so_far, here))
 
 pub cut_sooner : (r : Recording) (present stored : List Bool) (older : Option (List Bool)) (m : Moment) (first old new : ℕ) (sought : Sought) →
-    first ≤ old + m.cycle * length r.runs → SoughtAt r present stored older m.cycle 0 (m.run - 1) sought →
-    HasTried old new (m.run - 1) (λ o. o.run - 1) sought → IsCutAt r first sought
+    first ≤ old + alike_below r stored m.cycle → SoughtAt r present stored older m.cycle 0 (m.run - 1) sought →
+    HasTried old new (alike_at r stored m.cycle (m.run - 1)) (λ o. alike_at r stored m.cycle (o.run - 1)) sought → IsCutAt r stored first sought
 cut_sooner r present stored older m first old new (Found f) so_far h tried = tt
 cut_sooner r present stored older m first old new NoMoment so_far h tried = tt
 cut_sooner r present stored older m first old new (Cut o) so_far h tried =
-    cut_in_cycle r (asked_in r present stored older) m.cycle first old o so_far h tried
+    cut_in_cycle r (asked_in r present stored older) stored m.cycle first old o so_far h tried
 cut_sooner r present stored older m first old new (Unsaid o) so_far h tried = tt
 
-pub cut_of_tried : (r : Recording) (old new places : ℕ) (sought : Sought) → HasTried old new places (place_of r) sought → IsCutAt r old sought
-cut_of_tried r old new places (Found f) h = tt
-cut_of_tried r old new places NoMoment h = tt
-cut_of_tried r old new places (Cut m) h = h
-cut_of_tried r old new places (Unsaid m) h = tt
+-- the runs of a moment's cycle were searched behind the cycles before it
+pub cut_behind : {E : Type 0} (r : Recording) (present stored : List Bool) (older : Option (List Bool)) (m : Moment) (first old new : ℕ)
+    (result : Result Sought E) → first ≤ old + alike_below r stored m.cycle →
+    IfOk result (SoughtAt r present stored older m.cycle 0 (m.run - 1)) →
+    IfOk result (HasTried old new (alike_at r stored m.cycle (m.run - 1)) (λ o. alike_at r stored m.cycle (o.run - 1))) →
+    IfOk result (IsCutAt r stored first)
+cut_behind r present stored older m first old new (Ok sought) so_far h tried = cut_sooner r present stored older m first old new sought so_far h tried
+cut_behind r present stored older m first old new (Err want) so_far h tried = tt
+
+pub cut_of_tried : (r : Recording) (stored : List Bool) (old new alike : ℕ) (sought : Sought) → HasTried old new alike (alike_before r stored) sought →
+    IsCutAt r stored old sought
+cut_of_tried r stored old new alike (Found f) h = tt
+cut_of_tried r stored old new alike NoMoment h = tt
+cut_of_tried r stored old new alike (Cut m) h = h
+cut_of_tried r stored old new alike (Unsaid m) h = tt

@@ -1,12 +1,12 @@
 //! The moments of recorded runs in their order, until one is in a predecessor.
-ghost use Rattle.std.specs.Prelude.{◌≡◌, ◌≤◌, ◌+◌, ◌-◌, ◌*◌, length, option_map, IfOk, IfSome};
+ghost use Rattle.std.specs.Prelude.{◌≡◌, ◌≤◌, ◌+◌, ◌-◌, option_map, IfOk, IfSome};
 ghost use Rattle.bs_preimage_recorded.specs.declared.search.TheConstants.{MAX_ASKS};
 ghost use Rattle.bs_scan.specs.Moments.{IsMoment, moment};
 ghost use Rattle.bs_stim.specs.declared.limits.TheConstants.{MAX_CYCLES};
 ghost use Rattle.bs_chip.specs.Lockstep.{NoneBefore};
 ghost use Rattle.bs_chip.specs.SignatureHashes.{IsNextAlike};
 ghost use Rattle.bs_preimage_recorded.specs.Finder.{IsAsking};
-ghost use Rattle.bs_preimage_recorded.specs.Search.{asked_in, place_of, turn_by, HasTried, HasTurned, IsCutAt, SoughtAt, SoughtBefore, SoughtOfAll, SoughtSooner, SoughtWithin, TurnsTo};
+ghost use Rattle.bs_preimage_recorded.specs.Search.{alike_at, alike_before, alike_below, asked_in, turn_by, HasTried, HasTurned, IsCutAt, SoughtAt, SoughtBefore, SoughtOfAll, SoughtSooner, SoughtWithin, TurnsTo};
 
 use crate::finder::{Finder, Query};
 use bs_bits::NoMemory;
@@ -38,7 +38,8 @@ pub enum Sought {
     Found(Recorded),
     /// No moment that was looked at is in one.
     NoMoment,
-    /// As many states as the limit were asked about. No moment before this one is in a predecessor.
+    /// As many states as the limit were asked about, each with the hash of the stored signature. No moment before this one is in a
+    /// predecessor.
     Cut(Moment),
     /// The solver did not say whether the state of this moment is a predecessor. No moment before it is in one.
     Unsaid(Moment),
@@ -87,7 +88,7 @@ fn ask_run(
     requires aimed { finder.old ≡ record { recording = chip.old.recording; present = query.now.present.now; stored = query.now.stored.now } }
     requires asking { IsAsking chip.old.recording query.now.present.now query.now.stored.now (option_map (λ bits. bits.now) query.now.older) query.now.b }
     ensures turn { IfOk result (TurnsTo chip.old.recording query.now.present.now query.now.stored.now (option_map (λ bits. bits.now) query.now.older) span.cycle span.from span.below) }
-    ensures tried { IfOk result (HasTurned tries.old tries.new span.from span.below) }
+    ensures tried { IfOk result (HasTurned tries.old tries.new (alike_at chip.old.recording query.now.stored.now span.cycle) span.from span.below) }
     ensures chip { chip.new ≡ chip.old }
     ensures finder { finder.new ≡ finder.old }
 {
@@ -116,7 +117,7 @@ fn try_run(
     requires aimed { finder.old ≡ record { recording = chip.old.recording; present = query.now.present.now; stored = query.now.stored.now } }
     requires asking { IsAsking chip.old.recording query.now.present.now query.now.stored.now (option_map (λ bits. bits.now) query.now.older) query.now.b }
     ensures turn { IfOk result (TurnsTo chip.old.recording query.now.present.now query.now.stored.now (option_map (λ bits. bits.now) query.now.older) span.cycle span.from span.below) }
-    ensures tried { IfOk result (HasTurned tries.old tries.new span.from span.below) }
+    ensures tried { IfOk result (HasTurned tries.old tries.new (alike_at chip.old.recording query.now.stored.now span.cycle) span.from span.below) }
     ensures chip { chip.new ≡ chip.old }
     ensures finder { finder.new ≡ finder.old }
 {
@@ -143,7 +144,7 @@ fn next_turn(
     requires aimed { finder.old ≡ record { recording = chip.old.recording; present = query.now.present.now; stored = query.now.stored.now } }
     requires asking { IsAsking chip.old.recording query.now.present.now query.now.stored.now (option_map (λ bits. bits.now) query.now.older) query.now.b }
     ensures turn { IfOk result (TurnsTo chip.old.recording query.now.present.now query.now.stored.now (option_map (λ bits. bits.now) query.now.older) span.cycle span.from span.below) }
-    ensures tried { IfOk result (HasTurned tries.old tries.new span.from span.below) }
+    ensures tried { IfOk result (HasTurned tries.old tries.new (alike_at chip.old.recording query.now.stored.now span.cycle) span.from span.below) }
     ensures chip { chip.new ≡ chip.old }
     ensures finder { finder.new ≡ finder.old }
 {
@@ -167,7 +168,7 @@ fn lowest_at(
     requires aimed { finder.old ≡ record { recording = chip.old.recording; present = query.now.present.now; stored = query.now.stored.now } }
     requires asking { IsAsking chip.old.recording query.now.present.now query.now.stored.now (option_map (λ bits. bits.now) query.now.older) query.now.b }
     ensures sought { IfOk result (SoughtAt chip.old.recording query.now.present.now query.now.stored.now (option_map (λ bits. bits.now) query.now.older) cycle 0 below) }
-    ensures tried { IfOk result (HasTried tries.old tries.new below (λ m. m.run - 1)) }
+    ensures tried { IfOk result (HasTried tries.old tries.new (alike_at chip.old.recording query.now.stored.now cycle below) (λ m. alike_at chip.old.recording query.now.stored.now cycle (m.run - 1))) }
     ensures chip { chip.new ≡ chip.old }
     ensures finder { finder.new ≡ finder.old }
 {
@@ -215,7 +216,7 @@ fn first_before(
     requires aimed { finder.old ≡ record { recording = chip.old.recording; present = query.now.present.now; stored = query.now.stored.now } }
     requires asking { IsAsking chip.old.recording query.now.present.now query.now.stored.now (option_map (λ bits. bits.now) query.now.older) query.now.b }
     ensures sought { IfOk result (SoughtBefore chip.old.recording query.now.present.now query.now.stored.now (option_map (λ bits. bits.now) query.now.older) limit) }
-    ensures tried { IfOk result (HasTried tries.old tries.new (limit * length chip.old.recording.runs) (place_of chip.old.recording)) }
+    ensures tried { IfOk result (HasTried tries.old tries.new (alike_below chip.old.recording query.now.stored.now limit) (alike_before chip.old.recording query.now.stored.now)) }
     ensures chip { chip.new ≡ chip.old }
     ensures finder { finder.new ≡ finder.old }
 {
@@ -246,7 +247,7 @@ fn first_sooner(
     requires aimed { finder.old ≡ record { recording = chip.old.recording; present = query.now.present.now; stored = query.now.stored.now } }
     requires asking { IsAsking chip.old.recording query.now.present.now query.now.stored.now (option_map (λ bits. bits.now) query.now.older) query.now.b }
     ensures sought { IfOk result (SoughtSooner chip.old.recording query.now.present.now query.now.stored.now (option_map (λ bits. bits.now) query.now.older) moment) }
-    ensures tried { IfOk result (IsCutAt chip.old.recording tries.old) }
+    ensures tried { IfOk result (IsCutAt chip.old.recording query.now.stored.now tries.old) }
     ensures chip { chip.new ≡ chip.old }
     ensures finder { finder.new ≡ finder.old }
 {
@@ -270,7 +271,7 @@ fn first_of_all(
     requires aimed { finder.old ≡ record { recording = chip.old.recording; present = query.now.present.now; stored = query.now.stored.now } }
     requires asking { IsAsking chip.old.recording query.now.present.now query.now.stored.now (option_map (λ bits. bits.now) query.now.older) query.now.b }
     ensures sought { IfOk result (SoughtOfAll chip.old.recording query.now.present.now query.now.stored.now (option_map (λ bits. bits.now) query.now.older)) }
-    ensures tried { IfOk result (IsCutAt chip.old.recording tries.old) }
+    ensures tried { IfOk result (IsCutAt chip.old.recording query.now.stored.now tries.old) }
     ensures chip { chip.new ≡ chip.old }
     ensures finder { finder.new ≡ finder.old }
 {
@@ -292,7 +293,7 @@ fn first_within(
     requires aimed { finder.old ≡ record { recording = chip.old.recording; present = query.now.present.now; stored = query.now.stored.now } }
     requires asking { IsAsking chip.old.recording query.now.present.now query.now.stored.now (option_map (λ bits. bits.now) query.now.older) query.now.b }
     ensures sought { IfOk result (SoughtWithin chip.old.recording query.now.present.now query.now.stored.now (option_map (λ bits. bits.now) query.now.older) before) }
-    ensures tried { IfOk result (IsCutAt chip.old.recording most) }
+    ensures tried { IfOk result (IsCutAt chip.old.recording query.now.stored.now most) }
     ensures chip { chip.new ≡ chip.old }
     ensures finder { finder.new ≡ finder.old }
 {
@@ -315,7 +316,7 @@ fn first_ahead<'a>(
     requires aimed { finder.old ≡ record { recording = chip.old.recording; present = query.now.present.now; stored = query.now.stored.now } }
     requires asking { IsAsking chip.old.recording query.now.present.now query.now.stored.now (option_map (λ bits. bits.now) query.now.older) query.now.b }
     ensures sought { IfOk result (SoughtWithin chip.old.recording query.now.present.now query.now.stored.now (option_map (λ bits. bits.now) query.now.older) before) }
-    ensures cut { IfOk result (IsCutAt chip.old.recording MAX_ASKS) }
+    ensures cut { IfOk result (IsCutAt chip.old.recording query.now.stored.now MAX_ASKS) }
     ensures chip { chip.new ≡ chip.old }
     ensures finder { finder.new.recording ≡ finder.old.recording }
 {
@@ -336,7 +337,7 @@ fn first_unseen<'a>(
     requires aimed { finder.old ≡ record { recording = chip.old.recording; present = query.now.present.now; stored = query.now.stored.now } }
     requires asking { IsAsking chip.old.recording query.now.present.now query.now.stored.now (option_map (λ bits. bits.now) query.now.older) query.now.b }
     ensures sought { IfOk result (SoughtWithin chip.old.recording query.now.present.now query.now.stored.now (option_map (λ bits. bits.now) query.now.older) before) }
-    ensures cut { IfOk result (IsCutAt chip.old.recording MAX_ASKS) }
+    ensures cut { IfOk result (IsCutAt chip.old.recording query.now.stored.now MAX_ASKS) }
     ensures chip { chip.new ≡ chip.old }
     ensures finder { finder.new.recording ≡ finder.old.recording }
 {
@@ -349,7 +350,7 @@ fn first_unseen<'a>(
 }
 
 /// The first moment in a predecessor: of those before a moment, if one is given, or of all. The search is cut where it has asked
-/// about `MAX_ASKS` states, so that as many moments are before the one that it stands at.
+/// about `MAX_ASKS` states: as many moments before the one that it stands at have a signature with the hash of the stored one.
 pub fn first_recorded<'a>(
     alloc: Global,
     chip: &mut Chip<'a>,
@@ -361,7 +362,7 @@ pub fn first_recorded<'a>(
     requires recording { finder.old.recording ≡ chip.old.recording }
     requires asking { IsAsking chip.old.recording query.now.present.now query.now.stored.now (option_map (λ bits. bits.now) query.now.older) query.now.b }
     ensures sought { IfOk result (SoughtWithin chip.old.recording query.now.present.now query.now.stored.now (option_map (λ bits. bits.now) query.now.older) before) }
-    ensures cut { IfOk result (IsCutAt chip.old.recording MAX_ASKS) }
+    ensures cut { IfOk result (IsCutAt chip.old.recording query.now.stored.now MAX_ASKS) }
     ensures chip { chip.new ≡ chip.old }
     ensures finder { finder.new.recording ≡ finder.old.recording }
 {

@@ -6,3 +6,4 @@ pub mod ReadBackLemmas
 pub mod SpelledLemmas
 pub mod WrittenLemmas
 pub mod Examples
+pub mod ShownLemmas

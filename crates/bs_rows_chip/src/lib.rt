@@ -1,4 +1,4 @@
-//! Worked rows on netlists, on runs that are simulated at once and on the chip, each with ample memory: tests alone.
+//! Worked rows on netlists, on stimuli, on runs that are simulated at once and on the chip, each with ample memory: tests alone.
 #![tactic(auto)]
 
 #[cfg(test)]
@@ -13,6 +13,8 @@ mod net_rows;
 mod netlists;
 #[cfg(test)]
 mod recorded;
+#[cfg(test)]
+mod stim_rows;
 #[cfg(test)]
 mod verilog_rows;
 #[cfg(test)]

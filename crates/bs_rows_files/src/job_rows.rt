@@ -12,7 +12,7 @@ fn long_file(alloc: Global) -> Result<Vec<u8>, NoMemory> {
 }
 
 /// Puts a file behind others.
-fn push_file(
+pub fn push_file(
     alloc: Global,
     files: &mut Vec<(String, Vec<u8>)>,
     name: &str,

@@ -1,4 +1,4 @@
-//! Worked rows on what is read and written: bits and lines, files and outputs, words, stimuli and reports, each with ample memory: tests
+//! Worked rows on what is read and written: bits and lines, files and outputs, words and reports, each with ample memory: tests
 //! alone.
 #![tactic(auto)]
 
@@ -10,8 +10,6 @@ mod job_rows;
 mod outside_rows;
 #[cfg(test)]
 mod report_rows;
-#[cfg(test)]
-mod stim_rows;
 #[cfg(test)]
 mod stream_rows;
 #[cfg(test)]

@@ -1,5 +1,6 @@
 //! Shelves and sinks at work: in memory, on real files and standard output, and over readers and writers that give and take little at
 //! a time and fail in the middle.
+use crate::job_rows::push_file;
 use bs_outside::{
     Fetch, FileShelf, MemShelf, MemSink, NoMemory, Put, Shelf, Sink, StdSink, SureShelf, SureSink,
     fetch_opened, write_whole,
@@ -13,23 +14,12 @@ use std::{fs, io};
 /// The names of the files in memory, and their texts: of two of one name the first one counts.
 static FILES: [(&str, &str); 3] = [("a", "abc"), ("a", "x"), ("b", "")];
 
-/// Puts a file behind others.
-fn push_file(
-    alloc: Global,
-    files: &mut Vec<(String, Vec<u8>)>,
-    name: &str,
-    text: &str,
-) -> Result<(), NoMemory> {
-    let bytes = Vec::from_slice(alloc, text.as_bytes())?;
-    let name = String::from_str(alloc, name)?;
-    Ok(files.push((name, bytes))?)
-}
-
 /// These files.
 fn files(alloc: Global) -> Result<Vec<(String, Vec<u8>)>, NoMemory> {
     let mut files = Vec::new(alloc);
     for (name, text) in &FILES {
-        push_file(alloc, &mut files, name, text)?;
+        let bytes = Vec::from_slice(alloc, text.as_bytes())?;
+        push_file(alloc, &mut files, name, bytes)?;
     }
     Ok(files)
 }

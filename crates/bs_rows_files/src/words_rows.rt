@@ -12,12 +12,6 @@ fn words_of(alloc: Global, line: &str) -> Result<Vec<String>, AllocError> {
     Ok(words)
 }
 
-/// The job that words are.
-fn job_of(alloc: Global, words: &[String]) -> Result<Option<Job<'_>>, AllocError> {
-    let job = read_words(alloc, words)?;
-    Ok(job)
-}
-
 /// A run in one text.
 fn run_text(alloc: Global, job: &RunJob<'_>) -> Result<String, AllocError> {
     let (netlist, signature, stimulus, dump) = (job.netlist, job.signature, job.stimulus, job.dump);
@@ -63,7 +57,7 @@ fn job_text(alloc: Global, job: &Job<'_>) -> Result<String, AllocError> {
 /// The job of a line of words with one space between two, in one text, or `refused`.
 fn shown(alloc: Global, line: &str) -> Result<String, AllocError> {
     let words = words_of(alloc, line)?;
-    match job_of(alloc, &words)? {
+    match read_words(alloc, &words)? {
         Some(job) => job_text(alloc, &job),
         None => String::from_str(alloc, "refused"),
     }

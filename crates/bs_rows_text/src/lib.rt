@@ -1,4 +1,5 @@
-//! Worked rows on designs of several modules, value changes, waveforms, proposals and what forces bits, each with ample memory: tests alone.
+//! Worked rows on designs of several modules, value changes, waveforms, proposals and what forces bits, each with ample memory: tests
+//! alone, and a law that holds limits to their numbers (`limits`).
 #![tactic(auto)]
 
 #[cfg(test)]
@@ -7,6 +8,7 @@ mod design_answers;
 mod design_limits;
 #[cfg(test)]
 mod design_rows;
+mod limits;
 #[cfg(test)]
 mod module_rows;
 #[cfg(test)]
@@ -29,3 +31,5 @@ mod waves;
 mod why_rows;
 #[cfg(test)]
 mod whys;
+
+pub use limits::limits_are;

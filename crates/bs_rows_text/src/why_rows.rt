@@ -1,5 +1,6 @@
 //! What forces bits: an enable, a clear, d alone, gates, what kept a bit for one reason and another, a counter, constants, a first
-//! moment, the dump, many causes; shorter texts, tables, and questions that have no answer.
+//! moment, the dump, many causes; shorter texts, tables, and questions that have no answer; inputs that stand still, and
+//! executions that a search found.
 
 use crate::whys::why;
 use bs_bits::NoMemory;
@@ -229,19 +230,85 @@ static WHYS: [(&str, &str, &str, Question<'static>, &str); 24] = [
     (ENABLE, "0 1 1", "11 00", WHOLE, ENABLED),
 ];
 
-/// Whether this is the answer.
+const ONES_15: &str = "11 11 11 11 11 11 11 11 11 11 11 11 11 11 11";
+
+const ONES_16: &str = "11 11 11 11 11 11 11 11 11 11 11 11 11 11 11 11";
+
+const LOW_ONCE: &str = "01 11 11 11 11 11 11 11 11 11 11 11 11 11 11 11 11 11 11 11";
+
+const SET_15: &str = "0 1 1 1 1 1 1 1 1 1 1 1 1 1 1 1";
+
+const SET_16: &str = "0 1 1 1 1 1 1 1 1 1 1 1 1 1 1 1 1";
+
+const SET_19: &str = "0 0 1 1 1 1 1 1 1 1 1 1 1 1 1 1 1 1 1 1 1";
+
+const SECOND: Question<'static> = Question {
+    name: "q",
+    at: Some(1),
+    depth: 2,
+    flops: false,
+    all: false,
+    csv: false,
+};
+
+const NOT_STILL: &str =
+    "15 q = 1, as before (dump)\n    by 14 a = 1, since 0\n    by 14 b = 1, since 0\n";
+
+const STILL: &str = "16 q = 1, as before (dump)\nthroughout a = 1, b = 1, since 0\n";
+
+const APIECE: &str =
+    "16 q = 1, as before (dump)\n    by 15 a = 1, since 0\n    by 15 b = 1, since 0\n";
+
+const STILL_SINCE: &str =
+    "20 q = 1, as before (dump)\nthroughout b = 1, since 0\nthroughout a = 1, since 1\n";
+
+const EARLIER: &str = "1 q = 0, as before\n    by 0 a = 0, since 0\nthroughout b = 1, since 0\n";
+
+/// The same of traces in which data inputs stand still.
+static STILLS: [(&str, &str, &str, Question<'static>, &str); 5] = [
+    (ENABLE, SET_15, ONES_15, LAST, NOT_STILL),
+    (ENABLE, SET_16, ONES_16, LAST, STILL),
+    (ENABLE, SET_16, ONES_16, WHOLE, APIECE),
+    (ENABLE, SET_19, LOW_ONCE, LAST, STILL_SINCE),
+    (ENABLE, SET_19, LOW_ONCE, SECOND, EARLIER),
+];
+
+const REACHED: &str =
+    "2 q = 1, since 1, before 0\n    by 0 a = 1, since 0\n    by 0 b = 1, since 0\n    kept by b = 0  1\n";
+
+const FOUND: &str =
+    "1 q = 1, before 0\n    by 0 d = 1, since 0\n0 d = 1\n    by 0 a = 1, since 0\n    by 0 b = 0, since 0\n";
+
+/// The same of executions that a search found: from reset to the state that was asked for.
+static EXECUTIONS: [(&str, &str, &str, Question<'static>, &str); 6] = [
+    (ENABLE, "0 1 1", "11 00", LAST, REACHED),
+    (ENABLE, "0 1 1", "11 00", FIRST, BEGUN),
+    (ENABLE, "0 1 1", "11 00", TABLE, ROWS),
+    (ENABLE, "0", "", LAST, BEGUN),
+    (XOR, "0 1", "10", LAST, FOUND),
+    (XOR, "0 1", "10", GATE, OPEN),
+];
+
+/// Whether this is the answer, by a report that asks for so many steps.
 fn is_told(
     alloc: Global,
+    steps: u64,
     (circuit, states, inputs, question, text): &(&str, &str, &str, Question<'_>, &str),
 ) -> Result<bool, NoMemory> {
-    let own = why(alloc, circuit, states, inputs, question)?;
+    let own = why(alloc, circuit, steps, states, inputs, question)?;
     Ok(own.as_slice() == text.as_bytes())
 }
 
 #[test]
 fn what_forces_bits_is_told(rt: HostRuntime) -> Result<(), Fail> {
     for row in &WHYS {
-        assert!(rt; is_told(rt.alloc(), row)?);
+        assert!(rt; is_told(rt.alloc(), 1, row)?);
+    }
+    for row in &STILLS {
+        assert!(rt; is_told(rt.alloc(), 1, row)?);
+    }
+    for row in &EXECUTIONS {
+        assert!(rt; is_told(rt.alloc(), 0, row)?);
     }
     Ok(())
 }

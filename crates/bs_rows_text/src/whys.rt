@@ -10,15 +10,15 @@ use bs_net::Netlist;
 use bs_report::{Budgets, Report, Stop};
 use std::alloc::Global;
 
-/// A report whose trace is this, with hits nowhere.
-fn report_of(alloc: Global, states: List<Bits>, inputs: List<Bits>) -> Report
+/// A report that asks for so many steps and whose trace is this, with hits nowhere. One that asks for none is an execution.
+fn report_of(alloc: Global, steps: u64, states: List<Bits>, inputs: List<Bits>) -> Report
     ensures states { result.states ≡ states }
     ensures inputs { result.inputs ≡ inputs }
 {
     Report {
         depth: 1,
         budgets: Budgets {
-            steps: 1,
+            steps,
             candidates: 1,
             conflicts: 1,
         },
@@ -65,26 +65,28 @@ fn told(
 fn told_of(
     alloc: Global,
     net: &Netlist,
+    steps: u64,
     states: &str,
     inputs: &str,
     question: &Question<'_>,
 ) -> Result<Vec<u8>, NoMemory> {
     let states = bits_in(alloc, states)?;
     let inputs = bits_in(alloc, inputs)?;
-    let report = report_of(alloc, states, inputs);
+    let report = report_of(alloc, steps, states, inputs);
     told(alloc, net, &report, question)
 }
 
-/// The answer to a question on states and inputs that are given as words.
+/// The answer to a question on states and inputs that are given as words, of a report that asks for so many steps.
 pub fn why(
     alloc: Global,
     circuit: &str,
+    steps: u64,
     states: &str,
     inputs: &str,
     question: &Question<'_>,
 ) -> Result<Vec<u8>, NoMemory> {
     match netlist(alloc, circuit.as_bytes()) {
-        Some(net) => told_of(alloc, &net, states, inputs, question),
+        Some(net) => told_of(alloc, &net, steps, states, inputs, question),
         None => Ok(Vec::new(alloc)),
     }
 }

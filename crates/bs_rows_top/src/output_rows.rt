@@ -1,9 +1,10 @@
 //! Outputs that fail for a reason: the note has the system's.
 
-use crate::calls::{push_file, push_words};
+use crate::calls::push_file;
 use crate::files::SHIFT;
+use crate::said_rows::{called, words_of};
 use bs_outside::{MemSink, NoMemory, OnceShelf, StdSink};
-use bs_top::{Status, backspace_noted};
+use bs_top::Status;
 use std::alloc::Global;
 use std::cell::Cell;
 use std::fmt::Display;
@@ -45,21 +46,7 @@ impl Print for Full {
     }
 }
 
-/// The status of a call with an output, and the sink of its note.
-fn called(
-    alloc: Global,
-    words: &[String],
-    shelf: &mut OnceShelf,
-    full: &Full,
-    mut notes: MemSink,
-) -> Result<(Status, MemSink), NoMemory> {
-    match backspace_noted(alloc, words, shelf, &mut StdSink::new(full), &mut notes) {
-        Ok(status) => Ok((status, notes)),
-        Err(fault) => Err(fault),
-    }
-}
-
-/// The same with a sink for the note.
+/// The status of a call with an output, and a sink with its note.
 fn called_on(
     alloc: Global,
     words: &[String],
@@ -67,7 +54,7 @@ fn called_on(
     full: &Full,
 ) -> Result<(Status, MemSink), NoMemory> {
     match MemSink::new(alloc, 1000, Vec::new(alloc)) {
-        Ok(notes) => called(alloc, words, shelf, full, notes),
+        Ok(notes) => called(alloc, words, shelf, &mut StdSink::new(full), notes),
         Err(fault) => Err(fault),
     }
 }
@@ -90,13 +77,6 @@ fn files(alloc: Global) -> Result<Vec<(String, Vec<u8>)>, NoMemory> {
     Ok(files)
 }
 
-/// Its words.
-fn words(alloc: Global) -> Result<Vec<String>, NoMemory> {
-    let mut words = Vec::new(alloc);
-    push_words(alloc, &mut words, "reach n 11 1")?;
-    Ok(words)
-}
-
 /// The answer of the search to an output.
 fn answer(alloc: Global, words: &[String], full: &Full) -> Result<(Status, MemSink), NoMemory> {
     match files(alloc) {
@@ -114,7 +94,7 @@ fn says_why(alloc: Global, (left, kind, want): &Failing) -> Result<bool, NoMemor
         left: Cell::new(*left),
         kind: *kind,
     };
-    let words = words(alloc)?;
+    let words = words_of(alloc, "reach n 11 1")?;
     match answer(alloc, &words, &full) {
         Ok((status, notes)) => {
             Ok(status == Status::WriteFault && notes.bytes() == want.as_bytes())

@@ -1,13 +1,13 @@
 //! Calls over a shelf that gives each file once, and the note on each: it comes of the first reading.
 
 use crate::calls::{push_file, push_words};
-use bs_outside::{MemSink, NoMemory, OnceShelf};
+use bs_outside::{MemSink, NoMemory, OnceShelf, Sink};
 use bs_top::{Status, backspace_noted};
 use std::alloc::Global;
 use std::test::Fail;
 
 /// The words of a line.
-fn words_of(alloc: Global, line: &str) -> Result<Vec<String>, NoMemory> {
+pub fn words_of(alloc: Global, line: &str) -> Result<Vec<String>, NoMemory> {
     let mut words = Vec::new(alloc);
     push_words(alloc, &mut words, line)?;
     Ok(words)
@@ -47,12 +47,12 @@ type Said<'a> = (&'a str, &'a str, usize, Status, &'a str);
 /// Room for each answer.
 const ROOM: usize = 65536;
 
-/// The status of a call, and the sink of its note.
-fn called(
+/// The status of a call with an output, and the sink of its note.
+pub fn called<K: Sink>(
     alloc: Global,
     words: &[String],
     shelf: &mut OnceShelf,
-    out: &mut MemSink,
+    out: &mut K,
     mut notes: MemSink,
 ) -> Result<(Status, MemSink), NoMemory> {
     match backspace_noted(alloc, words, shelf, out, &mut notes) {

@@ -7,7 +7,7 @@ use Rattle.bs_report.specs.declared.report.Budgets.{Budgets}
 use Rattle.bs_report.specs.declared.report.Report.{Report}
 use Rattle.bs_report.specs.declared.report.Stop.{Stop}
 use Rattle.bs_report.specs.declared.report.Stop.TheVariants.{Reset, Length, Nohit, Empty, Candidates, Conflicts}
-use Rattle.bs_scan.specs.Crash.{Crash, crash_of, dump_at}
+use Rattle.bs_scan.specs.Crash.{Crash, Recording, crash_of, dump_at}
 use Rattle.bs_report.specs.Text.{report_text, HasReportText}
 use Rattle.bs_report_good.specs.declared.part.Part.{Part}
 use Rattle.bs_report_good.specs.Progress.{GoesBack}
@@ -15,6 +15,7 @@ use Rattle.bs_report_good.specs.Valid.{first_failing}
 use Rattle.bs_top_plan.specs.declared.status.Status.{Status}
 use Rattle.bs_top_plan.specs.declared.status.Status.TheVariants as S
 use Rattle.bs_loop.specs.Bound.{HasBound}
+use Rattle.bs_loop.specs.Searched.{WereSearched}
 use Rattle.bs_top_files.specs.Entry.{recording_in}
 use Rattle.bs_top_files.specs.Law.{HasModules, MeansDesign}
 use Rattle.bs_top_files.specs.Readings.{netlist_in}
@@ -43,16 +44,23 @@ stop_status Empty = S.Empty
 stop_status Candidates = S.Spent
 stop_status Conflicts = S.Spent
 
+-- the recorded runs of the chip of a crash
+abbrev pub recording_for : Crash → Recording
+recording_for crash = record { circuit = crash.circuit; choice = crash.choice; runs = crash.runs }
+
 -- A backtrace within the budgets: what holds of its report. It goes back whatever the budget of candidates is: where its first step
 -- hits at a cycle within the budget of steps, and no list with a hit ended with conflicts, it comes to reset or stops with conflicts.
 -- Each step of its log leaves the lemmas that are kept and no block, and each lemma is a new resolvent; a list ends in conflicts only
--- as the budget of lemmas allows; and the report is read back from its text.
+-- as the budget of lemmas allows. Each step whose list did not end with conflicts hits the first moment of any run in a predecessor, listed
+-- or not, and where it has no hit no recorded moment is in one; or else the search for that moment was cut, and far enough. And the report
+-- is read back from its text.
 pub record IsBacktrace (crash : Crash) (budgets : Budgets) (report : Report) : Type 0 where
   pub asked : report.budgets ≡ budgets
   pub sound : IsSoundReport crash report
   pub progress : GoesBack report
   pub lean : IsLean (basis_for crash report).problem (history_of report.log)
   pub bound : HasBound (basis_for crash report).problem report
+  pub searched : WereSearched (recording_for crash) report.steps
   pub readable : HasReportText report
 
 -- ---- what is answered and written

@@ -7,13 +7,14 @@ use Rattle.bs_outside.specs.Texts.{Output}
 use Rattle.bs_top_plan.specs.declared.file.File.{File}
 use Rattle.bs_top_plan.specs.declared.file.File.TheVariants as files
 use Rattle.bs_top_plan.specs.declared.status.Status.{Status}
-use Rattle.bs_top_plan.specs.declared.status.Status.TheVariants.{WriteFault}
+use Rattle.bs_top_plan.specs.declared.status.Status.TheVariants.{ReadFault, WriteFault}
 use Rattle.bs_top_plan.specs.declared.walk.JobFault.{JobFault}
 use Rattle.bs_top_plan.specs.declared.walk.JobFault.TheVariants as J
 use Rattle.bs_top_plan.specs.declared.diagnostic.WalkStop.{WalkStop}
+use Rattle.bs_top_plan.specs.declared.diagnostic.WalkStop.TheVariants as S
 use Rattle.bs_top_plan.specs.Files.{is_work_status, refusal_status}
-use Rattle.bs_top_plan.specs.Plan.{Tells, Counts, Plan, end, ◌>>=◌, ready, faulted, refused}
-use Rattle.bs_top_plan.specs.Asking.{AsksTo, GoesTo}
+use Rattle.bs_top_plan.specs.Plan.{Tells, Counts, Plan, end, fetch, refuse, ◌>>=◌, ready, faulted, refused}
+use Rattle.bs_top_plan.specs.Asking.{Along, AsksTo, GoesTo}
 use Rattle.bs_top_plan.specs.Delivery.{CountsPuts, Delivers, PutsLines}
 use Rattle.bs_top_plan.specs.Prepared.{AnswersStop, IsWork}
 use Rattle.bs_top_plan.specs.Telling.{WalksDiagnosed}
@@ -26,10 +27,10 @@ use Rattle.bs_top_plan.proofs.Walking.{walks_as}
 use Rattle.bs_top_plan.specs.Answers.{RefusesWords}
 use Rattle.bs_top_answer.specs.declared.note.Response.{Response}
 use Rattle.bs_top_answer.specs.declared.note.Note.{Note}
-use Rattle.bs_top_answer.specs.declared.note.Note.TheVariants.{Silent, Text, Wanting}
-use Rattle.bs_top_answer.specs.Note.{Due}
+use Rattle.bs_top_answer.specs.declared.note.Note.TheVariants.{Silent, Brief, Text, Wanting}
+use Rattle.bs_top_answer.specs.Note.{Sure}
 use Rattle.bs_top_answer.specs.Paths.{Paths, path_of}
-use Rattle.bs_top_answer.specs.Prepared.{IsStopAlong, IsWorkAlong, NoteAlong, NoteBy, PreparedNoted, PreparesNoted}
+use Rattle.bs_top_answer.specs.Prepared.{IsWorkAlong, NoteAlong, NoteBy, PreparedNoted, PreparesNoted, StopSaid}
 use Rattle.bs_top_answer.specs.Said.{CallNoted, FailNoted, IsCutNote, PutsNote, SaysSent}
 use Rattle.bs_top_answer.specs.Stops.{StopNoted}
 
@@ -56,29 +57,74 @@ stop_named fault r same says = subst (λ (n : Paths). IfOk r (λ a. StopNoted (p
 
 -- what is said of work
 by_work : {Q W : Type 0} (notes : Q → List ℕ → Type 0) (speaks : W → List ℕ → Note → Type 0) (path_of : File → List ℕ) (looked : Plan Q W)
-    (fetches : List FetchCall) (text : List ℕ) (note : Note) (done : Bool) → done ≡ true → IsWorkAlong speaks looked fetches text note →
-    NoteBy done notes speaks path_of looked fetches text note
-by_work notes speaks path_of looked fetches text note done is along =
-    subst (λ (b : Bool). NoteBy b notes speaks path_of looked fetches text note) (sym is) along
+    (fetches : List FetchCall) (status : Status) (text : List ℕ) (note : Note) (done : Bool) → done ≡ true →
+    IsWorkAlong speaks looked fetches text note → NoteBy done notes speaks path_of looked fetches status text note
+by_work notes speaks path_of looked fetches status text note done is along =
+    subst (λ (b : Bool). NoteBy b notes speaks path_of looked fetches status text note) (sym is) along
+
+-- a refusal is no read fault
+refusal_no_fault : (file : File) → refusal_status file ≢ ReadFault
+refusal_no_fault files.Netlist = λ e. absurd cc
+refusal_no_fault files.Signature = λ e. absurd cc
+refusal_no_fault files.Stimulus = λ e. absurd cc
+refusal_no_fault files.Dump = λ e. absurd cc
+refusal_no_fault files.Report = λ e. absurd cc
+refusal_no_fault files.State = λ e. absurd cc
+refusal_no_fault files.Vcd = λ e. absurd cc
+refusal_no_fault files.Map = λ e. absurd cc
+refusal_no_fault files.Name = λ e. absurd cc
+
+no_fault : (file : File) (status : Status) → status ≡ refusal_status file → status ≢ ReadFault
+no_fault file status is = λ e. refusal_no_fault file (sym is ∙ e)
+
+-- memory ran out for the note on no file that does not read
+wants_no_fault : (path_of : File → List ℕ) (stop : WalkStop) (status : Status) (text : List ℕ) → AnswersStop (line_stop stop) status text →
+    StopNoted path_of (note_stop stop) Wanting → status ≢ ReadFault
+wants_no_fault path_of (S.Plain J.NoMemory) status text answers says = absurd answers
+wants_no_fault path_of (S.Plain (J.Faulted file)) status text answers says = absurd says.by
+wants_no_fault path_of (S.Plain (J.Refused file why)) status text answers says = no_fault file status answers.0
+wants_no_fault path_of (S.Refused file diagnostic) status text answers says = no_fault file status answers.0
+
+-- a plan that asks no shelf ends by no fault
+alone_reads : {R V : Type 0} (plan : Plan R V) (file : File) → Along plan [] (Some (faulted file)) → ⊥
+alone_reads (end v) file along = let e : faulted file ≡ ready v = along.1 in absurd cc
+alone_reads (refuse other why) file along = let e : faulted file ≡ refused other why = along.1 in absurd cc
+alone_reads (fetch w next) file along = absurd cc
+
+alone_no_fault : {R T W : Type 0} (allows : R → List ℕ → Type 0) (plan : Plan R W) (view : T → W) (line : JobFault) (status : Status) (text : List ℕ) →
+    GoesTo allows plan view [] (Err line) → AnswersStop line status text → status ≢ ReadFault
+alone_no_fault allows plan view J.NoMemory status text goes answers = absurd answers
+alone_no_fault allows plan view (J.Faulted file) status text goes answers = absurd (alone_reads plan file goes)
+alone_no_fault allows plan view (J.Refused file why) status text goes answers = no_fault file status answers.0
 
 -- the note on a stop is one on an end of its plan along the fetches
 on_stop : {Q T W : Type 0} (notes : Q → List ℕ → Type 0) (path_of : File → List ℕ) (looked : Plan Q W) (seen : T → W) (fetches : List FetchCall)
-    (fault : JobFault) (note : Note) → GoesTo notes looked seen fetches (Err fault) → StopNoted path_of fault note →
-    Due (IsStopAlong notes path_of looked fetches) note
-on_stop notes path_of looked seen fetches fault Silent goes says = absurd says
-on_stop notes path_of looked seen fetches fault Wanting goes says = tt
-on_stop notes path_of looked seen fetches J.NoMemory (Text n) goes says = absurd says
-on_stop notes path_of looked seen fetches (J.Faulted file) (Text n) goes says = record { outcome = faulted file; along = goes; says = says }
-on_stop notes path_of looked seen fetches (J.Refused file why) (Text n) goes says =
-    record { outcome = refused file goes.0; along = goes.2; says = (why.items, goes.1, says) }
+    (status : Status) (fault : JobFault) (note : Note) → GoesTo notes looked seen fetches (Err fault) → StopNoted path_of fault note →
+    (StopNoted path_of fault Wanting → status ≢ ReadFault) → StopSaid notes path_of looked fetches status note
+on_stop notes path_of looked seen fetches status J.NoMemory Silent goes says wants = let e : Silent ≡ Wanting = says.by in absurd cc
+on_stop notes path_of looked seen fetches status J.NoMemory (Brief said) goes says wants = let e : Brief said ≡ Wanting = says.by in absurd cc
+on_stop notes path_of looked seen fetches status J.NoMemory (Text n) goes says wants = let e : Text n ≡ Wanting = says.by in absurd cc
+on_stop notes path_of looked seen fetches status J.NoMemory Wanting goes says wants = wants says
+on_stop notes path_of looked seen fetches status (J.Faulted file) Silent goes says wants = absurd says.by
+on_stop notes path_of looked seen fetches status (J.Faulted file) (Brief said) goes says wants =
+    record { outcome = faulted file; along = goes; says = record { kind = says.kind; written = says.by } }
+on_stop notes path_of looked seen fetches status (J.Faulted file) (Text n) goes says wants =
+    record { outcome = faulted file; along = goes; says = record { kind = says.kind; written = says.by } }
+on_stop notes path_of looked seen fetches status (J.Faulted file) Wanting goes says wants = wants says
+on_stop notes path_of looked seen fetches status (J.Refused file why) Silent goes says wants = absurd says.by
+on_stop notes path_of looked seen fetches status (J.Refused file why) (Brief said) goes says wants =
+    record { outcome = refused file goes.0; along = goes.2; says = (why.items, goes.1, says.by) }
+on_stop notes path_of looked seen fetches status (J.Refused file why) (Text n) goes says wants =
+    record { outcome = refused file goes.0; along = goes.2; says = (why.items, goes.1, says.by) }
+on_stop notes path_of looked seen fetches status (J.Refused file why) Wanting goes says wants = wants says
 
 by_stop : {Q T W : Type 0} (notes : Q → List ℕ → Type 0) (speaks : W → List ℕ → Note → Type 0) (path_of : File → List ℕ) (looked : Plan Q W)
     (seen : T → W) (fetches : List FetchCall) (fault line : JobFault) (status : Status) (text : List ℕ) (note : Note) →
     GoesTo notes looked seen fetches (Err fault) → AnswersStop line status text → StopNoted path_of fault note →
-    NoteAlong notes speaks path_of looked fetches status text note
-by_stop notes speaks path_of looked seen fetches fault line status text note goes answers says =
-    subst (λ (b : Bool). NoteBy b notes speaks path_of looked fetches text note) (sym (stop_no_work line status text answers))
-    (on_stop notes path_of looked seen fetches fault note goes says)
+    (StopNoted path_of fault Wanting → status ≢ ReadFault) → NoteAlong notes speaks path_of looked fetches status text note
+by_stop notes speaks path_of looked seen fetches fault line status text note goes answers says wants =
+    subst (λ (b : Bool). NoteBy b notes speaks path_of looked fetches status text note) (sym (stop_no_work line status text answers))
+    (on_stop notes path_of looked seen fetches status fault note goes says wants)
 
 -- what a walk that stopped asked for
 stop_asks : {R T W : Type 0} (allows : R → List ℕ → Type 0) (finishes : W → Status → List ℕ → Type 0) (plan : Plan R W) (view : T → W)
@@ -104,7 +150,7 @@ diagnosed_work {notes = notes} {looked = looked} {view = view} {t = t} speaks pa
     along = record { outcome = ready (view t); along = walks.line_along; answers = done };
   };
   note =
-      by_work notes speaks path_of looked walks.fetches a.reply.text.items a.note (is_work_status a.reply.status)
+      by_work notes speaks path_of looked walks.fetches a.reply.status a.reply.text.items a.note (is_work_status a.reply.status)
       (kind.status (view t) a.reply.status a.reply.text.items done) (record { work = view t; along = walks.note_along; says = says });
 }
 diagnosed_work speaks path_of (Err want) kind walks done says = record { reply = prepares_work (Err want) kind (line_walks walks) tt; note = tt }
@@ -125,7 +171,7 @@ diagnosed_stopped {allows = allows} {notes = notes} {plan = plan} {looked = look
   };
   note =
       by_stop notes speaks path_of looked view walks.fetches (note_stop stop) (line_stop stop) a.reply.status a.reply.text.items a.note
-      walks.note_along line says;
+      walks.note_along line says (λ want. wants_no_fault path_of stop a.reply.status a.reply.text.items line want);
 }
 diagnosed_stopped finishes speaks path_of (Err want) walks line says = record { reply = prepares_stop finishes (Err want) (line_walks walks) tt; note = tt }
 
@@ -153,7 +199,7 @@ pub alone_worked : {R Q T W : Type 0} {allows : R → List ℕ → Type 0} {fini
 alone_worked {notes = notes} {looked = looked} {view = view} {t = t} speaks path_of (Ok a) kind walks sees done says = record {
   reply = alone_work (Ok a.reply) kind walks done;
   note =
-      by_work notes speaks path_of looked [] a.reply.text.items a.note (is_work_status a.reply.status)
+      by_work notes speaks path_of looked [] a.reply.status a.reply.text.items a.note (is_work_status a.reply.status)
       (kind.status (view t) a.reply.status a.reply.text.items done) (record { work = view t; along = sees.along; says = says });
 }
 alone_worked speaks path_of (Err want) kind walks sees done says = tt
@@ -163,10 +209,11 @@ pub alone_stopped : {R Q T W : Type 0} {allows : R → List ℕ → Type 0} {not
     (path_of : File → List ℕ) (r : Result Response NoMemory) → WalksAlone allows plan view (Err line) → WalksAlone notes looked view (Err fault) →
     IfOk r (λ a. AnswersStop line a.reply.status a.reply.text.items) → IfOk r (λ a. StopNoted path_of fault a.note) →
     IfOk r (PreparesNoted allows finishes (NoteAlong notes speaks path_of looked) plan)
-alone_stopped {notes = notes} {looked = looked} {view = view} {fault = fault} {line = line} finishes speaks path_of (Ok a) walks sees answers says = record {
+alone_stopped {allows = allows} {notes = notes} {plan = plan} {looked = looked} {view = view} {fault = fault} {line = line} finishes speaks path_of (Ok a) walks sees answers says = record {
   reply = alone_stop finishes (Ok a.reply) walks answers;
   note =
-      by_stop notes speaks path_of looked view [] fault line a.reply.status a.reply.text.items a.note sees.along answers says;
+      by_stop notes speaks path_of looked view [] fault line a.reply.status a.reply.text.items a.note sees.along answers says
+      (λ want. alone_no_fault allows plan view line a.reply.status a.reply.text.items walks.along answers);
 }
 alone_stopped finishes speaks path_of (Err want) walks sees answers says = tt
 
@@ -208,10 +255,11 @@ noted_nothing plan = record { reply = prepares_nothing plan; note = tt }
 -- ---- the call
 
 cut_note : {K : Type 0} {leads : K → PutCall → K → Type 0} {before now : K} {text : List ℕ} {lines : ℕ} {status : Status} (note : Note) →
-    CountsPuts leads before now text lines status → status ≡ WriteFault → FailNoted lines note → Due (IsCutNote leads before now text) note
+    CountsPuts leads before now text lines status → status ≡ WriteFault → FailNoted lines note → Sure (IsCutNote leads before now text) note
 cut_note Silent counted is says = absurd says
+cut_note {lines = lines} (Brief said) counted is says = record { lines = lines; after = counted.failed is; says = says }
 cut_note {lines = lines} (Text n) counted is says = record { lines = lines; after = counted.failed is; says = says }
-cut_note Wanting counted is says = tt
+cut_note Wanting counted is says = absurd says
 
 -- the note goes out behind the answer
 pub says_sent : {K N : Type 0} {leads : K → PutCall → K → Type 0} {before now : K} {text : List ℕ} {out : Output N} {notes_before notes_now : N}

@@ -46,14 +46,6 @@ abbrev pub run_text : Recording → Dump → Stimulus → ℕ → Stop → Optio
 run_text r dump runs steps stop =
     option_map (λ (text : List ℕ). stopped_text r dump steps stop (followed_text runs stop text)) (text_of steps stop)
 
-abbrev pub is_reset : Stop → Bool
-is_reset S.Reset = true
-is_reset S.Length = false
-is_reset S.Nohit = false
-is_reset S.Empty = false
-is_reset S.Candidates = false
-is_reset S.Conflicts = false
-
 -- the note on a search, where it has no execution
 abbrev pub miss_text_of : Option Miss → Option (List ℕ)
 miss_text_of None = None

@@ -1,17 +1,18 @@
 -- What stands before the first put: the reply, and the note on it.
-use Rattle.std.specs.Prelude.{ℕ, List, [], Bool, true, false, Option, Some, Result, Ok, Err, IfOk}
+use Rattle.std.specs.Prelude.{◌≢◌, ℕ, List, [], Bool, true, false, Option, Some, Result, Ok, Err, IfOk}
 use Rattle.bs_bits.specs.declared.memory.NoMemory.{NoMemory}
 use Rattle.bs_outside.specs.Calls.{FetchCall}
 use Rattle.bs_top_plan.specs.declared.file.File.{File}
 use Rattle.bs_top_plan.specs.declared.reply.Reply.{Reply}
 use Rattle.bs_top_plan.specs.declared.status.Status.{Status}
+use Rattle.bs_top_plan.specs.declared.status.Status.TheVariants.{ReadFault}
 use Rattle.bs_top_plan.specs.Asking.{Along}
 use Rattle.bs_top_plan.specs.Files.{is_work_status}
 use Rattle.bs_top_plan.specs.Plan.{Tells, Counts, Plan, PlanOutcome, ready}
 use Rattle.bs_top_plan.specs.Prepared.{Prepared, PreparesAlone}
 use Rattle.bs_top_answer.specs.declared.note.Response.{Response}
 use Rattle.bs_top_answer.specs.declared.note.Note.{Note}
-use Rattle.bs_top_answer.specs.Note.{Due}
+use Rattle.bs_top_answer.specs.declared.note.Note.TheVariants.{Silent, Brief, Text, Wanting}
 use Rattle.bs_top_answer.specs.Stops.{IsStopNote}
 
 -- The note is on a stop to which these very fetches lead along the plan: so it is about the bytes that they brought.
@@ -28,16 +29,24 @@ pub record IsWorkAlong {Q W : Type 0} (speaks : W → List ℕ → Note → Type
   pub along : Along looked fetches (Some (ready work))
   pub says : speaks work text note
 
+-- What is said of a stop: a note on it. Memory may run out for one on a file that is refused, and for none on a file that does not read.
+abbrev pub StopSaid : {Q W : Type 0} → (Q → List ℕ → Type 0) → (File → List ℕ) → Plan Q W → List FetchCall → Status → Note → Type 0
+StopSaid notes path_of looked fetches status Silent = ⊥
+StopSaid notes path_of looked fetches status (Brief said) = IsStopAlong notes path_of looked fetches said
+StopSaid notes path_of looked fetches status (Text note) = IsStopAlong notes path_of looked fetches note.items
+StopSaid notes path_of looked fetches status Wanting = status ≢ ReadFault
+
 -- what is said, by whether the work is done
 abbrev pub NoteBy : {Q W : Type 0} → (done : Bool) → (Q → List ℕ → Type 0) → (W → List ℕ → Note → Type 0) → (File → List ℕ) → Plan Q W →
-    List FetchCall → List ℕ → Note → Type 0
-NoteBy true notes speaks path_of looked fetches text note = IsWorkAlong speaks looked fetches text note
-NoteBy false notes speaks path_of looked fetches text note = Due (IsStopAlong notes path_of looked fetches) note
+    List FetchCall → Status → List ℕ → Note → Type 0
+NoteBy true notes speaks path_of looked fetches status text note = IsWorkAlong speaks looked fetches text note
+NoteBy false notes speaks path_of looked fetches status text note = StopSaid notes path_of looked fetches status note
 
 -- what is said of an answer with this status and text, after these fetches along the plan
 abbrev pub NoteAlong : {Q W : Type 0} → (Q → List ℕ → Type 0) → (W → List ℕ → Note → Type 0) → (File → List ℕ) → Plan Q W → List FetchCall → Status →
     List ℕ → Note → Type 0
-NoteAlong notes speaks path_of looked fetches status text note = NoteBy (is_work_status status) notes speaks path_of looked fetches text note
+NoteAlong notes speaks path_of looked fetches status text note =
+    NoteBy (is_work_status status) notes speaks path_of looked fetches status text note
 
 abbrev pub replied : Result Response NoMemory → Result Reply NoMemory
 replied (Ok answer) = Ok answer.reply

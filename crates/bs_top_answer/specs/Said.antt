@@ -10,12 +10,13 @@ use Rattle.bs_top_plan.specs.Clauses.{CallByCall}
 use Rattle.bs_top_plan.specs.Delivery.{put_lines_of, PutsAfter}
 use Rattle.bs_top_plan.specs.Plan.{Plan}
 use Rattle.bs_top_answer.specs.declared.note.Note.{Note}
-use Rattle.bs_top_answer.specs.declared.note.Note.TheVariants.{Silent, Text, Wanting}
-use Rattle.bs_top_answer.specs.Note.{Due}
+use Rattle.bs_top_answer.specs.declared.note.Note.TheVariants.{Silent, Brief, Text, Wanting}
+use Rattle.bs_top_answer.specs.Note.{Sure}
 
 -- nothing is put where no note is due; else the note, whole, in one call, or that memory ran out
 abbrev pub PutsNote : {N : Type 0} → Output N → (before now : N) → Note → Type 0
 PutsNote out before now Silent = now ≡ before
+PutsNote out before now (Brief said) = PutsText out before now said
 PutsNote out before now (Text note) = PutsText out before now note.items
 PutsNote out before now Wanting = PutsText out before now want_text
 
@@ -25,7 +26,7 @@ pub record IsFailNote (lines : ℕ) (note : List ℕ) : Type 0 where
   pub is : IsOutputNote lines kind note
 
 abbrev pub FailNoted : ℕ → Note → Type 0
-FailNoted lines note = Due (IsFailNote lines) note
+FailNoted lines note = Sure (IsFailNote lines) note
 
 -- the note says after how many whole lines of this text the output failed
 pub record IsCutNote {K : Type 0} (leads : K → PutCall → K → Type 0) (before now : K) (text note : List ℕ) : Type 0 where
@@ -38,7 +39,7 @@ pub record SaysSent {K N : Type 0} (leads : K → PutCall → K → Type 0) (sin
     (note : Note) (status : Status) : Type 0 where
   pub said : Note
   pub whole : status ≢ WriteFault → said ≡ note
-  pub cut : status ≡ WriteFault → Due (IsCutNote leads sink_before sink_now text) said
+  pub cut : status ≡ WriteFault → Sure (IsCutNote leads sink_before sink_now text) said
   pub put : PutsNote out before now said
 
 -- Call by call; and then what is said of it: by `is` after these very fetches, or, where the output failed, that it did.
@@ -49,5 +50,5 @@ pub record CallNoted {S K N R W : Type 0} (allows : R → List ℕ → Type 0) (
   pub call : CallByCall allows finishes fetch_leads shelf_before shelf_now put_leads sink_before sink_now plan status
   pub said : Note
   pub whole : status ≢ WriteFault → is call.fetches call.called_for call.text said
-  pub cut : status ≡ WriteFault → Due (IsCutNote put_leads sink_before sink_now call.text) said
+  pub cut : status ≡ WriteFault → Sure (IsCutNote put_leads sink_before sink_now call.text) said
   pub put : PutsNote out notes_before notes_now said

@@ -1,7 +1,8 @@
 -- The note on a walk that stopped.
-use Rattle.std.specs.Prelude.{◌≡◌, ℕ, List, codes, Option, Some, None, if◌then◌else◌}
+use Rattle.std.specs.Prelude.{◌≡◌, ℕ, List, codes, Option, Some, None, false, if◌then◌else◌}
 use Rattle.std.specs.Str.{bytes_eq}
-use Rattle.bs_note_calls.specs.Faults.{IsUnreadNote, long_text}
+use Rattle.std.specs.declared.io.ErrorKind.{ErrorKind}
+use Rattle.bs_note_calls.specs.Faults.{IsUnreadNote, long_text, unread_text}
 use Rattle.bs_top_plan.specs.declared.file.File.{File}
 use Rattle.bs_top_plan.specs.declared.walk.JobFault.{JobFault}
 use Rattle.bs_top_plan.specs.declared.walk.JobFault.TheVariants as J
@@ -9,7 +10,8 @@ use Rattle.bs_top_plan.specs.declared.diagnostic.WalkStop.{WalkStop}
 use Rattle.bs_top_plan.specs.declared.diagnostic.WalkStop.TheVariants as S
 use Rattle.bs_top_plan.specs.Plan.{Says, PlanOutcome, ready, refused, faulted}
 use Rattle.bs_top_answer.specs.declared.note.Note.{Note}
-use Rattle.bs_top_answer.specs.declared.note.Note.TheVariants.{Silent, Text, Wanting}
+use Rattle.bs_top_answer.specs.declared.note.Note.TheVariants.{Silent, Brief, Text, Wanting}
+use Rattle.bs_top_answer.specs.Note.{Sure}
 
 -- the text on a file that is refused for this reason: one of its own where it is too long
 abbrev pub refused_text : File → List ℕ → List ℕ → List ℕ
@@ -34,10 +36,20 @@ stop_file (S.Refused file diagnostic) = Some file
 
 -- ---- what inner functions promise
 
--- the note on what stopped the code's walk
-abbrev pub StopNoted : (File → List ℕ) → JobFault → Note → Type 0
-StopNoted path_of fault Silent = ⊥
-StopNoted path_of fault Wanting = Unit {0}
-StopNoted path_of J.NoMemory (Text note) = ⊥
-StopNoted path_of (J.Faulted file) (Text note) = IsUnreadNote (path_of file) note.items
-StopNoted path_of (J.Refused file why) (Text note) = note.items ≡ refused_text file (path_of file) why.items
+-- the note on a file that is refused for this reason: memory may run out for it only where the reason is its text
+abbrev pub RefusedNoted : File → (path why : List ℕ) → Note → Type 0
+RefusedNoted file path why Silent = ⊥
+RefusedNoted file path why (Brief said) = said ≡ refused_text file path why
+RefusedNoted file path why (Text note) = note.items ≡ refused_text file path why
+RefusedNoted file path why Wanting = bytes_eq why (codes "TooLong") ≡ false
+
+-- the note on what stopped the code's walk, where a file that did not read failed for this kind of error
+abbrev pub StopNotedBy : Option ErrorKind → (File → List ℕ) → JobFault → Note → Type 0
+StopNotedBy kind path_of J.NoMemory note = note ≡ Wanting
+StopNotedBy kind path_of (J.Faulted file) note = Sure (λ said. said ≡ unread_text (path_of file) kind) note
+StopNotedBy kind path_of (J.Refused file why) note = RefusedNoted file (path_of file) why.items note
+
+-- the same for some kind of error
+pub record StopNoted (path_of : File → List ℕ) (fault : JobFault) (note : Note) : Type 0 where
+  pub kind : Option ErrorKind
+  pub by : StopNotedBy kind path_of fault note

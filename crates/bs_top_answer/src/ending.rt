@@ -1,14 +1,13 @@
 //! The notes on work that is done: on the stop of a run, on a search without an execution, and on a report that is not valid.
-ghost use Rattle.std.specs.Prelude.{◌≡◌, ◌++◌, length, IfOk, OnOk, Some};
-ghost use Rattle.bs_top_answer.specs.Endings.{followed_text, is_looked, is_reset, miss_text_of, moments, rejected_text_if, run_text, searched_text, stopped_text};
-ghost use Rattle.bs_top_answer.specs.Note.{DueText};
+ghost use Rattle.std.specs.Prelude.{◌≡◌, ◌≢◌, ◌≤◌, ◌++◌, codes, decimal, false, length};
+ghost use Rattle.bs_top_answer.specs.Endings.{followed_text, is_looked, miss_text_of, moments, rejected_text_if, run_text, searched_text, stopped_text};
+ghost use Rattle.bs_top_answer.specs.Looks.{looked_text};
+ghost use Rattle.bs_top_answer.specs.Note.{Due, DueText};
 
 use crate::look::looked_note;
 use crate::note::{Note, note_made};
-use bs_bits::{NoMemory, push_number, push_piece};
 use bs_chip::Chip;
-use bs_note_calls::{Miss, miss_note, rejected_note, stop_note};
-use bs_note_files::plain_note;
+use bs_note_calls::{Brief, Miss, brief_plain, miss_note, rejected_note, stop_note};
 use bs_report::Stop;
 use bs_scan::Dump;
 use bs_stim::Runs;
@@ -27,45 +26,49 @@ fn moments(runs: &Runs) -> u64
 }
 
 /// A sentence on how many moments were searched.
-fn searched_note(alloc: Global, count: u64) -> Result<Vec<u8>, NoMemory>
-    ensures { IfOk result (λ note. note.items ≡ searched_text count) }
+fn searched_sentence(count: u64) -> Brief
+    ensures text { result ≡ codes "so many moments of recorded runs were searched, each cycle of each run from 0: " ++ decimal count }
+    ensures short { length result ≤ 120 }
 {
-    let mut said =
-        b"so many moments of recorded runs were searched, each cycle of each run from 0: ".to_vec(
-            alloc,
-        )?;
-    push_number(&mut said, count)?;
-    plain_note(alloc, &said)
+    let mut said = Brief::of(
+        b"so many moments of recorded runs were searched, each cycle of each run from 0: ",
+    );
+    said.push_number(count);
+    said
 }
 
-/// Appends that sentence.
-fn push_searched(alloc: Global, note: &mut Vec<u8>, runs: &Runs) -> Result<(), NoMemory>
-    ensures { OnOk result (note.new.items ≡ note.old.items ++ searched_text (moments runs.now)) }
+/// That sentence as a note.
+fn searched_note(count: u64) -> Brief
+    ensures text { result ≡ searched_text count }
+    ensures short { length result ≤ 127 }
 {
-    let sentence = searched_note(alloc, moments(runs))?;
-    push_piece(note, &sentence)
+    let said = searched_sentence(count);
+    brief_plain(said.bytes())
 }
 
 /// A text, and that sentence.
-fn searched_on(alloc: Global, text: Vec<u8>, runs: &Runs) -> Result<Vec<u8>, NoMemory>
-    ensures { IfOk result (λ note. note.items ≡ text.items ++ searched_text (moments runs.now)) }
+fn searched_on(text: Brief, runs: &Runs) -> Brief
+    requires { length text ≤ 675 }
+    ensures { result ≡ text ++ searched_text (moments runs.now) }
 {
     let mut note = text;
-    push_searched(alloc, &mut note, runs)?;
-    Ok(note)
+    let more = searched_note(moments(runs));
+    note.push(more.bytes());
+    note
 }
 
 /// The text of a stop, and what follows it.
-fn followed(alloc: Global, text: Vec<u8>, runs: &Runs, stop: Stop) -> Result<Vec<u8>, NoMemory>
-    ensures { IfOk result (λ note. note.items ≡ followed_text runs.now stop text.items) }
+fn followed(text: Brief, runs: &Runs, stop: Stop) -> Brief
+    requires { length text ≤ 675 }
+    ensures { result ≡ followed_text runs.now stop text }
 {
     match stop {
-        Stop::Nohit => searched_on(alloc, text, runs),
-        Stop::Reset => Ok(text),
-        Stop::Length => Ok(text),
-        Stop::Empty => Ok(text),
-        Stop::Candidates => Ok(text),
-        Stop::Conflicts => Ok(text),
+        Stop::Nohit => searched_on(text, runs),
+        Stop::Reset => text,
+        Stop::Length => text,
+        Stop::Empty => text,
+        Stop::Candidates => text,
+        Stop::Conflicts => text,
     }
 }
 
@@ -83,23 +86,33 @@ fn is_looked(steps: u64, stop: Stop) -> bool
     }
 }
 
+/// The note on a stop in the first step, which says this, once the runs were looked at.
+#[tactic(auto, using(crate::proofs::NoteLemmas::text_due))]
+fn looked(alloc: Global, chip: &mut Chip<'_>, dump: &Dump, said: &[u8]) -> Note
+    requires { length dump.now.state ≡ length chip.old.recording.circuit.flops }
+    ensures { Due (λ note. note ≡ looked_text chip.old.recording dump.now said.now) result }
+{
+    note_made(looked_note(alloc, chip, dump, said))
+}
+
 /// The text of a stop, and what the recorded runs tell of the dump where they are looked at for it.
-#[tactic(auto, using(crate::proofs::EndingLemmas::looked_so, crate::proofs::EndingLemmas::unlooked_so))]
+#[tactic(auto, using(crate::proofs::EndingLemmas::looked_so, crate::proofs::EndingLemmas::unlooked_so, crate::proofs::EndingLemmas::looked_wants, crate::proofs::EndingLemmas::brief_sure))]
 fn stopped(
     alloc: Global,
     chip: &mut Chip<'_>,
     dump: &Dump,
     steps: u64,
     stop: Stop,
-    text: Vec<u8>,
-) -> Result<Vec<u8>, NoMemory>
+    text: Brief,
+) -> Note
     requires { length dump.now.state ≡ length chip.old.recording.circuit.flops }
-    ensures { IfOk result (λ note. note.items ≡ stopped_text chip.old.recording dump.now steps stop text.items) }
+    ensures text { Due (λ note. note ≡ stopped_text chip.old.recording dump.now steps stop text) result }
+    ensures sure { is_looked steps stop ≡ false → result ≢ Note.Wanting }
 {
     if is_looked(steps, stop) {
-        return looked_note(alloc, chip, dump, &text);
+        return looked(alloc, chip, dump, text.bytes());
     }
-    Ok(text)
+    Note::Brief(text)
 }
 
 /// The note on a stop, from the text of its own.
@@ -110,52 +123,20 @@ fn noted(
     runs: &Runs,
     steps: u64,
     stop: Stop,
-    text: Vec<u8>,
-) -> Result<Vec<u8>, NoMemory>
-    requires { length dump.now.state ≡ length chip.old.recording.circuit.flops }
-    ensures { IfOk result (λ note. note.items ≡ stopped_text chip.old.recording dump.now steps stop (followed_text runs.now stop text.items)) }
+    text: Brief,
+) -> Note
+    requires width { length dump.now.state ≡ length chip.old.recording.circuit.flops }
+    requires short { length text ≤ 675 }
+    ensures text { Due (λ note. note ≡ stopped_text chip.old.recording dump.now steps stop (followed_text runs.now stop text)) result }
+    ensures sure { is_looked steps stop ≡ false → result ≢ Note.Wanting }
 {
-    match followed(alloc, text, runs, stop) {
-        Ok(text) => stopped(alloc, chip, dump, steps, stop, text),
-        Err(want) => Err(want),
-    }
+    let text = followed(text, runs, stop);
+    stopped(alloc, chip, dump, steps, stop, text)
 }
 
-/// The note on a stop that has one.
-#[tactic(auto, using(crate::proofs::EndingLemmas::run_followed))]
-fn run_note(
-    alloc: Global,
-    chip: &mut Chip<'_>,
-    dump: &Dump,
-    runs: &Runs,
-    steps: u64,
-    stop: Stop,
-) -> Result<Vec<u8>, NoMemory>
-    requires { length dump.now.state ≡ length chip.old.recording.circuit.flops }
-    ensures { IfOk result (λ note. Some note.items ≡ run_text chip.old.recording dump.now runs.now steps stop) }
-{
-    match stop_note(alloc, steps, stop)? {
-        Some(text) => noted(alloc, chip, dump, runs, steps, stop, text),
-        None => Err(NoMemory),
-    }
-}
-
-/// Whether a run came to reset.
-fn is_reset(stop: Stop) -> bool
-    ensures { result ≡ is_reset stop }
-{
-    match stop {
-        Stop::Reset => true,
-        Stop::Length => false,
-        Stop::Nohit => false,
-        Stop::Empty => false,
-        Stop::Candidates => false,
-        Stop::Conflicts => false,
-    }
-}
-
-/// The note on why a run from a dump stopped after so many steps, where it did not come to reset. The chip is that of the runs.
-#[tactic(auto, using(crate::proofs::EndingLemmas::run_silent, crate::proofs::EndingLemmas::run_made))]
+/// The note on why a run from a dump stopped after so many steps, where it did not come to reset. The chip is that of the runs. Memory
+/// may run out for it only where the runs are looked at.
+#[tactic(auto, using(crate::proofs::EndingLemmas::run_silent, crate::proofs::EndingLemmas::run_due, crate::proofs::EndingLemmas::silent_sure))]
 pub fn run_said(
     alloc: Global,
     chip: &mut Chip<'_>,
@@ -165,12 +146,13 @@ pub fn run_said(
     stop: Stop,
 ) -> Note
     requires { length dump.now.state ≡ length chip.old.recording.circuit.flops }
-    ensures { DueText (run_text chip.old.recording dump.now runs.now steps stop) result }
+    ensures text { DueText (run_text chip.old.recording dump.now runs.now steps stop) result }
+    ensures sure { is_looked steps stop ≡ false → result ≢ Note.Wanting }
 {
-    if is_reset(stop) {
-        return Note::Silent;
+    match stop_note(steps, stop) {
+        Some(text) => noted(alloc, chip, dump, runs, steps, stop, text),
+        None => Note::Silent,
     }
-    note_made(run_note(alloc, chip, dump, runs, steps, stop))
 }
 
 /// The note on a search, where it has no execution.

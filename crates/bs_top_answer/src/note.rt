@@ -3,6 +3,7 @@ ghost use Rattle.std.specs.Prelude.{◌≡◌};
 ghost use Rattle.bs_top_answer.specs.Note.{note_made};
 
 use bs_bits::NoMemory;
+use bs_note_calls::Brief;
 use bs_top_plan::Reply;
 
 /// A note, whole, with its line feeds.
@@ -10,6 +11,8 @@ use bs_top_plan::Reply;
 pub enum Note {
     /// Nothing is due.
     Silent,
+    /// One that takes no memory.
+    Brief(Brief),
     Text(Vec<u8>),
     /// Memory ran out while it was made.
     Wanting,

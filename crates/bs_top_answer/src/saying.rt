@@ -5,7 +5,7 @@ ghost use Rattle.bs_outside.specs.Texts.{output, PutsText};
 ghost use Rattle.bs_top_plan.specs.Delivery.{Delivers, PutsLines};
 ghost use Rattle.bs_top_answer.specs.Said.{FailNoted, PutsNote, SaysSent};
 
-use crate::note::{Note, Response, note_made};
+use crate::note::{Note, Response};
 use bs_note_calls::output_note;
 use bs_outside::{Sink, put_text};
 use bs_top_plan::{Delivered, Status, deliver_counted};
@@ -18,6 +18,7 @@ pub fn put_note<N: Sink>(notes: &mut N, note: &Note)
 {
     match note {
         Note::Silent => (),
+        Note::Brief(text) => put_text(notes, text.bytes()),
         Note::Text(text) => put_text(notes, text),
         Note::Wanting => put_text(
             notes,
@@ -28,19 +29,19 @@ pub fn put_note<N: Sink>(notes: &mut N, note: &Note)
 
 /// The note on an output that did not take the answer.
 #[tactic(auto, using(crate::proofs::NoteLemmas::fail_made))]
-fn fail_note(alloc: Global, lines: usize, kind: Option<ErrorKind>) -> Note
+fn fail_note(lines: usize, kind: Option<ErrorKind>) -> Note
     ensures { FailNoted lines result }
 {
-    note_made(output_note(alloc, lines as u64, kind))
+    Note::Brief(output_note(lines as u64, kind))
 }
 
 /// What is said once an answer went out so: its note, or the one on the output.
-fn note_after(alloc: Global, note: Note, sent: Delivered, kind: Option<ErrorKind>) -> Note
+fn note_after(note: Note, sent: Delivered, kind: Option<ErrorKind>) -> Note
     ensures whole { sent.status ≢ Status.WriteFault → result ≡ note }
     ensures cut { sent.status ≡ Status.WriteFault → FailNoted sent.lines result }
 {
     if let Status::WriteFault = sent.status {
-        fail_note(alloc, sent.lines, kind)
+        fail_note(sent.lines, kind)
     } else {
         note
     }
@@ -48,7 +49,7 @@ fn note_after(alloc: Global, note: Note, sent: Delivered, kind: Option<ErrorKind
 
 /// Writes an answer, and then puts the note on it, or the one on an output that failed.
 pub fn deliver_noted<K: Sink, N: Sink>(
-    alloc: Global,
+    _alloc: Global,
     answer: Response,
     out: &mut K,
     notes: &mut N,
@@ -59,7 +60,7 @@ pub fn deliver_noted<K: Sink, N: Sink>(
     ensures said { SaysSent K.leads out.old out.new answer.reply.text.items (output N.written N.faults N.leads) notes.old notes.new answer.note result }
 {
     let sent = deliver_counted(&answer.reply, out);
-    let note = note_after(alloc, answer.note, sent, out.reason());
+    let note = note_after(answer.note, sent, out.reason());
     put_note(notes, &note);
     sent.status
 }

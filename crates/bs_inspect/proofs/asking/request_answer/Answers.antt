@@ -62,6 +62,12 @@ returns-in-Cnf g c = noted_asked _ _ _ (ap request_in c.in-Cnf.is) c.cnf.ensures
 pub returns-in-Lrat : goal.returns-in-Lrat
 returns-in-Lrat g c = noted_asked _ _ _ (ap request_in c.in-Lrat.is) c.lrat.ensures
 
+pub returns-in-ReachCnf : goal.returns-in-ReachCnf
+returns-in-ReachCnf g c = noted_asked _ _ _ (ap request_in c.in-ReachCnf.is) c.reach_cnf.ensures
+
+pub returns-in-ReachLrat : goal.returns-in-ReachLrat
+returns-in-ReachLrat g c = noted_asked _ _ _ (ap request_in c.in-ReachLrat.is) c.reach_lrat.ensures
+
 pub returns-in-Novel : goal.returns-in-Novel
 returns-in-Novel g c = noted_asked _ _ _ (ap request_in c.in-Novel.is) c.novel.ensures
 

@@ -1,6 +1,6 @@
 use Rattle.std.proofs.Common.{arith}
-use Rattle.bs_inspect_causes.specs.Accounts.{is_cause}
-use Rattle.bs_inspect_causes.proofs.AccountLemmas.{kind_all, kind_more}
+use Rattle.bs_inspect_accounts.specs.Accounts.{is_cause}
+use Rattle.bs_inspect_accounts.proofs.ChainLemmas.{kind_all, kind_more}
 use Rattle.bs_inspect_causes.proofs.account.causes_of.Goals as goal
 
 pub given-preserved : goal.given-preserved

@@ -1,5 +1,5 @@
 use Rattle.std.proofs.Common.{◌≡◌, filter, take}
-use Rattle.bs_inspect_causes.specs.Accounts.{is_cause}
+use Rattle.bs_inspect_accounts.specs.Accounts.{is_cause}
 use Rattle.bs_inspect_causes.proofs.account.causes_of.Given as goal
 
 abbrev pub invariant-given : goal.invariant-given

@@ -1,6 +1,6 @@
 use Rattle.std.proofs.Common.{◌≡◌}
 use Rattle.std.proofs.lemmas.Result.{IfOk-weaker}
-use Rattle.bs_inspect_causes.specs.Accounts.{last_bits}
+use Rattle.bs_inspect_accounts.specs.Accounts.{last_bits}
 use Rattle.bs_inspect_causes.proofs.AccountLemmas.{bits_last}
 use Rattle.bs_inspect_causes.proofs.telling.sourced_account.Goals as goal
 

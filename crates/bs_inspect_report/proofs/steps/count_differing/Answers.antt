@@ -1,4 +1,4 @@
-use Rattle.std.proofs.Common.{◌≡◌, ◌+◌, ap, arith, ◌∙◌, ℕ, Bool}
+use Rattle.std.proofs.Common.{◌+◌, ap, arith, ◌∙◌, ℕ, Bool}
 use Rattle.bs_inspect_report.specs.Steps.{differs_at, one_if}
 use Rattle.bs_inspect_report.proofs.PieceLemmas.{count_more}
 use Rattle.bs_inspect_report.proofs.steps.count_differing.Goals as goal

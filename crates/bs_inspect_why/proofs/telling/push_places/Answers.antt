@@ -9,6 +9,6 @@ push_place-requires-clause-place c =
 
 pub places-preserved : goal.places-preserved
 places-preserved c =
-    places_more c.args.moments.now c.args.report.now c.args.few c.args.accounts.now c.args.chains.now c.args.ordered.now c.places.i
+    places_more c.args.moments.now c.args.report.now c.args.few c.args.stills.now c.args.accounts.now c.args.chains.now c.args.ordered.now c.places.i
     c.place_at-place.result c.args.text.now.items c.places.text.items c.push_place.new.text.items c.place_at-place.ensures c.places.invariant
     c.in_ok-push_place.ensures

@@ -1,4 +1,4 @@
-use Rattle.std.proofs.Common.{◌+◌, ◌*◌, length, subst}
+use Rattle.std.proofs.Common.{subst}
 use Rattle.std.specs.Prelude.{option_map}
 use Rattle.bs_chip.specs.Lockstep.{IsLongest}
 use Rattle.bs_preimage_recorded.specs.Finder.{Seeker}
@@ -13,5 +13,5 @@ returns-clause-sought c =
 
 pub returns-clause-tried : goal.returns-clause-tried
 returns-clause-tried c =
-    cut_of_tried c.args.chip.now.recording c.args.tries.now c.first_before.new.tries ((c.longest-limit.result + 1) * length c.args.chip.now.recording.runs)
+    cut_of_tried c.args.chip.now.recording c.args.query.now.stored.now c.args.tries.now c.first_before.new.tries _
     c.in_ok-sought.sought c.in_ok-sought.ensures.tried

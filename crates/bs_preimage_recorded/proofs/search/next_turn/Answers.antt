@@ -1,8 +1,9 @@
-use Rattle.std.proofs.Common.{ℕ, Option, length, subst}
+use Rattle.std.proofs.Common.{ℕ, ◌+◌, Option, arith, length, subst}
 use Rattle.std.specs.Prelude.{MatchOption, option_map}
 use Rattle.bs_chip.specs.SignatureHashes.{NoneAlike, IsNextAlike}
 use Rattle.bs_preimage_recorded.specs.Finder.{Seeker}
-use Rattle.bs_preimage_recorded.proofs.SearchLemmas.{none_behind}
+use Rattle.bs_preimage_recorded.specs.Search.{alike_at}
+use Rattle.bs_preimage_recorded.proofs.SearchLemmas.{none_behind, tried_none}
 use Rattle.bs_preimage_recorded.proofs.search.next_turn.Goals as goal
 
 pub returns-in-None-clause-turn : goal.returns-in-None-clause-turn
@@ -14,3 +15,10 @@ returns-in-None-clause-turn c =
     (NoneAlike c.args.finder.now.recording c.args.finder.now.stored c.args.span.cycle c.args.span.from (length c.args.finder.now.recording.runs))
     (IsNextAlike c.args.finder.now.recording c.args.finder.now.stored c.args.span.cycle c.args.span.from)) c.in-None.is
     c.in_ok-next_alike.ensures.alike))
+
+pub returns-in-None-clause-tried : goal.returns-in-None-clause-tried
+returns-in-None-clause-tried c =
+    tried_none c.args.chip.now.recording c.args.query.now.stored.now
+    (c.args.tries.now + alike_at c.args.chip.now.recording c.args.query.now.stored.now c.args.span.cycle c.args.span.from)
+    c.args.tries.now c.args.span.cycle c.args.span.from c.args.span.below
+    c.requires.order (omega arith)

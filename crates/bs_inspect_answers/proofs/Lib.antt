@@ -1,0 +1,4 @@
+pub mod LineLemmas
+pub mod TraceLemmas
+pub mod CycleLemmas
+pub mod Examples

@@ -1,0 +1,4 @@
+pub mod Words
+pub mod Readings
+pub mod Entry
+pub mod Searched

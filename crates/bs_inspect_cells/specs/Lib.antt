@@ -1,0 +1,5 @@
+pub mod Escapes
+pub mod Cells
+pub mod Figures
+pub mod Rows
+pub mod CellLaw

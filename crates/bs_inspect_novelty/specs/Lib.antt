@@ -1,0 +1,4 @@
+-- what public contracts rest on
+pub mod Values
+pub mod Novelties
+pub mod Known
