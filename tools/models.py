@@ -292,8 +292,8 @@ def signals(keys):
 
 def signal_name(name, high, low):
     if high == low:
-        return name if high is None else (f"{name}[{high}]" if name[0] != "\\" else f"[{high}]{name}")
-    return f"{name}[{high}:{low}]" if name[0] != "\\" else f"[{high}:{low}]{name}"
+        return name if high is None else f"{name}[{high}]"
+    return f"{name}[{high}:{low}]"
 
 
 def signal_value(text, places):

@@ -385,6 +385,9 @@ LOOSE = ("a space too many: words are parted by one space, and none stands at an
 # a netlist that is refused: the text, the refusal with the text at which it stands, and what is said there
 NETLISTS = [
     (NETLIST.replace("dff f0(ck", "foo f0(ck"), "Unsupported {} Hierarchy", "foo f0", ("no cell of this name is known", CELL)),
+    (NETLIST.replace("dff f0(ck", "$_DFF_P_ f0(ck"), "Syntax {}", "$_DFF", (
+        "no cell of this name is known",
+        "cells are dff and dffs (CK, Q, D), dffe (E too), dffr (R too): flatten and map to these (docs/FORMATS.md, Netlists)")),
     (NETLIST.replace("dff f1(ck", "\\not f1(ck"), "Unsupported {} Hierarchy", "\\not f1", (
         "an escaped name is no gate and no cell: `\\not` is another name than `not`",
         "map cells to gates and take the `\\` out of their names: examples/yosys/synth.sh does both")),
@@ -456,6 +459,7 @@ def nearest(*keys):
 # the other files: the place of the file, its text, code, refusal, the line and the column of the note from 1, and what is said there
 TEXTS = [
     (1, "bit q1\r\n", 7, "Line 1", 1, 7, ("a carriage return: lines end with a line feed alone", "take the carriage returns out, as by `tr -d '\\r'`")),
+    (1, "bit q1\x01\n", 7, "Line 1", 1, 7, ("a byte that no line of this text may have", "save the file as plain ASCII")),
     (1, "bit\tq1\n", 7, "Line 1", 1, 4, ("a tab: words are parted by one space", "write one space")),
     (1, "bit  q1\n", 7, "Line 1", 1, 4, LOOSE),
     (1, "bit q1\n\n", 7, "Line 2", 2, 1, ("a line of a signature is `bit NAME` or `xor NAME NAME ..`", "a name is the key of a flip-flop's output net, without empty lines between")),
@@ -484,6 +488,7 @@ TEXTS = [
     (3, "state 3\nsig 1\nend\n", 9, "Line 1", 1, 1, (
         "behind the word stand characters 0 and 1 alone, or `sig none`, and this line has something else",
         "write a number of base 16 bit by bit, as 1010 for a; x and z are no values of a chip: read what it had")),
+    (3, "state 11\nsigs 1\nend\n", 9, "Line 2", 2, 1, ("the second line of a dump is `sig BITS` or `sig none`", "a bit for each item of the signature")),
     (3, "state 11\nsig 1\n", 9, "Line 3", 3, 1, ("the third line of a dump is `end`", "and nothing follows it")),
     (3, "state 11\nsig 1\nend\nend\n", 9, "Line 4", 4, 1, ("nothing follows the line `end` of a dump", "take it out")),
     (3, "state 11\nsig none\nend\n", 9, "NotReset", 1, 1, (
@@ -569,11 +574,13 @@ def files(it):
         it.tried("backspace_inspect", ["stimulus", "--clock", "ck", "--", "n.v", name], 12, "refused vcd ReadFault\n", note)
         it.tried("backspace_inspect", ["signature", "--bits", "1", "--", "n.v", name], 12, "refused stimulus ReadFault\n", note)
         it.tried("backspace_inspect", ["unscan", "--", "n.v", name, "11"], 12, "refused map ReadFault\n", note)
-    # a folder in which there is nothing to look for, and names that the system refuses
-    for name in ("n.v/x", "loop", "x" * 300):
-        got = it.run("backspace", ["run", name, *FOUR[1:]])
-        same(f"backspace run {name}", "12 refused netlist ReadFault\nnote: " + shown(name) + ": ", f"{got[0]} {got[1].decode()}" + got[2].decode()[: 8 + len(shown(name))])
-        assert len(got[2]) > 10 + len(shown(name))
+    # a file that is no folder, a link to itself, and a name that the system refuses
+    for name, reason in (
+        ("n.v/x", "not a directory"),
+        ("loop", "filesystem loop or indirection limit (e.g. symlink loop)"),
+        ("x" * 300, "invalid filename"),
+    ):
+        it.tried("backspace", ["run", name, *FOUR[1:]], 12, "refused netlist ReadFault\n", said(f"{shown(name)}: {reason}"))
     # standard input, a pipe by its number, and one by a name
     for name in ("/dev/stdin", "/dev/fd/{}"):
         given, taken = os.pipe()
@@ -620,14 +627,6 @@ def report_of(it):
     return it.run("backspace", ["run", *FOUR])[1]
 
 
-def failed_after(title, lines, got):
-    """Compares a run whose output failed after so many lines: the code, and the note but for the reason, which is the system's."""
-    wanted = output_note(lines, "REASON")
-    front, _, behind = wanted.partition("REASON")
-    reason = got[2].decode()[len(front) : -len(behind)]
-    same(title, f"13 {front}{reason or 'some reason'}{behind}", f"{got[0]} {got[2].decode()}")
-
-
 def outputs(it):
     """Outputs that are full, closed or cut: the front of the answer, and code 13."""
     base_files(it)
@@ -644,8 +643,7 @@ def outputs(it):
         with open("/dev/full", "wb") as full:
             it.tried(program, given, 13, "", output_note(0, "no storage space"), stdout=full)
         # a closed descriptor
-        got = it.run(program, given, stdout=subprocess.DEVNULL, preexec_fn=lambda: os.close(1))
-        failed_after(f"{' '.join(given)} with a closed output", 0, got)
+        it.tried(program, given, 13, "", output_note(0, "uncategorized error"), stdout=subprocess.DEVNULL, preexec_fn=lambda: os.close(1))
         # a standard error that is full or closed takes the note and nothing else
         with open("/dev/full", "wb") as full:
             same(f"{' '.join(given)} with a full note", str(it.run(program, given)[0]), str(it.run(program, given, stderr=full)[0]))
@@ -653,9 +651,8 @@ def outputs(it):
     # a reader that has gone
     read, wrote = os.pipe()
     os.close(read)
-    got = it.run("backspace", ["run", *FOUR], stdout=wrote, restore_signals=False)
+    it.tried("backspace", ["run", *FOUR], 13, "", output_note(0, "broken pipe"), stdout=wrote, restore_signals=False)
     os.close(wrote)
-    failed_after("a pipe without a reader", 0, got)
     # a file that takes so many bytes and no more
     for room in (1, 15, 16, 17, len(whole) - 1):
         def limited(room=room):
@@ -665,7 +662,7 @@ def outputs(it):
             got = it.run("backspace", ["run", *FOUR], stdout=file, preexec_fn=limited, restore_signals=False)
             file.seek(0)
             same(f"an output with room for {room} bytes", whole[:room], file.read())
-        failed_after(f"an output with room for {room} bytes", whole[:room].count(b"\n"), got)
+        same(f"an output with room for {room} bytes: code and note", "13 " + output_note(whole[:room].count(b"\n"), "file too large"), f"{got[0]} {got[2].decode()}")
     with tempfile.TemporaryFile() as file:
         got = it.run("backspace", ["run", *FOUR], stdout=file)
         file.seek(0)
@@ -1033,8 +1030,8 @@ def value_changes(it):
     for cycle in (0, 1, great(40_000, 40), edges):
         before, state = ([None] + list(run.states(max(0, cycle - 1), cycle)))[-2:]
         wanted = f"state {state}\nsig {stored_busy(before) if cycle else 'none'}\nend\n"
-        when = ["--cycle", str(cycle)] if cycle % 3 else ["--time", str(10 * cycle + 4)]
-        it.tried("backspace_inspect", ["dump", "busy.v", "busy.vcd", *when, "--scope", "tb.dut", "--signature", "busy.s"], 0, wanted)
+        for when in (["--cycle", str(cycle)], ["--time", str(10 * cycle + 4)]):
+            it.tried("backspace_inspect", ["dump", "busy.v", "busy.vcd", *when, "--scope", "tb.dut", "--signature", "busy.s"], 0, wanted)
     if SMALL:
         return
     with open(f"{it.room}/busy.vcd", "ab") as file:
@@ -1249,6 +1246,15 @@ def companion_refusals(it):
         (["signature", net, "t", "--bits", "257"], "word 4, `--bits`, wants a number in digits from 1 to 256"),
         (["dump", net, vcd, "--time", "880ns"], "word 4, `--time`, wants a number in digits from 0 to 18446744073709551615"),
         (["dump", net, vcd, "--cycle=70000"], "word 4, `--cycle=70000`, wants a number in digits from 0 to 65536"),
+        (["novel", net, "t", "1", "--most", "4097"], "word 5, `--most`, wants a number in digits from 1 to 4096"),
+        (["page", net, report, "--most", "0"], "word 4, `--most`, wants a number in digits from 1 to 65536"),
+        (["why", net, report, "count", "--at", "65537"], "word 5, `--at`, wants a number in digits from 0 to 65536"),
+        (["why", net, report, "count", "--at", "x"], "word 5, `--at`, wants a number in digits from 0 to 65536"),
+        (["why", net, report, "count", "--depth=257"], "word 5, `--depth=257`, wants a number in digits from 1 to 256"),
+        (["novel", net, "t", "1", "--at", "70000"], STAND),
+        (["dump", net, vcd, "--cycle", "1", "--signature"], STAND),
+        (["reach-cnf", "--length", "1", net, "0", "a"], "`--length J` stands behind the files, and J is a word of its own"),
+        (["reach-lrat", net, "0", "a", "--length=1"], "`--length J` stands behind the files, and J is a word of its own"),
     ):
         tell(given, 2, "refused words\n", said(why, f"usage: backspace_inspect {COMPANION[given[0]]}"))
     near = "the nearest: `count[0]` `count[1]`"
@@ -1267,7 +1273,7 @@ def companion_refusals(it):
     state = "state 1011011011100110001101011000000000001\ninput 10"
     it.write("changed.txt", text[report].replace(state, state.replace("01\n", "00\n"), 1))
     tell(["why", net, "changed.txt", "count"], 11, "rejected trace 0\n")
-    for given in (["why", net, report], ["why", net, report, "count", "--depth", "257"], ["why", net, report, "count", "--at", "x"], ["why", net, report, "count", "--flops", "--flops"]):
+    for given in (["why", net, report], ["why", net, report, "count", "--flops", "--flops"]):
         tell(given, 2, "refused words\n", said(STAND, f"usage: backspace_inspect {COMPANION['why']}"))
     answers(it, tell)
     scopes = "the scopes: `tb` `tb.dut` `tb.send` `tb.take_after`"
@@ -1645,7 +1651,7 @@ def has(title, text, wanted, absent):
 
 
 def pages(it):
-    """Pages of reports that stopped without a hit, by each cause, of one that did not, and of an execution."""
+    """Pages of reports that stopped without a hit, by each cause, of one that did not, and of an execution; and with a signature."""
     report = base_files(it)
     answer_files(it)
     it.write("none.txt", "")
@@ -1682,18 +1688,359 @@ def pages(it):
     commands = "<pre>backspace reach chain.v STATE CYCLES --conflicts 9\nbackspace_inspect reach-cnf chain.v STATE chain.txt\nbackspace_inspect reach-lrat chain.v STATE chain.txt\n</pre>"
     heads = "".join(f"<th scope='col'{end}>{word}</th>" for word, end in (("cycle", ""), ("0", ""), ("1", ""), ("2", " class='x'")))
     shows(it, "chain.v", "chain.txt", ["<title>Cycles from reset: 2</title>", "is <b>reached</b>", commands, heads], ["backspace audit", "The last list", "Stop <b>", "class='. u'"])
+    signed_pages(it)
 
 
-def audit_words(netlist, name):
-    return f"<pre>backspace audit {netlist} SIGNATURE STIMULUS DUMP {name}</pre>"
+def audit_words(netlist, name, signature="SIGNATURE"):
+    return f"<pre>backspace audit {netlist} {signature} STIMULUS DUMP {name}</pre>"
 
 
-def shows(it, netlist, name, wanted, absent):
+def shows(it, netlist, name, wanted, absent, *words):
     """Looks for words in a page, behind its style."""
-    code, out, note = it.run("backspace_inspect", ["page", netlist, name])
+    code, out, note = it.run("backspace_inspect", ["page", netlist, name, *words])
     same(f"page {netlist} {name}: code and note", "0 ", f"{code} {note.decode()}")
     front, _, behind = out.decode().partition("<style>")
     has(f"page {netlist} {name}", front + behind.partition("</style>")[2], wanted, absent)
+
+
+def signed_pages(it):
+    """Pages with a signature: which names are marked, in the trace and in the last list, and what the front says."""
+    marked = lambda name: f"<tr><th scope='row' class='m'>{name} <span>signature</span></th>"
+    plain = lambda name: f"<tr><th scope='row'>{name}</th>"
+    legend = "<p class='d'>Where <b>signature</b> stands beside a name, an item of the signature reads a flip-flop of that signal, alone or in a parity.</p>\n<div class='late'"
+    items = lambda count: f"data inputs</li>\n<li>items of the signature: {count}</li>\n<li>"
+    style = "<style>\nth.m{box-shadow:inset 3px 0 var(--wave)}\nth.m span{display:inline;color:var(--dim)}\n</style>\n</head>"
+    # one bit, a parity of both, and no item; the option behind another one, before one and with `=`
+    it.write("both.s", "xor q0 q1\nbit q1\n")
+    for words, count, rows in (
+        (["--signature", "s.txt"], 1, [plain("q0"), marked("q1")]),
+        (["--signature=both.s"], 2, [marked("q0"), marked("q1")]),
+        (["--signature", "none.txt"], 0, [plain("q0"), plain("q1")]),
+        (["--only", "q1", "--signature", "s.txt", "--most", "1"], 1, [marked("q1")]),
+        (["--most=1", "--signature", "s.txt"], 1, [plain("q0")]),
+    ):
+        file = words[words.index("--signature") + 1] if "--signature" in words else "both.s"
+        wanted = [style, items(count), audit_words("n.v", "r.txt", file), legend, plain("a") if "q1" not in words else "data inputs", *rows, "</tbody>"]
+        shows(it, "n.v", "r.txt", wanted, [" SIGNATURE "], *words)
+    _, apart, _ = it.run("backspace_inspect", ["page", "--signature", "s.txt", "n.v", "r.txt"])
+    _, behind, _ = it.run("backspace_inspect", ["page", "n.v", "r.txt", "--signature=s.txt"])
+    same("page: the option before the files, and behind them", behind, apart)
+    # a name with marks
+    it.write("a<b>&.s", "bit q1\n")
+    shows(it, "n.v", "r.txt", [items(1), audit_words("n.v", "r.txt", "a&lt;b&gt;&amp;.s"), marked("q1")], ["a<b>"], "--signature", "a<b>&.s")
+    # in the last list, and of an execution, to whose commands no signature belongs
+    cells = lambda head, bits: head + "".join(f"<td>{bit}</td>" for bit in bits) + "</tr>\n"
+    sixteen = [f"{number:05b}" for number in range(16)]
+    it.write("three.s", "bit q0\nxor q2 q4\n")
+    many = [cells((marked if i + 1 in (2, 4) else plain)(f"q{i + 1}"), [bits[i] for bits in sixteen]) for i in range(5)]
+    shows(it, "many.v", "many.r", [items(2), audit_words("many.v", "many.r", "three.s"), "".join(many), "</tbody>", legend], [], "--signature", "three.s")
+    it.write("chain.s", "bit q1\n")
+    shows(it, "chain.v", "chain.txt", [items(1), "<pre>backspace reach chain.v STATE CYCLES", legend, marked("q1")], ["chain\\.s"], "--signature", "chain.s")
+    # without the option, nothing of it
+    code, out, note = it.run("backspace_inspect", ["page", "n.v", "r.txt"])
+    has("page without a signature", out.decode(), [audit_words("n.v", "r.txt")], ["class='m'", "th\\.m", "items of the signature", "stands beside", "<span>signature"])
+    # what is refused: the files come in this order, and names last
+    tell = lambda words, code, out, note="": it.tried("backspace_inspect", ["page", *words], code, out, note)
+    usage = f"usage: backspace_inspect {COMPANION['page']}"
+    absent = lambda name: said(f"{name}: No such file or directory (os error 2)")
+    tell(["gone.v", "gone.r", "--signature", "gone.s"], 12, "refused netlist ReadFault\n", absent("gone.v"))
+    tell(["n.v", "gone.r", "--signature", "gone.s"], 12, "refused signature ReadFault\n", absent("gone.s"))
+    tell(["n.v", "gone.r", "--signature", "s.txt"], 12, "refused report ReadFault\n", absent("gone.r"))
+    it.write("other.s", "bit q2\n")
+    tell(["n.v", "r.txt", "--signature", "other.s", "--only", "q7"], 7, "refused signature UnknownFlop 1\n", at_place(
+        "other.s", "bit q2\n", 4, "no flip-flop has the key `q2`, the name of its output net", nearest("q0", "q1")))
+    code, out, note = it.run("backspace_inspect", ["page", "n.v", "r.txt", "--signature", "s.txt", "--only", "q7"])
+    same("page: a name behind a signature", "18 refused name Unknown q7\n", f"{code} {out.decode()}")
+    for given in (["--signature"], ["--signature", "s.txt", "--signature", "s.txt"], ["--signature", "s.txt", "x"]):
+        tell(["n.v", "r.txt", *given], 2, "refused words\n", said(STAND, usage))
+
+
+# ---- stops, and notes that no part above has
+
+
+def stops(it):
+    """Stops in the first step, by what the recorded runs show of the dump; and searches that have spent their budget."""
+    # three flip-flops in a row, which the run brings to 000, 100 and 110
+    it.write("c.v", "module c(ck, a); input ck, a; dff (ck, q0, a); dff (ck, q1, q0); dff (ck, q2, q1); endmodule\n")
+    it.write("c.s", "bit q0\nbit q2\n")
+    it.write("c.t", "run a 2\n1\n1\nend\n")
+    there = "the dump's state is that of run 1 at cycle 2, whose dump has `sig 10`"
+    behind = "the first on the left"
+    backwards = "this dump has it read backwards: turn it around, so that the bit of the signature's first line is " + behind
+    another = "this dump has another: were state and `sig` read at the same cycle, and is the signature file the chip's?"
+    both = "turn state and `sig` around: bits are in the order of the netlist's flip-flops and of the signature's lines, " + behind
+    state = f"turn the state around: its bits are in the order of the netlist's flip-flops, {behind}; this dump has another `sig`"
+    for present, stored, cand, note in (
+        ("110", "01", "", said(there, backwards)),
+        ("110", "11", "cand 101 input 1\n", said(there, another)),
+        ("011", "01", "", said("read backwards, " + there, both)),
+        ("011", "11", "cand 111 input 0\n", said("read backwards, " + there, state)),
+    ):
+        it.write("c.d", f"state {present}\nsig {stored}\nend\n")
+        stop = "nohit" if cand else "empty"
+        wanted = asked(64) + f"step 1\npresent {present}\nstored {stored}\n{cand}list finished ID\nnohit\nstop {stop}\ntrace 0\nstate {present}\n"
+        judged(it, ["run", "c.v", "c.s", "c.t", "c.d"], 3 if cand else 4, wanted, note)
+    # two stored signatures
+    it.write("c2.s", "cycles 2\nbit q0\nbit q2\n")
+    it.write("z.v", LISTS["none"][0][0])
+    it.write("z2.s", "cycles 2\nbit q\n")
+    it.write("z2.t", "run a 2\n.\n.\nend\n")
+    none = "the dump's state is that of run 1 at cycle 0, whose dump has `sig none` and `old none`"
+    for files, present, stored, older, note in (
+        (["c.v", "c2.s", "c.t"], "110", "01", "00", said(there + " and `old 00`", backwards)),
+        (["c.v", "c2.s", "c.t"], "110", "01", "01", said(there + " and `old 00`", another)),
+        (["z.v", "z2.s", "z2.t"], "0", "1", "1", said(none, another)),
+    ):
+        it.write("two.d", f"state {present}\nsig {stored}\nold {older}\nend\n")
+        wanted = asked(64, form=2) + f"step 1\npresent {present}\nstored {stored}\nolder {older}\nlist finished ID\nnohit\nstop empty\ntrace 0\nstate {present}\n"
+        judged(it, ["run", *files, "two.d"], 4, wanted, note)
+    # dumps of two signatures that are none
+    for text, number, saying in (
+        ("state 110\nsig 10\nend\n", 3, (
+            "the third line of a dump of two cycles is `old BITS` or `old none`", "a bit for each item of the signature, and `old none` behind `sig none`")),
+        ("state 110\nsig 10\nold 00\n", 4, ("the fourth line of a dump of two cycles is `end`", "and nothing follows it")),
+    ):
+        it.write("two.d", text)
+        at = len("".join(text.splitlines(True)[: number - 1]))
+        it.tried("backspace", ["run", "c.v", "c2.s", "c.t", "two.d"], 9, f"refused dump Line {number}\n", at_place("two.d", text, at, *saying))
+    spent(it)
+
+
+def spent(it):
+    """One learnt clause is too few to see that the parity of eight inputs is the same from either end."""
+    text = "module y(ck, x);\n  input ck;\n  input [7:0] x;\n"
+    for name, order in (("p", range(8)), ("r", range(7, -1, -1))):
+        first, *more = order
+        before = f"x[{first}]"
+        for number, bit in enumerate(more):
+            text += f"  xor ({name}{number}, {before}, x[{bit}]);\n"
+            before = f"{name}{number}"
+    it.write("y.v", text + "  xor (d, p6, r6);\n  dff (ck, q, d);\nendmodule\n")
+    it.write("none.txt", "")
+    it.write("y.t", "run a 0\nend\n")
+    it.write("y.d", "state 1\nsig .\nend\n")
+    wanted = asked(64, 256, 1) + "step 1\npresent 1\nstored .\nlist conflicts\nnohit\nstop conflicts\ntrace 0\nstate 1\n"
+    note = said(
+        "the budget of conflicts is spent, and no run comes to a listed state, in step 1",
+        "ask for more with --conflicts B, up to 2^40, or choose a signature that tells more states apart",
+        "the dump's state itself was never recorded, nor that state read backwards; this alone is no fault: a crash need not be in a run")
+    judged(it, ["run", "y.v", "none.txt", "y.t", "y.d", "--conflicts", "1"], 5, wanted, note)
+    code, out, note = it.run("backspace", ["reach", "y.v", "1", "3", "--conflicts=1"])
+    front = out.decode().partition("log ")[0]
+    same("a search that spends its budget", "5 reach 1\nasked 3 conflicts 1\nresult unknown 1\n", f"{code} {front}")
+    same("a search that spends its budget: note", said(
+        "the budget of conflicts is spent on this number of cycles, and each smaller one is refuted", "ask for more with --conflicts B, up to 2^40"), note)
+
+
+def tower(modules, instances, own, last):
+    """The text of so many modules, each of which instances the next one as often as said, and of one behind them."""
+    text = "".join(f"module m{at}(ck);input ck;{own}m{at + 1}{instances};endmodule\n" for at in range(modules))
+    return text + f"module m{modules}(ck);input ck;{last}endmodule\n"
+
+
+def designs(it):
+    """Designs behind each of their limits, and at the deepest one."""
+    flop = "not g(d,q);dff f(ck,q,d);"
+    it.write("x.v", tower(256, " u(ck)", "", flop))
+    it.tried("backspace_inspect", ["flops", "x.v"], 0, "0 \\" + "u." * 256 + "q 0\n")
+    for text, why, sentence in (
+        (tower(257, " u(ck)", "", flop), "FlatDepth", "instances stand in one another more than 256 deep: take levels out"),
+        (tower(18, " u(ck),v(ck)", "", ""), "FlatParts", "on all paths there are more than 400000 gates, flip-flops and instances: give a part of the design"),
+        (tower(1, " u(ck),v(ck)", "", "wire [65535:0] w;"), "FlatNets", "on all paths there are more than 100000 nets: give a part of the design"),
+        (tower(1, f" {'u' * 3_000}(ck)", "", "wire [65535:0] w;wire [34461:0] v;"), "FlatKeys", (
+            "the keys of all nets have more than 268435456 bytes together: give shorter names")),
+        (tower(17, " u(ck),v(ck)", "", f"and g(ck{',ck' * 2_049});"), "FlatTerminals", (
+            "on all paths gates have more than 268435456 inputs together with constants and ports: give a gate 64 inputs at most")),
+    ):
+        it.write("x.v", text)
+        it.tried("backspace_inspect", ["flops", "x.v"], 6, f"refused netlist {why}\n", said("x.v: " + sentence))
+    # each module has 65,537 nets
+    text = tower(64, " u(ck)", "wire [65535:0] w;", flop)
+    it.write("x.v", text)
+    at = text.index("module m63")
+    label = "make ports and wires narrower, or give a part of the design"
+    note = at_place("x.v", text, at, "up to this module the modules declare more than 4194304 nets", label)
+    it.tried("backspace_inspect", ["flops", "x.v"], 6, f"refused netlist OwnNets {at}\n", note)
+
+
+CHANGES = """$timescale 1ns $end
+$scope module tb $end
+$var wire 1 ! ck $end
+$var wire 1 % a $end
+$var reg 1 & q0 $end
+$var reg 1 ' q1 $end
+$upscope $end
+$enddefinitions $end
+#0
+0!
+1%
+x&
+0'
+#5
+1!
+0&
+#10
+0!
+#15
+1!
+"""
+
+
+def told(it):
+    """Orders of a scan chain, traces of another chip, and value changes, that are refused; and what one run alone has."""
+    report = base_files(it)
+    tell = lambda words, code, out, note="": it.tried("backspace_inspect", words, code, out, note)
+    for text, why, at, *saying in (
+        ("q0\nq 1\n", "Line 2", 3, "a line is one name, of visible characters alone", "the key of a flip-flop, or its name as RTL writes it"),
+        ("q0\nq2\n", "Unknown 2", 3, "no flip-flop has this name", "`flops` tells the keys"),
+        ("q0\nq0\n", "Twice 2", 3, "the flip-flop of this line has a line already", "take one of them out"),
+    ):
+        it.write("o.txt", text)
+        tell(["unscan", "n.v", "o.txt", "01"], 17, f"refused map {why}\n", at_place("o.txt", text, at, *saying))
+    it.write("o.txt", "q1\n")
+    tell(["unscan", "n.v", "o.txt", "01"], 17, "refused map Missing 0\n", said("o.txt: no line names flip-flop 0 of the netlist", "`flops` tells its number and its key"))
+    it.write("o.txt", "q1\nq0\n")
+    tell(["unscan", "n.v", "o.txt", "01"], 0, "state 10\n")
+    bits = said("the bits of a pattern are characters 0 and 1 alone, the first one for the first line of the order")
+    tell(["unscan", "n.v", "o.txt", "0x"], 9, "refused state Bits\n", bits)
+    tell(["unscan", "n.v", "o.txt", "010"], 9, "refused state Width 3\n", said("there are 3 bits, and the netlist's flip-flops are 2"))
+    # the first input of the trace has a bit too many
+    it.write("rx.txt", report.replace("state 00\ninput 1\n", "state 00\ninput 11\n"))
+    other = said("rx.txt: input 0 of the trace has not one bit for each data input of the netlist", "is it the report of this very netlist?")
+    for command in ("trace", "wave", "page"):
+        tell([command, "n.v", "rx.txt"], 10, "refused report TraceInput 0\n", other)
+    tell(["why", "n.v", "rx.txt", "q1"], 10, "refused report TraceInput 0\n", other)
+    # value changes
+    it.write("u.vcd", CHANGES)
+    tell(["dump", "n.v", "u.vcd", "--cycle", "1"], 0, "state 00\n")
+    tell(["dump", "n.v", "u.vcd", "--cycle", "0"], 16, "refused vcd Unknown q0 5\n", said(
+        "u.vcd: the flip-flop `q0` is neither 0 nor 1 before the rising edge at time 5",
+        "take a later cycle, or begin with an initial value; of the last cycle the time is that of the last change; `backspace dump` has the state of a recorded run"))
+    tell(["stimulus", "n.v", "u.vcd", "--clock", "ck"], 0, "run u 2\n1\n1\nend\n")
+    for bad in ("?\n", "#3\n"):
+        text = CHANGES.replace("#10\n", "#10\n" + bad)
+        it.write("u.vcd", text)
+        at = text.index(bad)
+        tell(["stimulus", "n.v", "u.vcd", "--clock", "ck"], 16, f"refused vcd Line {text[:at].count(chr(10)) + 1}\n", at_place(
+            "u.vcd", text, at, "a word of this line cannot stand there, or the command that ends here",
+            "a value is `0ID`, `1ID`, `xID`, `zID` or `bBITS ID`, a time `#N`, and times rise"))
+    it.write("u.vcd", CHANGES.replace("$var reg 1 ' q1 $end\n", "").replace("0'\n", ""))
+    tell(["dump", "n.v", "u.vcd", "--cycle", "1"], 16, "refused vcd NoInput q1\n", said(
+        "u.vcd: no variable in the clock's scope is the flip-flop `q1`, by the name `q1`; the nearest: `q0`",
+        "the design's scope stands behind --scope; where names are others, a file of lines KEY NAME behind --map; a memory's word is dumped where `$dumpvars` names it"))
+    novelties(it, tell)
+    instances(it, tell)
+    two_signatures(it, tell)
+
+
+def novelties(it, tell):
+    """What one run alone has: of two bits, of a vector, nothing, and where there is no other run."""
+    it.write("two.t", STIMULUS + STIMULUS.replace("run a", "run b").replace("1\n", "0\n"))
+    it.write("v.v", "module v(ck, a); input ck, a; wire [1:0] q; dff (ck, q[0], a); dff (ck, q[1], q[0]); endmodule\n")
+    lines = ["1 q0 = 1, others 1\n", "2 q1 = 1, others 1\n"]
+    tell(["novel", "n.v", "two.t", "1"], 0, "".join(lines))
+    tell(["novel", "n.v", "two.t", "1", "--most", "1"], 0, lines[0])
+    tell(["novel", "v.v", "two.t", "1"], 0, "1 q[1:0] = 0x1, others 1\n")
+    tell(["novel", "n.v", "two.t", "2"], 0, "nothing new\n")
+    tell(["novel", "n.v", "t.txt", "1"], 0, "no other run\n")
+    tell(["novel", "n.v", "two.t", "3"], 9, "refused dump Range\n", said(
+        "there is no such moment: the stimulus has so many runs: 2", "RUN counts from 1 in the order of the file, and CYCLE from 0 up to the number of cycles"))
+    # an enable and a clear, and each kind of gate
+    it.write("kept.v", LISTS["kept"][0][0])
+    it.write("kept.r", lines_of(LISTS["kept"][0][4]))
+    kinds = "".join(f"{kind} (g{at}, a, q1);" for at, kind in enumerate(models.KINDS[:6])) + "buf (g6, a);not (g7, q0);dffs f2(ck,q2,g1);"
+    it.write("kinds.v", LISTS["kept"][0][0].replace("endmodule", kinds + "endmodule"))
+    for name in ("kept.v", "kinds.v"):
+        with open(f"{it.room}/{name}") as file:
+            chip = models.Netlist(file.read())
+        tell(["flops", name], 0, models.flops_text(chip))
+        tell(["inputs", name], 0, models.inputs_text(chip))
+        tell(["stats", name], 0, models.stats_text(chip))
+    chip, made = models.Netlist(LISTS["kept"][0][0]), models.Report(lines_of(LISTS["kept"][0][4]))
+    tell(["trace", "kept.v", "kept.r"], 0, models.trace_text(chip, made))
+    tell(["wave", "kept.v", "kept.r"], 0, models.view_text(chip, made))
+    tell(["steps", "kept.r"], 0, models.steps_text(made))
+
+
+def instances(it, tell):
+    """What the companion tells of a design: vectors of an instance, a part of one, their scopes, and names as RTL has them."""
+    it.write("d.v", """module two(ck, d); input ck, d; wire [1:0] q; dff f(ck, q[0], d); dff g(ck, q[1], q[0]); endmodule
+module top(ck, a); input ck, a; wire [1:0] v; two u(ck, a); dff h(ck, v[1], a); dff i(ck, v[0], v[1]); endmodule
+""")
+    tell(["flops", "d.v"], 0, "0 v[1] 0\n1 v[0] 0\n2 [0]\\u.q 0\n3 [1]\\u.q 0\n")
+    code, out, note = it.run("backspace", ["reach", "d.v", "1010", "1"])
+    same("a state of a design", "0 reach 1\nasked 1 conflicts 100000\nresult reached 1\nstate 0000\ninput 1\nstate 1010\n", f"{code} {out.decode().partition('log ')[0]}")
+    it.write("d.txt", out)
+    tell(["trace", "d.v", "d.txt"], 0, """0 state reset
+0 flop \\u.q[1:0] = 0x0
+0 flop v[1:0] = 0x0
+0 input a = 1
+1 state asked
+1 flop \\u.q[1:0] = 0x1
+1 flop v[1:0] = 0x2
+""")
+    tell(["trace", "d.v", "d.txt", "--all", "--only", "u.q[1]", "v"], 0, """0 state reset
+0 flop \\u.q[1] = 0
+0 flop v[1:0] = 0x0
+1 state asked
+1 flop \\u.q[1] = 0
+1 flop v[1:0] = 0x2
+""")
+    tell(["trace", "d.v", "d.txt", "--csv"], 0, "state,from,run,cycle,u.q[1:0],v[1:0],a\n0,reset,,,0x0,0x0,1\n1,asked,,,0x1,0x2,\n")
+    tell(["wave", "d.v", "d.txt"], 0, """$timescale 1ns $end
+$comment 0 state reset $end
+$comment 1 state asked $end
+$scope module trace $end
+$scope module u $end
+$var wire 2 ! q [1:0] $end
+$upscope $end
+$var wire 1 " a $end
+$var wire 1 # ck $end
+$var wire 2 $ v [1:0] $end
+$upscope $end
+$enddefinitions $end
+#0
+b00 !
+1"
+0#
+b00 $
+#1
+b01 !
+x"
+b10 $
+""")
+    tell(["keys", "d.v", "u.q", "v[0]"], 0, "xor [0]\\u.q [1]\\u.q\nxor v[0]\n")
+    it.write("o.txt", "u.q[1]\nu.q[0]\nv[0]\nv[1]\n")
+    tell(["unscan", "d.v", "o.txt", "0101"], 0, "state 1010\n")
+    for given in (["page"], ["why", "u.q[0]"]):
+        code, out, note = it.run("backspace_inspect", [given[0], "d.v", "d.txt", *given[1:]])
+        same(f"{given[0]} d.v d.txt", "0 True ", f"{code} {b'u.q' in out} {note.decode()}")
+
+
+def two_signatures(it, tell):
+    """What the companion tells where the register keeps two signatures."""
+    example_files(it)
+    with open(f"{it.room}/ex/older/netlist.v") as file:
+        chip = models.Netlist(file.read())
+    with open(f"{it.room}/ex/older/report.txt") as file:
+        made = models.Report(file.read())
+    files = ["ex/older/netlist.v", "ex/older/report.txt"]
+    tell(["trace", *files], 0, models.trace_text(chip, made))
+    tell(["trace", *files, "--csv"], 0, models.trace_table(chip, made))
+    tell(["wave", *files], 0, models.view_text(chip, made))
+    tell(["steps", files[1]], 0, models.steps_text(made))
+    tell(["steps", "--csv", files[1]], 0, models.steps_table(made))
+    it.write("s2.txt", "cycles 2\nbit q1\n")
+    it.write("w.vcd", CHANGES.replace("x&", "0&").replace("1!\n0&", "1!\n1&") + "1'\n#20\n0!\n#25\n1!\n#30\n0!\n")
+    for cycle, text in enumerate(("00 none none", "10 0 none", "11 0 0", "11 1 0")):
+        state, stored, older = text.split()
+        tell(["dump", "n.v", "w.vcd", "--cycle", str(cycle), "--signature", "s2.txt"], 0, f"state {state}\nsig {stored}\nold {older}\nend\n")
+    early = CHANGES.replace("x&", "0&").replace("1!\n0&", "1!\n1&").replace("#0\n", "#2\n") + "1'\n"
+    it.write("w.vcd", early)
+    tell(["dump", "n.v", "w.vcd", "--cycle", "2", "--signature", "s2.txt"], 0, "state 11\nsig 0\nold 0\nend\n")
+    tell(["dump", "n.v", "w.vcd", "--cycle", "1", "--signature", "s2.txt"], 16, "refused vcd Late 2\n", said(
+        "w.vcd: the values begin at time 2, and the states before that are not in the text",
+        "a dump with a signature wants them: take a later cycle, or begin to dump at time 0"))
 
 
 # ---- limits
@@ -1845,7 +2192,7 @@ def searches(it):
         it.tried("backspace_inspect", ["signature", "lost.v", "lost.t", "--bits", str(bits)], 0, models.signature_text(chip, states, bits, predecessors))
 
 
-GROUPS = [examples, words, codes, refusals, files, names, outputs, long_netlist, long_report, many_runs, proposals, wide_chip, far_states, value_changes, companion, companion_refusals, evidence, evidence_refusals, pages, memory, limits, counts, searches]
+GROUPS = [examples, words, codes, refusals, files, names, outputs, long_netlist, long_report, many_runs, proposals, wide_chip, far_states, value_changes, companion, companion_refusals, evidence, evidence_refusals, pages, stops, designs, told, memory, limits, counts, searches]
 
 
 def main():

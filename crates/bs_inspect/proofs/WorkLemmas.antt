@@ -11,6 +11,9 @@ use Rattle.bs_inspect_values.specs.SimulatedRun.{SimulatedRun, is_late, run_in}
 use Rattle.bs_inspect_values.specs.declared.run.SimulatedRun.{SimulatedRun as CodeSimulatedRun}
 use Rattle.bs_inspect_view.specs.Drawn.{ViewRequest}
 use Rattle.bs_inspect_view.specs.View.{IsDrawing}
+use Rattle.bs_inspect_front.specs.Signed.{SignatureFile}
+use Rattle.bs_inspect_page.specs.Page.{PageOptions, ShowsReport}
+use Rattle.bs_report.specs.declared.report.Report.{Report}
 use Rattle.bs_net.specs.Parts.{Parts}
 use Rattle.bs_scan.specs.Moments.{IsMoment, Moment}
 use Rattle.bs_stim.specs.Runs.{Recorded, Stimulus, inputs_of}
@@ -116,6 +119,11 @@ run_there s m there = omega (arith, there.recorded, length-map s.runs (λ (run :
 pub drawn_as : (asked : List ℕ → ViewRequest) (raw : Parts) (given lines : List ℕ) (states inputs : List (List Bool)) (text : List ℕ) → given ≡ lines →
     IsDrawing raw (asked given) states inputs text → IsDrawing raw (asked lines) states inputs text
 drawn_as asked raw given lines states inputs text e h = subst (λ (ls : List ℕ). IsDrawing raw (asked ls) states inputs text) e h
+
+-- a page with a signature that is this
+pub page_as : (asked : Option SignatureFile → PageOptions) (raw : Parts) (r : Report) (given own : Option SignatureFile) (text : List ℕ) → given ≡ own →
+    ShowsReport raw r (asked given) text → ShowsReport raw r (asked own) text
+page_as asked raw r given own text e h = subst (λ (s : Option SignatureFile). ShowsReport raw r (asked s) text) e h
 
 -- a reply with no note on it
 silent_done : (finish : Status → List ℕ → Type 0) (r : Result Reply NoMemory) → IfOk r (λ a. finish a.status a.text.items) →

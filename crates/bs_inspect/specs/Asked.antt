@@ -1,6 +1,8 @@
 -- What a request asks of the values of a simulator and of a waveform.
-use Rattle.std.specs.Prelude.{ℕ, Bool, List}
+use Rattle.std.specs.Prelude.{ℕ, Bool, List, Option, Some, None}
 use Rattle.bs_inspect_view.specs.Drawn.{ViewRequest}
+use Rattle.bs_scan.specs.Choice.{Chosen}
+use Rattle.bs_inspect_front.specs.Signed.{SignatureFile}
 use Rattle.bs_inspect_page.specs.Page.{PageOptions}
 use Rattle.bs_inspect_why.specs.Question.{Question}
 use Rattle.bs_inspect_words.specs.Request.{DumpRequest, PageRequest, StimulusRequest, WhyRequest}
@@ -25,12 +27,18 @@ dump_files t = record {
 abbrev pub drawing_of : (from : ℕ) → Bool → List (List ℕ) → List ℕ → ViewRequest
 drawing_of from all only lines = record { from = from; all = all; only = only; remarks = lines }
 
--- what is asked of a page
-abbrev pub page_for : (netlist report : List ℕ) → List (List ℕ) → ℕ → PageOptions
-page_for netlist report only most = record { netlist = netlist; report = report; only = only; most = most }
+-- a signature, where there is one: the name of its file, and what it is taken of
+abbrev pub signature_file : (name : Option (List ℕ)) → Option Chosen → Option SignatureFile
+signature_file (Some name) (Some choice) = Some record { name = name; choice = choice }
+signature_file name choice = None
 
-abbrev pub page_options : PageRequest → PageOptions
-page_options t = page_for t.netlist t.report t.only t.most
+-- what is asked of a page
+abbrev pub page_for : (netlist report : List ℕ) → (signature : Option (List ℕ)) → Option Chosen → List (List ℕ) → ℕ → PageOptions
+page_for netlist report signature choice only most =
+    record { netlist = netlist; report = report; signature = signature_file signature choice; only = only; most = most }
+
+abbrev pub page_options : PageRequest → Option Chosen → PageOptions
+page_options t choice = page_for t.netlist t.report t.signature choice t.only t.most
 
 -- what is asked of a trace
 abbrev pub question_of : WhyRequest → Question

@@ -18,6 +18,7 @@ use Rattle.bs_inspect_values.specs.Simulated.{Simulated, clock_key, simulated_lo
 use Rattle.bs_inspect_values.specs.SimulatedRun.{SimulatedRun, is_late}
 use Rattle.bs_evidence.specs.declared.evidence.Format.TheVariants.{Clauses, Proof}
 use Rattle.bs_inspect_answers.specs.Searched.{answer_files_looked}
+use Rattle.bs_inspect_files.specs.Paged.{page_files_looked}
 use Rattle.bs_inspect_files.specs.Taken.{charted_looked, one_run_looked, run_files_looked, report_files_looked, picked_looked}
 use Rattle.bs_inspect_files.specs.FlopFiles.{named_looked, scanned_looked}
 use Rattle.bs_inspect_notes.specs.Usages.{words_text}
@@ -82,8 +83,8 @@ looked_of (ReachLrat t) = do
   answer_files ← answer_files_looked t.netlist t.state t.answer
   end (to_lengths Proof t.length answer_files)
 looked_of (Page t) = do
-  trace_files ← picked_looked t.netlist t.report t.only
-  end (to_page (page_options t) trace_files)
+  page_files ← page_files_looked t.netlist t.signature t.report t.only
+  end (to_page (page_options t page_files.choice) page_files.trace_files)
 looked_of (Novel t) = do
   one_run ← one_run_looked t.netlist t.runs t.run
   end (to_novel t.most one_run)

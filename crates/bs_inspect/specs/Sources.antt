@@ -5,7 +5,7 @@ use Rattle.std.specs.Option.{unwrap_or}
 use Rattle.bs_top_plan.specs.declared.file.File.{File}
 use Rattle.bs_top_plan.specs.declared.file.File.TheVariants as files
 use Rattle.bs_inspect_words.specs.Request.{Request, DumpRequest, NovelRequest, SignatureRequest, StimulusRequest, Help, Version, Flops, Inputs, Stats, Keys, Trace, TraceTable, Steps}
-use Rattle.bs_inspect_words.specs.Request.{StepsTable, Wave, Stimulus, Dump, Signature, Unscan, Cnf, Lrat, ReachCnf, ReachLrat, EvidenceRequest, LengthsRequest, Page, Novel, Why}
+use Rattle.bs_inspect_words.specs.Request.{StepsTable, Wave, Stimulus, Dump, Signature, Unscan, Cnf, Lrat, ReachCnf, ReachLrat, EvidenceRequest, LengthsRequest, PageRequest, Page, Novel, Why}
 use Rattle.bs_inspect.specs.declared.sources.Sources.{Sources as CodeSources}
 
 pub record Sources : Type 0 where
@@ -79,6 +79,10 @@ chain_sources netlist order = record { netlist = netlist; signature = []; stimul
 abbrev pub evidence_sources : EvidenceRequest → Sources
 evidence_sources t = record { netlist = t.netlist; signature = t.signature; stimulus = []; report = t.report; vcd = []; map = [] }
 
+-- a signature may be given
+abbrev pub page_sources : PageRequest → Sources
+page_sources t = record { netlist = t.netlist; signature = unwrap_or t.signature []; stimulus = []; report = t.report; vcd = []; map = [] }
+
 -- an answer counts as a report
 abbrev pub lengths_sources : LengthsRequest → Sources
 lengths_sources t = trace_sources t.netlist t.answer
@@ -104,7 +108,7 @@ sources_of (Cnf t) = evidence_sources t
 sources_of (Lrat t) = evidence_sources t
 sources_of (ReachCnf t) = lengths_sources t
 sources_of (ReachLrat t) = lengths_sources t
-sources_of (Page t) = trace_sources t.netlist t.report
+sources_of (Page t) = page_sources t
 sources_of (Novel t) = novel_sources t
 sources_of (Why t) = trace_sources t.netlist t.report
 

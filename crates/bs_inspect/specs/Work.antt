@@ -10,6 +10,7 @@ use Rattle.bs_evidence.specs.declared.evidence.Format.{Format}
 use Rattle.bs_evidence.specs.declared.evidence.Format.TheVariants.{Clauses, Proof}
 use Rattle.bs_inspect_answers.specs.Searched.{AnswerFiles, answer_files_of}
 use Rattle.bs_inspect_files.specs.Taken.{OneRun, TraceFiles, RunFiles, ReportFiles, picked_of, charted_of, one_run_of, run_files_of, report_files_of}
+use Rattle.bs_inspect_files.specs.Paged.{page_files_of}
 use Rattle.bs_inspect_values.specs.Dumped.{Dumped, dumped_of}
 use Rattle.bs_inspect_values.specs.Simulated.{Simulated, simulated_of}
 use Rattle.bs_inspect_files.specs.FlopFiles.{Scanned, named_of, scanned_of}
@@ -100,8 +101,8 @@ plan_of (ReachLrat t) = do
   answer_files ← answer_files_of t.netlist t.state t.answer
   end (to_lengths Proof t.length answer_files)
 plan_of (Page t) = do
-  trace_files ← picked_of t.netlist t.report t.only
-  end (to_page (page_options t) trace_files)
+  page_files ← page_files_of t.netlist t.signature t.report t.only
+  end (to_page (page_options t page_files.choice) page_files.trace_files)
 plan_of (Novel t) = do
   one_run ← one_run_of t.netlist t.runs t.run
   end (to_novel t.most one_run)

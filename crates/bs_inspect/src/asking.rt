@@ -14,7 +14,7 @@ ghost use Rattle.bs_inspect_values.specs.SimulatedRun.{is_late, run_in};
 
 use crate::sources::{
     chain_sources, dump_sources, evidence_sources, lengths_sources, netlist_source, novel_sources,
-    report_source, runs_sources, stop_at, stop_values, trace_sources,
+    page_sources, report_source, runs_sources, stop_at, stop_values, trace_sources,
 };
 use crate::telling::{
     tell_dump, tell_evidence, tell_flops, tell_inputs, tell_keys, tell_lengths, tell_novel,
@@ -24,8 +24,8 @@ use crate::telling::{
 use bs_evidence::Format;
 use bs_inspect_answers::load_answer_files;
 use bs_inspect_files::{
-    load_charted, load_named, load_one_run, load_picked, load_report_files, load_run_files,
-    load_scanned,
+    load_charted, load_named, load_one_run, load_page_files, load_picked, load_report_files,
+    load_run_files, load_scanned,
 };
 use bs_inspect_notes::{data_clock_note, late_note};
 use bs_inspect_values::{
@@ -389,21 +389,24 @@ fn page<S: Shelf>(
     ensures { PreparedNoted CheckSays finishes (RequestSaid (PageOf (page_in asked.now))) S.held S.faults S.leads shelf.old shelf.new (Some (plan_of (PageOf (page_in asked.now)))) result }
 {
     let only = asked.only.as_slice();
-    match load_picked(alloc, shelf, asked.netlist, asked.report, only) {
-        Ok(trace_files) => silent(tell_page(
+    match load_page_files(
+        alloc,
+        shelf,
+        asked.netlist,
+        asked.signature,
+        asked.report,
+        only,
+    ) {
+        Ok(page_files) => silent(tell_page(
             alloc,
-            &trace_files,
+            &page_files,
             asked.netlist,
             asked.report,
+            asked.signature,
             only,
             asked.most,
         )),
-        Err(stop) => stop_at(
-            alloc,
-            trace_sources(asked.netlist, asked.report),
-            shelf.reason(),
-            stop,
-        ),
+        Err(stop) => stop_at(alloc, page_sources(asked), shelf.reason(), stop),
     }
 }
 

@@ -5,11 +5,11 @@ ghost use Rattle.std.specs.Option.{unwrap_or};
 ghost use Rattle.bs_top_plan.specs.Prepared.{AnswersStop};
 ghost use Rattle.bs_top_plan.specs.Diagnostic.{line_stop, note_stop};
 ghost use Rattle.bs_top_answer.specs.Stops.{stop_file, StopNoted};
-ghost use Rattle.bs_inspect_words.specs.Asked.{dump_in, evidence_in, lengths_in, novel_in, signature_in};
-ghost use Rattle.bs_inspect.specs.Sources.{behind_piece, chain_sources, dump_sources, evidence_sources, joined, lengths_sources, named_values, netlist_source, novel_sources, report_source, runs_sources, source_of, sources_in, trace_sources};
+ghost use Rattle.bs_inspect_words.specs.Asked.{dump_in, evidence_in, lengths_in, novel_in, page_in, signature_in};
+ghost use Rattle.bs_inspect.specs.Sources.{behind_piece, chain_sources, dump_sources, evidence_sources, joined, lengths_sources, named_values, netlist_source, novel_sources, page_sources, report_source, runs_sources, source_of, sources_in, trace_sources};
 
 use bs_inspect_words::{
-    DumpRequest, EvidenceRequest, LengthsRequest, NovelRequest, SignatureRequest,
+    DumpRequest, EvidenceRequest, LengthsRequest, NovelRequest, PageRequest, SignatureRequest,
 };
 use bs_outside::NoMemory;
 use bs_top_answer::{Response, stop_file, stopped_at};
@@ -183,6 +183,20 @@ pub fn dump_sources<'a>(asked: &DumpRequest<'a>) -> Sources<'a>
         report: "",
         vcd: asked.vcd,
         map: or_none(asked.names),
+    }
+}
+
+/// A netlist and a report, and a signature where there is a file of one.
+pub fn page_sources<'a>(asked: &PageRequest<'a>) -> Sources<'a>
+    ensures { sources_in result ≡ page_sources (page_in asked.now) }
+{
+    Sources {
+        netlist: asked.netlist,
+        signature: or_none(asked.signature),
+        stimulus: "",
+        report: asked.report,
+        vcd: "",
+        map: "",
     }
 }
 

@@ -1,9 +1,11 @@
 //! What is told, as an answer.
-ghost use Rattle.std.specs.Prelude.{◌≡◌, ◌<◌, ◌≤◌, map, IfOk};
+ghost use Rattle.std.specs.Prelude.{◌≡◌, ◌<◌, ◌≤◌, Some, map, option_map, IfOk};
 ghost use Rattle.bs_stim.specs.Runs.{inputs_of};
 ghost use Rattle.bs_scan.specs.Moments.{IsMoment};
 ghost use Rattle.bs_inspect_novel.specs.Novel.{TellsNovel};
 ghost use Rattle.bs_inspect_files.specs.Taken.{one_run_in, run_files_in, report_files_in, trace_files_in};
+ghost use Rattle.bs_inspect_files.specs.Paged.{page_files_in};
+ghost use Rattle.bs_inspect_front.specs.Signed.{file_in};
 ghost use Rattle.bs_inspect_values.specs.Dumped.{dumped_in};
 ghost use Rattle.bs_inspect_values.specs.Simulated.{simulated_in};
 ghost use Rattle.bs_inspect_files.specs.FlopFiles.{scanned_in};
@@ -16,7 +18,7 @@ ghost use Rattle.bs_reach_evidence.specs.Evidence.{IsEvidence as IsLengthEvidenc
 ghost use Rattle.bs_inspect_answers.specs.Searched.{answer_files_in};
 ghost use Rattle.bs_evidence.specs.Evidence.{IsEvidence};
 ghost use Rattle.bs_evidence.specs.Words.{flaw_text};
-ghost use Rattle.bs_inspect.specs.Asked.{drawing_of, page_for, question_of};
+ghost use Rattle.bs_inspect.specs.Asked.{drawing_of, page_for, question_of, signature_file};
 ghost use Rattle.bs_inspect.specs.Finishes.{evidence_status, evidence_text, finishes, TellsReasons, why_status, why_text as text_of_why};
 ghost use Rattle.bs_inspect.specs.Work.{to_dump, to_evidence, to_lengths, to_flops, to_help, to_inputs, to_keys, to_page, to_novel, to_runs, to_signature, to_state, to_stats, to_steps, to_steps_table, to_table, to_trace, to_version, to_wave, to_why};
 ghost use Rattle.bs_inspect_words.specs.Asked.{why_in};
@@ -27,7 +29,8 @@ ghost use Rattle.bs_inspect_why.specs.Why.{Answers};
 use crate::usage::{usage_text, version_text};
 use bs_evidence::{Evidence, Flaw, Format, evidence_for, evidence_of, flaw_text};
 use bs_inspect_answers::AnswerFiles;
-use bs_inspect_files::{OneRun, ReportFiles, RunFiles, Scanned, TraceFiles};
+use bs_inspect_files::{OneRun, PageFiles, ReportFiles, RunFiles, Scanned, TraceFiles};
+use bs_inspect_front::SignatureFile;
 use bs_inspect_lists::signature_text;
 use bs_inspect_netlist::{
     flops_text, inputs_text, keys_text, last_dump, last_state, state_text, stats_text,
@@ -44,7 +47,7 @@ use bs_outside::NoMemory;
 use bs_reach::Reach;
 use bs_reach_evidence::evidence_of as length_evidence;
 use bs_report::Report;
-use bs_scan::Moment;
+use bs_scan::{Choice, Moment};
 use bs_target::Target;
 use bs_top_plan::{Reply, Status};
 use std::alloc::Global;
@@ -390,23 +393,49 @@ pub(crate) fn tell_lengths(
     Ok(reply)
 }
 
+/// A signature under this name, where it was read.
+fn named_file<'a>(name: &'a str, choice: &'a Option<Choice>) -> Option<SignatureFile<'a>>
+    ensures { option_map file_in result ≡ signature_file (Some name.now) choice.now }
+{
+    match choice {
+        Some(choice) => Some(SignatureFile { name, choice }),
+        None => None,
+    }
+}
+
+/// A signature, where a file of one is asked for.
+fn signature_file<'a>(
+    name: Option<&'a str>,
+    choice: &'a Option<Choice>,
+) -> Option<SignatureFile<'a>>
+    ensures { option_map file_in result ≡ signature_file (option_map (λ s. s.now) name.entry) choice.now }
+{
+    match name {
+        Some(name) => named_file(name, choice),
+        None => None,
+    }
+}
+
 /// A report as a page.
 pub(crate) fn tell_page(
     alloc: Global,
-    trace_files: &TraceFiles,
+    page_files: &PageFiles,
     netlist: &str,
     report: &str,
+    signature: Option<&str>,
     only: &[&str],
     most: u64,
 ) -> Result<Reply, NoMemory>
-    ensures { IfOk result (λ answer. finishes (to_page (page_for netlist.now report.now (map (λ s. s.now) only.now) most) (trace_files_in trace_files.now)) answer.status answer.text.items) }
+    ensures { IfOk result (λ answer. finishes (to_page (page_for netlist.now report.now (option_map (λ s. s.now) signature.entry) (page_files_in page_files.now).choice (map (λ s. s.now) only.now) most) (page_files_in page_files.now).trace_files) answer.status answer.text.items) }
 {
     let asked = PageOptions {
         netlist,
         report,
+        signature: signature_file(signature, &page_files.choice),
         only,
         most,
     };
+    let trace_files = &page_files.trace_files;
     let text = page_text(alloc, &trace_files.net, &trace_files.report, &asked)?;
     Ok(Reply {
         status: Status::Done,

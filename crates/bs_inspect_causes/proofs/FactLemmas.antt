@@ -1,7 +1,7 @@
 -- Facts of the trace, one by one.
 use Rattle.std.proofs.Common.{◌≡◌, ℕ, ◌<◌, ◌≤◌, ◌+◌, Bool, List, [], ◌∷◌, ◌++◌, map, length, get_or, take, refl, subst, ap, sym, ◌∙◌, ◌⊎◌, ⊎_elim, arith}
 use Rattle.std.specs.List.{All}
-use Rattle.std.proofs.lemmas.List.{map_more, map_push, take_all, take_more}
+use Rattle.std.proofs.lemmas.List.{map_push, take_all, take_more}
 use Rattle.std.proofs.lemmas.List.Elements.{All-nil, All-push}
 use Rattle.bs_net.specs.declared.net.NetId.{NetId}
 use Rattle.bs_net.specs.Netlist.{circuit}
@@ -38,14 +38,3 @@ real_none m = All-nil (IsRealIn m)
 
 pub real_push : (m : Seen) (facts after : List Fact) (f : Fact) → All (IsRealIn m) facts → IsRealIn m f → after ≡ facts ++ f ∷ [] → All (IsRealIn m) after
 real_push m facts after f h real e = subst (λ (fs : List Fact). All (IsRealIn m) fs) (sym e) (All-push (IsRealIn m) facts f h real)
-
--- ---- nets of facts
-
-pub nets_more : (facts : List Fact) (i : ℕ) (d : Fact) (old new : List NetId) → i < length facts → new ≡ old ++ (get_or facts i d).net ∷ [] →
-    old ≡ map (λ (f : Fact). f.net) (take i facts) → new ≡ map (λ (f : Fact). f.net) (take (i + 1) facts)
-nets_more facts i d old new lt goes before =
-    goes ∙ (ap (λ (ns : List NetId). ns ++ (get_or facts i d).net ∷ []) before ∙ sym (map_more (λ (f : Fact). f.net) facts i d lt))
-
-pub nets_all : (facts : List Fact) (i : ℕ) (nets : List NetId) → length facts ≤ i → nets ≡ map (λ (f : Fact). f.net) (take i facts) →
-    nets ≡ map (λ (f : Fact). f.net) facts
-nets_all facts i nets le e = e ∙ ap (λ (fs : List Fact). map (λ (f : Fact). f.net) fs) (take_all i facts le)

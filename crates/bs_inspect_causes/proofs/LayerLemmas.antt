@@ -1,9 +1,8 @@
 -- Accounts that are put at the end of others.
-use Rattle.std.proofs.Common.{◌≡◌, ℕ, ◌<◌, ◌≤◌, ◌+◌, ◌-◌, Bool, true, false, List, [], ◌∷◌, ◌++◌, length, take, drop, slice_range, subst, ap, sym, ◌∙◌, append_assoc, append-nil, arith}
+use Rattle.std.proofs.Common.{◌≡◌, ℕ, ◌<◌, ◌≤◌, ◌+◌, ◌-◌, Bool, false, List, [], ◌∷◌, ◌++◌, length, take, drop, slice_range, subst, ap, sym, ◌∙◌, append_assoc, append-nil, arith}
 use Rattle.std.specs.Prelude.{Contains}
 use Rattle.std.specs.List.{All}
 use Rattle.std.proofs.Math.Seq.{take-add}
-use Rattle.std.proofs.lemmas.Bool.{false≢true}
 use Rattle.std.proofs.lemmas.List.{get_or-drop, get_or-take, length-drop, length-take-le, take_all}
 use Rattle.std.proofs.lemmas.List.Elements.{All-append, All-contains, All-contains_itself, All-cons, All-drop, All-nil, All-take, All-weaker, Contains-append_left, Contains-append_right, Contains-push}
 use Rattle.bs_net.specs.Netlist.{circuit}
@@ -31,9 +30,8 @@ nothing m layer facts accounts all = record {
 pub tells_begin : (m : Seen) (layer : ℕ) (accounts : List Account) → Tells m layer [] accounts accounts
 tells_begin m layer accounts = nothing m layer [] accounts (λ z. All-nil (IsTold accounts 0))
 
-pub tells_none : (m : Seen) (layer : ℕ) (facts : List Fact) (accounts : List Account) (told : Bool) → (layer ≡ 0 → told ≡ false) → told ≡ true →
-    Tells m layer facts accounts accounts
-tells_none m layer facts accounts told first e = nothing m layer facts accounts (λ z. absurd (false≢true (sym (first z) ∙ e)))
+pub tells_none : (m : Seen) (layer : ℕ) (facts : List Fact) (accounts : List Account) → (layer ≡ 0 → ⊥) → Tells m layer facts accounts accounts
+tells_none m layer facts accounts later = nothing m layer facts accounts (λ z. absurd (later z))
 
 pub tells_account : (m : Seen) (layer : ℕ) (facts : List Fact) (old new : List Account) (a : Account) → IsAccount (circuit m.net) m.states m.inputs a →
     last_bits a ≡ facts → a.layer ≡ layer → new ≡ old ++ a ∷ [] → Tells m layer facts old new

@@ -11,7 +11,7 @@ use crate::layer::tell_facts;
 use crate::ledger::Ledger;
 use bs_bits::{List, NoMemory};
 use bs_inspect_accounts::Account;
-use bs_inspect_cones::Scene;
+use bs_inspect_holds::Scene;
 use bs_net_facts::Fact;
 use std::alloc::Global;
 
@@ -36,37 +36,8 @@ fn tell_due(
     Ok(())
 }
 
-/// The facts that are due in the layer behind one, whose accounts stand from a place on.
-#[tactic(auto, using(crate::proofs::ExplainLemmas::each_in, crate::proofs::ExplainLemmas::next_due))]
-fn due_next(
-    alloc: Global,
-    scene: &Scene<'_>,
-    drivers: &Drivers,
-    ledger: &mut Ledger,
-    asked: &[Fact],
-    accounts: &List<Account>,
-    from: usize,
-    layer: u32,
-    all: bool,
-) -> Result<Vec<Fact>, NoMemory>
-    requires { ExplainSoFar scene.now.moments.now asked.now (layer + 1) accounts.now }
-    ensures { IfOk result (λ next. AreDue scene.now.moments.now drivers.now asked.now (layer + 1) accounts.now next.items) }
-{
-    let _ = asked;
-    let next = further_facts(
-        alloc,
-        scene,
-        drivers,
-        ledger,
-        accounts.slice(),
-        from,
-        layer,
-        all,
-    )?;
-    Ok(next)
-}
-
 /// Tells due facts in a layer, and gives those that are due in the next one.
+#[tactic(auto, using(crate::proofs::ExplainLemmas::each_in, crate::proofs::ExplainLemmas::next_due))]
 fn tell_layer(
     alloc: Global,
     scene: &Scene<'_>,
@@ -86,8 +57,15 @@ fn tell_layer(
 {
     let from = accounts.len();
     tell_due(alloc, scene, drivers, ledger, asked, accounts, facts, layer)?;
-    let next = due_next(
-        alloc, scene, drivers, ledger, asked, accounts, from, layer, all,
+    let next = further_facts(
+        alloc,
+        scene,
+        drivers,
+        ledger,
+        accounts.slice(),
+        from,
+        layer,
+        all,
     )?;
     Ok(next)
 }
@@ -176,7 +154,7 @@ fn accounts_by(
     requires some_layer { 1 ≤ depth }
     ensures { IfOk result (λ accounts. Explain (circuit scene.now.moments.now.net) scene.now.moments.now.states scene.now.moments.now.inputs asked.now depth accounts) }
 {
-    let mut ledger = Ledger::new(alloc, scene.nets())?;
+    let mut ledger = Ledger::new(alloc, scene.nets)?;
     let accounts = accounts_with(alloc, scene, drivers, &mut ledger, asked, depth, all);
     drop(ledger);
     accounts

@@ -60,45 +60,18 @@ fn flop_nets(alloc: Global, flops: &[Flop]) -> Result<List<NetId>, NoMemory>
     Ok(nets)
 }
 
-/// For each net whether a data input drives it.
-#[tactic(auto, using(crate::proofs::DriverLemmas::inputs_placed))]
-fn input_marks(alloc: Global, net: &Netlist) -> Result<List<bool>, NoMemory>
-    ensures { IfOk result (λ marks. MarksThese (circuit net.now).inputs marks) }
-{
-    let count = net.raw().names.len() as usize;
-    let marks = marks_of(alloc, count, net.data_inputs().slice())?;
-    Ok(marks)
-}
-
-/// For each net whether it is one of these, which flip-flops drive.
-#[tactic(auto, using(crate::proofs::DriverLemmas::flops_placed))]
-fn flop_marks(alloc: Global, net: &Netlist, nets: &[NetId]) -> Result<List<bool>, NoMemory>
-    requires { nets.now ≡ state_nets (circuit net.now) }
-    ensures { IfOk result (λ marks. MarksThese nets.now marks) }
-{
-    let count = net.raw().names.len() as usize;
-    let marks = marks_of(alloc, count, nets)?;
-    Ok(marks)
-}
-
-/// The nets that the flip-flops of a netlist drive.
-fn state_nets(alloc: Global, net: &Netlist) -> Result<List<NetId>, NoMemory>
-    ensures { IfOk result (λ nets. nets ≡ state_nets (circuit net.now)) }
-{
-    let nets = flop_nets(alloc, net.raw().flops.slice())?;
-    Ok(nets)
-}
-
 impl Drivers {
     /// What drives the nets of a netlist.
-    #[tactic(auto, using(crate::proofs::DriverLemmas::drivers_are))]
+    #[tactic(auto, using(crate::proofs::DriverLemmas::drivers_are, crate::proofs::DriverLemmas::flops_placed, crate::proofs::DriverLemmas::inputs_placed))]
     pub(crate) fn of(alloc: Global, net: &Netlist) -> Result<Drivers, NoMemory>
         ensures { IfOk result (λ d. AreDrivers (circuit net.now) d) }
     {
         let _order = net.order();
-        let flops = state_nets(alloc, net)?;
-        let by_flop = flop_marks(alloc, net, flops.slice())?;
-        let by_input = input_marks(alloc, net)?;
+        let raw = net.raw();
+        let count = raw.names.len() as usize;
+        let flops = flop_nets(alloc, raw.flops.slice())?;
+        let by_flop = marks_of(alloc, count, flops.slice())?;
+        let by_input = marks_of(alloc, count, net.data_inputs().slice())?;
         Ok(Drivers {
             flops,
             by_flop,

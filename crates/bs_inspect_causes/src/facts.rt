@@ -1,5 +1,5 @@
 //! Facts of the trace: of nets at a cycle, and which of some are real.
-ghost use Rattle.std.specs.Prelude.{◌≡◌, ◌<◌, [], ◌∷◌, ◌++◌, true, length, map, All, IfOk, OnOk};
+ghost use Rattle.std.specs.Prelude.{◌≡◌, ◌<◌, [], ◌∷◌, ◌++◌, true, length, All, IfOk, OnOk};
 ghost use Rattle.bs_net.specs.Netlist.{circuit};
 ghost use Rattle.bs_net_facts.specs.Sources.{sources};
 ghost use Rattle.bs_inspect_accounts.specs.Accounts.{AreFactsOf, IsRealIn};
@@ -116,16 +116,4 @@ pub(crate) fn copied(alloc: Global, facts: &[Fact]) -> Result<List<Fact>, NoMemo
 {
     let copy = Vec::from_slice(alloc, facts)?;
     Ok(List::of(copy))
-}
-
-/// The nets of some facts.
-#[tactic(auto, using(crate::proofs::FactLemmas::nets_more, crate::proofs::FactLemmas::nets_all))]
-pub(crate) fn nets_of(alloc: Global, facts: &[Fact]) -> Result<List<NetId>, NoMemory>
-    ensures { IfOk result (λ nets. nets ≡ map (λ f. f.net) facts.now) }
-{
-    let mut nets = List::new(alloc);
-    'facts: for fact in facts {
-        nets.push(fact.net)?;
-    }
-    Ok(nets)
 }

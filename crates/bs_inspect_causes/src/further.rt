@@ -10,9 +10,8 @@ use crate::facts::is_real;
 use crate::ledger::Ledger;
 use bs_bits::NoMemory;
 use bs_inspect_accounts::Account;
-use bs_inspect_cones::{Driver, Scene};
-use bs_net::NetId;
-use bs_net_facts::{Fact, Moments};
+use bs_inspect_holds::{Driver, Scene};
+use bs_net_facts::Fact;
 use std::alloc::Global;
 
 /// Behind an account with more causes, old single bits are asked only where all are.
@@ -21,9 +20,11 @@ const MANY_CAUSES: usize = 8;
 /// So many cycles before a cause has an old one the same bit.
 const OLD_CYCLES: u32 = 4;
 
-/// Whether a fact's net has the bit in the cycles before it too.
-fn is_old(moments: &Moments<'_>, fact: Fact) -> bool {
-    if fact.cycle < OLD_CYCLES {
+/// Whether a cause of an account is left out where not all are asked: one of many, of a single net that has the bit in the cycles before
+/// it too.
+fn is_left_out(scene: &Scene<'_>, account: &Account, fact: Fact) -> bool {
+    let many = account.causes.len() > MANY_CAUSES;
+    if !many || !scene.is_single(fact.net) || fact.cycle < OLD_CYCLES {
         return false;
     }
     for back in 1..OLD_CYCLES + 1 {
@@ -32,32 +33,11 @@ fn is_old(moments: &Moments<'_>, fact: Fact) -> bool {
             cycle: fact.cycle.saturating_sub(back),
             bit: fact.bit,
         };
-        if !is_real(moments, before) {
+        if !is_real(scene.moments, before) {
             return false;
         }
     }
     true
-}
-
-/// Whether a cause of an account is left out where not all are asked.
-fn is_left_out(scene: &Scene<'_>, account: &Account, fact: Fact) -> bool {
-    if account.causes.len() <= MANY_CAUSES {
-        return false;
-    }
-    if !scene.is_single(fact.net.0) {
-        return false;
-    }
-    is_old(scene.moments, fact)
-}
-
-/// Whether a gate or a flip-flop drives a net.
-fn is_driven(scene: &Scene<'_>, net: NetId) -> bool {
-    match scene.driver(net) {
-        Driver::Gate(_) => true,
-        Driver::Flop(_) => true,
-        Driver::Constant => false,
-        Driver::Outside => false,
-    }
 }
 
 /// Whether a fact of a flip-flop or a gate is asked further: a cause, or what has kept the bits all through.
@@ -85,10 +65,11 @@ fn is_asked(
     if is_marked(drivers.by_input.slice(), fact.net) {
         return false;
     }
-    if !is_driven(scene, fact.net) {
-        return false;
+    match scene.driver(fact.net) {
+        Driver::Gate(_) => is_chosen(scene, ledger, account, fact, all),
+        Driver::Flop(..) => is_chosen(scene, ledger, account, fact, all),
+        _ => false,
     }
-    is_chosen(scene, ledger, account, fact, all)
 }
 
 /// Puts a given fact of an account at the end, if it is asked further.

@@ -9,7 +9,7 @@ use crate::telling::account_of;
 use crate::units::{Unit, ordered, unit_at};
 use bs_bits::{List, NoMemory};
 use bs_inspect_accounts::Account;
-use bs_inspect_cones::Scene;
+use bs_inspect_holds::Scene;
 use bs_net_facts::Fact;
 use std::alloc::Global;
 
@@ -36,17 +36,7 @@ fn push_account(
     Ok(())
 }
 
-/// Whether the facts of a later layer than the first are told already.
-fn is_told(ledger: &Ledger, facts: &[Fact], layer: u32) -> bool
-    ensures { layer ≡ 0 → result ≡ false }
-{
-    if layer == 0 {
-        return false;
-    }
-    ledger.tells_all(facts)
-}
-
-/// Tells a unit, unless it is told already.
+/// Tells a unit, unless it is one of a later layer than the first and told already.
 #[tactic(auto, using(crate::proofs::LayerLemmas::tells_none))]
 fn tell_unit(
     alloc: Global,
@@ -63,7 +53,7 @@ fn tell_unit(
     requires unit { IsUnit scene.now.moments.now drivers.now at flop facts.now }
     ensures { OnOk result (Tells scene.now.moments.now layer facts.now accounts.old accounts.new) }
 {
-    if is_told(ledger, facts, layer) {
+    if layer != 0 && ledger.tells_all(facts) {
         return Ok(());
     }
     push_account(

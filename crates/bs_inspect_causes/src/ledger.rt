@@ -1,7 +1,7 @@
 //! What is told so far, and what the choice of further facts counts. Nothing is promised of it.
 
 use bs_bits::NoMemory;
-use bs_inspect_cones::{put_word, word_at};
+use bs_inspect_holds::{at, put, zeros};
 use bs_net_facts::{Block, Fact};
 use std::alloc::Global;
 
@@ -13,18 +13,6 @@ pub(crate) struct Ledger {
     until: Vec<u64>,
     /// In how many cycles a net keeps the bits of the present account.
     holds: Vec<u64>,
-}
-
-/// So many words of zeros.
-fn zeros(alloc: Global, count: usize) -> Result<Vec<u64>, NoMemory> {
-    let words = vec![in alloc; 0; count]?;
-    Ok(words)
-}
-
-/// One more at a place.
-fn count_at(words: &mut Vec<u64>, place: u32) {
-    let count = word_at(words.as_slice(), place).saturating_add(1);
-    put_word(words, place, count);
 }
 
 impl Ledger {
@@ -45,16 +33,16 @@ impl Ledger {
         let since = u64::from(block.since);
         let until = u64::from(block.at) + 1;
         for fact in block.bits.slice() {
-            put_word(&mut self.since, fact.net.0, since);
-            put_word(&mut self.until, fact.net.0, until);
+            put(&mut self.since, fact.net.0 as usize, since);
+            put(&mut self.until, fact.net.0 as usize, until);
         }
     }
 
     /// Whether the block that told a fact's net last tells it in the fact's cycle.
     pub(crate) fn tells(&self, fact: Fact) -> bool {
         let cycle = u64::from(fact.cycle);
-        let begun = word_at(self.since.as_slice(), fact.net.0) <= cycle;
-        let lasts = cycle < word_at(self.until.as_slice(), fact.net.0);
+        let begun = at(self.since.as_slice(), fact.net.0 as usize, 0) <= cycle;
+        let lasts = cycle < at(self.until.as_slice(), fact.net.0 as usize, 0);
         begun && lasts
     }
 
@@ -71,14 +59,19 @@ impl Ledger {
     /// Counts in how many cycles nets keep bits.
     pub(crate) fn count(&mut self, holds: &[Fact]) {
         for fact in holds {
-            count_at(&mut self.holds, fact.net.0);
+            let count = at(self.holds.as_slice(), fact.net.0 as usize, 0);
+            put(
+                &mut self.holds,
+                fact.net.0 as usize,
+                count.saturating_add(1),
+            );
         }
     }
 
     /// Takes the counts back.
     pub(crate) fn clear(&mut self, holds: &[Fact]) {
         for fact in holds {
-            put_word(&mut self.holds, fact.net.0, 0);
+            put(&mut self.holds, fact.net.0 as usize, 0);
         }
     }
 
@@ -86,7 +79,7 @@ impl Ledger {
     pub(crate) fn is_steady(&self, block: &Block, fact: Fact) -> bool {
         let cycles = block.at.saturating_sub(block.since);
         let last = block.at.saturating_sub(fact.cycle) == 1;
-        let all = word_at(self.holds.as_slice(), fact.net.0) == u64::from(cycles);
+        let all = at(self.holds.as_slice(), fact.net.0 as usize, 0) == u64::from(cycles);
         last && all && cycles > 1
     }
 }

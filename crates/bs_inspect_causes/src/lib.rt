@@ -4,7 +4,7 @@
 //! `account` (the account of a block), `sourced` (the block by all flip-flops and data inputs of a cycle),
 //! `telling` (the account of a unit), `units` (facts of one vector and cycle), `layer`, `ledger` and `further` (what is told
 //! already, and asked further), `accounts` (`accounts_of`). Used above: `Explain` (bs_inspect_accounts). By which facts a unit is told
-//! is chosen below (bs_inspect_cones), and `is_block` (bs_net_facts) decides; where it does not know, `sources_force` does.
+//! is chosen below (bs_inspect_holds), and `is_block` (bs_net_facts) decides; where it does not know, `sources_force` does.
 #![tactic(auto)]
 
 mod account;

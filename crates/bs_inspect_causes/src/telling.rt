@@ -7,12 +7,11 @@ ghost use Rattle.bs_inspect_causes.specs.Layers.{IsReady, IsUnit};
 
 use crate::account::account_by;
 use crate::drivers::Drivers;
-use crate::facts::{copied, nets_of};
+use crate::facts::copied;
 use crate::sourced::sourced_block;
 use bs_bits::{List, NoMemory};
 use bs_inspect_accounts::Account;
-use bs_inspect_cones::Scene;
-use bs_inspect_holds::{Proposal, propose};
+use bs_inspect_holds::{Proposal, Scene, propose};
 use bs_net_facts::{Fact, is_block};
 use std::alloc::Global;
 
@@ -28,13 +27,18 @@ fn with_bits(proposal: Proposal, bits: List<Fact>, at: u32) -> Proposal
 }
 
 /// What the choice proposes for a unit.
-fn proposed(alloc: Global, scene: &Scene<'_>, facts: &[Fact], at: u32) -> Result<Proposal, NoMemory>
+fn proposed(
+    alloc: Global,
+    scene: &Scene<'_>,
+    facts: &[Fact],
+    at: u32,
+    flop: bool,
+) -> Result<Proposal, NoMemory>
     ensures bits { IfOk result (λ p. p.block.bits ≡ facts.now) }
     ensures at { IfOk result (λ p. p.block.at ≡ at) }
 {
     let bits = copied(alloc, facts)?;
-    let nets = nets_of(alloc, facts)?;
-    match propose(alloc, scene, nets.slice(), at) {
+    match propose(alloc, scene, facts, at, flop) {
         Ok(proposal) => Ok(with_bits(proposal, bits, at)),
         Err(refused) => Err(refused),
     }
@@ -104,7 +108,7 @@ pub(crate) fn account_of(
     ensures bits { IfOk result (λ a. last_bits a ≡ facts.now) }
     ensures layer { IfOk result (λ a. a.layer ≡ layer) }
 {
-    let proposal = proposed(alloc, scene, facts, at)?;
+    let proposal = proposed(alloc, scene, facts, at, flop)?;
     match is_block(alloc, scene.moments, &proposal.cone, &proposal.block) {
         Ok(is) => judged(alloc, scene, drivers, facts, at, flop, layer, proposal, is),
         Err(refused) => {

@@ -6,13 +6,13 @@ ghost use Rattle.bs_inspect_causes.specs.Layers.{IsLike, IsUnitAt, KeepsFirst, R
 
 use crate::drivers::{Drivers, is_marked};
 use bs_bits::{List, NoMemory};
-use bs_inspect_cones::Scene;
+use bs_inspect_holds::Scene;
 use bs_net_facts::Fact;
 use std::alloc::Global;
 
 /// What facts are ordered by: the latest cycle first, and in it by vectors.
 fn order_of(scene: &Scene<'_>, by_flop: &[bool], fact: &Fact) -> (u32, u32, u32, u32) {
-    let group = scene.group(fact.net.0);
+    let group = scene.group(fact.net);
     let kind = if is_marked(by_flop, fact.net) { 0 } else { 1 };
     (u32::MAX - fact.cycle, group, kind, fact.net.0)
 }
@@ -94,7 +94,7 @@ fn is_like(scene: &Scene<'_>, drivers: &Drivers, first: Fact, flop: bool, fact: 
     ensures { result ≡ true → IsLike drivers.now first.cycle flop fact }
 {
     let cycle = fact.cycle == first.cycle;
-    let group = scene.group(fact.net.0) == scene.group(first.net.0);
+    let group = scene.group(fact.net) == scene.group(first.net);
     let kind = is_marked(drivers.by_flop.slice(), fact.net) == flop;
     cycle && group && kind
 }

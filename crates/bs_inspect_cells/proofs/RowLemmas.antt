@@ -7,8 +7,8 @@ use Rattle.std.proofs.lemmas.Grind.{flat_map-append}
 use Rattle.std.proofs.lemmas.List.{take_more, map-append, append-nil}
 use Rattle.bs_net_names.specs.declared.signal.Signal.{Signal as CodeSignal}
 use Rattle.bs_net_names.specs.Signals.{Signal, signal_in}
-use Rattle.bs_inspect_cells.specs.Cells.{Figure, bit_of}
-use Rattle.bs_inspect_cells.specs.Rows.{cells_text, group_text, name_cell, row_text, shown_name, signal_rows}
+use Rattle.bs_inspect_cells.specs.Cells.{Figure, bit_of, is_signed}
+use Rattle.bs_inspect_cells.specs.Rows.{cells_text, group_text, name_cell, name_end, name_front, row_text, shown_name, signal_rows}
 use Rattle.bs_inspect_cells.proofs.PutLemmas.{five_put, three_put}
 
 -- a signal's row more
@@ -50,16 +50,19 @@ bit_past moments i place le = sym (ap (λ (bs : List Bool). get_or bs place fals
 
 -- ---- pieces of a row
 
-pub name_put : (s : Signal) (old a b c : List ℕ) → a ≡ old ++ codes "<tr><th scope='row'>" → b ≡ a ++ shown_name s → c ≡ b ++ codes "</th>" →
-    c ≡ old ++ name_cell s
+pub name_put : (signed : List Bool) (s : Signal) (places : List ℕ) (marked : Bool) (old a b c : List ℕ) → places ≡ s.places →
+    marked ≡ is_signed signed places → a ≡ old ++ name_front marked → b ≡ a ++ shown_name s → c ≡ b ++ name_end marked → c ≡ old ++ name_cell signed s
 unfolding name_cell
-name_put s old a b c e f g = three_put old (codes "<tr><th scope='row'>") (shown_name s) (codes "</th>") a b c e f g
+name_put signed s places marked old a b c same is e f g =
+    let own : marked ≡ is_signed signed s.places = is ∙ ap (λ (ps : List ℕ). is_signed signed ps) same in
+    three_put old (name_front (is_signed signed s.places)) (shown_name s) (name_end (is_signed signed s.places)) a b c
+    (e ∙ ap (λ (m : Bool). old ++ name_front m) own) f (g ∙ ap (λ (m : Bool). b ++ name_end m) own)
 
-pub row_put : (f : Figure) (s : Signal) (places old a b c : List ℕ) → places ≡ s.places → a ≡ old ++ name_cell s → b ≡ a ++ cells_text f places →
+pub row_put : (f : Figure) (s : Signal) (places old a b c : List ℕ) → places ≡ s.places → a ≡ old ++ name_cell f.signed s → b ≡ a ++ cells_text f places →
     c ≡ b ++ codes "</tr>\n" → c ≡ old ++ row_text f s
 unfolding row_text
 row_put f s places old a b c same e g h =
-    three_put old (name_cell s) (cells_text f s.places) (codes "</tr>\n") a b c e (g ∙ ap (λ (ps : List ℕ). a ++ cells_text f ps) same) h
+    three_put old (name_cell f.signed s) (cells_text f s.places) (codes "</tr>\n") a b c e (g ∙ ap (λ (ps : List ℕ). a ++ cells_text f ps) same) h
 
 pub group_put : (heading : List ℕ) (f : Figure) (signals : List Signal) (old a b c d e : List ℕ) →
     a ≡ old ++ codes "<tbody><tr><th class='g' scope='rowgroup'>" → b ≡ a ++ heading → c ≡ b ++ codes "</th></tr>\n" →

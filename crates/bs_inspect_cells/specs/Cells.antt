@@ -4,10 +4,12 @@ use Rattle.std.specs.Bool.{beq}
 use Rattle.std.specs.List.{find, list_all, list_any, range_with_len}
 use Rattle.std.specs.Option.{unwrap_or}
 
--- the states or inputs that are drawn, and the bits that are open in each: those at which other candidates of its list differ
+-- the states or inputs that are drawn, the bits that are open in each (those at which other candidates of its list differ), and for each
+-- place whether an item of the signature reads it
 pub record Figure : Type 0 where
   pub moments : List (List Bool)
   pub opens : List (List Bool)
+  pub signed : List Bool
 
 -- the bit at a place of a moment
 abbrev pub bit_of : List (List Bool) → ℕ → ℕ → Bool
@@ -20,6 +22,10 @@ bits_at f places i = map (bit_of f.moments i) places
 -- whether a bit of a signal is open at a moment
 abbrev pub is_open : Figure → List ℕ → ℕ → Bool
 is_open f places i = list_any (bit_of f.opens i) places
+
+-- whether one of a signal's places is read
+abbrev pub is_signed : List Bool → List ℕ → Bool
+is_signed signed places = list_any (λ p. slice_index_or signed p false) places
 
 -- whether a signal has the same bits at two moments
 abbrev pub same_bits : Figure → List ℕ → ℕ → ℕ → Bool

@@ -3,4 +3,4 @@ use Rattle.bs_inspect_cells.specs.Cells.{Figure}
 use Rattle.bs_inspect_cells.specs.declared.figure.Figure.{Figure as CodeFigure}
 
 abbrev pub figure_in : CodeFigure → Figure
-figure_in f = record { moments = f.moments.now; opens = f.opens.now }
+figure_in f = record { moments = f.moments.now; opens = f.opens.now; signed = f.signed.now }

@@ -3,7 +3,7 @@ use Rattle.std.specs.Prelude.{ℕ, ◌-◌, ◌==◌, nat_lt, Bool, true, false,
 use Rattle.std.specs.List.{flat_map, range_with_len}
 use Rattle.bs_net_names.specs.Signals.{Signal, name_text}
 use Rattle.bs_net_names.specs.Values.{value_text}
-use Rattle.bs_inspect_cells.specs.Cells.{ValueCell, Figure, begins, cell_from}
+use Rattle.bs_inspect_cells.specs.Cells.{ValueCell, Figure, begins, cell_from, is_signed}
 use Rattle.bs_inspect_cells.specs.Escapes.{html_escaped}
 
 -- a bit that is 1, one that is 0, or a vector
@@ -42,13 +42,20 @@ cells_text f places = flat_map (cell_at f places) (range_with_len 0 (length f.mo
 unfoldable pub shown_name : Signal → List ℕ
 shown_name s = html_escaped (name_text s)
 
--- the cell of a signal's name
-unfoldable pub name_cell : Signal → List ℕ
-name_cell s = codes "<tr><th scope='row'>" ++ (shown_name s ++ codes "</th>")
+-- a name that is marked has a class, and words that are read aloud as well
+abbrev pub name_front : Bool → List ℕ
+name_front marked = if marked then codes "<tr><th scope='row' class='m'>" else codes "<tr><th scope='row'>"
+
+abbrev pub name_end : Bool → List ℕ
+name_end marked = if marked then codes " <span>signature</span></th>" else codes "</th>"
+
+-- the cell of a signal's name, marked where one of its places is read
+unfoldable pub name_cell : List Bool → Signal → List ℕ
+name_cell signed s = name_front (is_signed signed s.places) ++ (shown_name s ++ name_end (is_signed signed s.places))
 
 -- the name of a signal, and its cells
 unfoldable pub row_text : Figure → Signal → List ℕ
-row_text f s = name_cell s ++ (cells_text f s.places ++ codes "</tr>\n")
+row_text f s = name_cell f.signed s ++ (cells_text f s.places ++ codes "</tr>\n")
 
 abbrev pub signal_rows : Figure → List Signal → List ℕ
 signal_rows f signals = flat_map (row_text f) signals

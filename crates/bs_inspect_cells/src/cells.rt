@@ -1,6 +1,6 @@
 //! The cells of a signal: where one begins and ends.
 ghost use Rattle.std.specs.Prelude.{◌≡◌, ◌<◌, ◌≤◌, ◌+◌, ◌^◌, length, slice_index_or, false, IfOk};
-ghost use Rattle.bs_inspect_cells.specs.Cells.{begins, bit_of, bits_at, end_of, is_lively, is_open, is_other, next_begin, same_bits, same_shown};
+ghost use Rattle.bs_inspect_cells.specs.Cells.{begins, bit_of, bits_at, end_of, is_lively, is_open, is_other, is_signed, next_begin, same_bits, same_shown};
 ghost use Rattle.bs_inspect_cells.specs.Figures.{figure_in};
 
 use crate::figure::Figure;
@@ -54,6 +54,13 @@ pub(crate) fn is_open(figure: Figure<'_>, places: &[u32], i: usize) -> bool
     places
         .iter()
         .any(|place| bit_of(figure.opens, i, *place as usize))
+}
+
+/// Whether one of a signal's places is read.
+pub(crate) fn is_signed(signed: &Bits, places: &[u32]) -> bool
+    ensures { result ≡ is_signed signed.now places.now }
+{
+    places.iter().any(|place| bit_at(signed, *place as usize))
 }
 
 /// Whether a signal has the same bits at two moments.

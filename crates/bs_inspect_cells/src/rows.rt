@@ -2,14 +2,14 @@
 ghost use Rattle.std.specs.Prelude.{◌≡◌, ◌<◌, ◌+◌, ◌^◌, ◌++◌, length, map, All, IfOk, OnOk};
 ghost use Rattle.std.specs.List.{flat_map};
 ghost use Rattle.bs_net_names.specs.Signals.{name_text, signal_in};
-ghost use Rattle.bs_inspect_cells.specs.Cells.{ValueCell, cell_from};
+ghost use Rattle.bs_inspect_cells.specs.Cells.{ValueCell, cell_from, is_signed};
 ghost use Rattle.bs_inspect_cells.specs.Figures.{figure_in};
-ghost use Rattle.bs_inspect_cells.specs.Rows.{cell_at, cell_text, cells_text, group_text, value_class, look_text, name_cell, open_word, row_text, shown_name, signal_rows, span_words, title_words};
+ghost use Rattle.bs_inspect_cells.specs.Rows.{cell_at, cell_text, cells_text, group_text, value_class, look_text, name_cell, name_end, name_front, open_word, row_text, shown_name, signal_rows, span_words, title_words};
 
-use crate::cells::{begins, bits_at, end_of, is_open};
+use crate::cells::{begins, bits_at, end_of, is_open, is_signed};
 use crate::escape::push_escaped;
 use crate::figure::Figure;
-use bs_bits::{NoMemory, push_number, push_piece};
+use bs_bits::{Bits, NoMemory, push_number, push_piece};
 use bs_net_names::{Signal, push_name, push_value};
 use std::alloc::Global;
 
@@ -169,13 +169,40 @@ fn push_shown_name(text: &mut Vec<u8>, signal: &Signal<'_>) -> Result<(), NoMemo
     push_escaped(text, name.as_slice())
 }
 
-/// Appends the cell of a signal's name.
-pub fn push_name_cell(text: &mut Vec<u8>, signal: &Signal<'_>) -> Result<(), NoMemory>
-    ensures { OnOk result (text.new.items ≡ text.old.items ++ name_cell (signal_in signal.now)) }
+/// Appends what stands in front of a name.
+fn push_name_front(text: &mut Vec<u8>, marked: bool) -> Result<(), NoMemory>
+    ensures { OnOk result (text.new.items ≡ text.old.items ++ name_front marked) }
 {
-    push_piece(text, b"<tr><th scope='row'>")?;
+    if marked {
+        push_piece(text, b"<tr><th scope='row' class='m'>")
+    } else {
+        push_piece(text, b"<tr><th scope='row'>")
+    }
+}
+
+/// Appends what stands behind a name.
+fn push_name_end(text: &mut Vec<u8>, marked: bool) -> Result<(), NoMemory>
+    ensures { OnOk result (text.new.items ≡ text.old.items ++ name_end marked) }
+{
+    if marked {
+        push_piece(text, b" <span>signature</span></th>")
+    } else {
+        push_piece(text, b"</th>")
+    }
+}
+
+/// Appends the cell of a signal's name, marked where one of its places is read.
+pub fn push_name_cell(
+    text: &mut Vec<u8>,
+    signed: &Bits,
+    signal: &Signal<'_>,
+) -> Result<(), NoMemory>
+    ensures { OnOk result (text.new.items ≡ text.old.items ++ name_cell signed.now (signal_in signal.now)) }
+{
+    let marked = is_signed(signed, signal.places.slice());
+    push_name_front(text, marked)?;
     push_shown_name(text, signal)?;
-    push_piece(text, b"</th>")?;
+    push_name_end(text, marked)?;
     Ok(())
 }
 
@@ -184,7 +211,7 @@ fn push_row(text: &mut Vec<u8>, figure: Figure<'_>, signal: &Signal<'_>) -> Resu
     requires { length signal.now.places < 2 ^ 32 }
     ensures { OnOk result (text.new.items ≡ text.old.items ++ row_text (figure_in figure.entry) (signal_in signal.now)) }
 {
-    push_name_cell(text, signal)?;
+    push_name_cell(text, figure.signed, signal)?;
     push_cells(text, figure, signal.places.slice())?;
     push_piece(text, b"</tr>\n")?;
     Ok(())

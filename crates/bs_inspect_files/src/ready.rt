@@ -21,6 +21,13 @@ pub struct TraceFiles {
     ghost inputs: { All (λ x. length x ≡ length (circuit net).inputs) report.inputs },
 }
 
+/// The files of a page: a netlist and a report, and what the signature is taken of, where one is given.
+#[derive(Drop)]
+pub struct PageFiles {
+    pub trace_files: TraceFiles,
+    pub choice: Option<Choice>,
+}
+
 /// A netlist, and recorded runs.
 #[derive(Drop)]
 pub struct RunFiles {

@@ -47,7 +47,7 @@ fn load_fitting<S: Shelf>(
 }
 
 /// A netlist, and the report of a file whose trace fits it, or the answer of a file whose execution does.
-fn load_reported<S: Shelf>(
+pub(crate) fn load_reported<S: Shelf>(
     alloc: Global,
     shelf: &mut S,
     net: Netlist,

@@ -1,34 +1,19 @@
 //! What keeps the bits of flip-flops: sets of sources, each at all cycles at which it does.
 
 use crate::choice::choose;
+use crate::known::{know_by_given, note_gates};
+use crate::need::all_kept;
+use crate::tables::{at, bit_of, has, put_facts, put_nets};
+use crate::view::{Desk, Site, View};
 use bs_bits::NoMemory;
-use bs_inspect_cones::{
-    Desk, Fanin, Scene, View, all_kept, cycles_from, has, know_by_given, note_gates, number_of,
-    put_flag, put_flags, take_out,
-};
 use bs_net::NetId;
 use std::alloc::Global;
 
 /// Sources that keep some bits, and the cycles at which they are told.
 #[derive(Drop)]
 pub(crate) struct Hold {
-    pub(crate) nets: Vec<u32>,
+    pub(crate) nets: Vec<NetId>,
     pub(crate) cycles: Vec<u64>,
-}
-
-/// Flip-flops' outputs, and what is below that which they load.
-#[derive(Clone, Copy)]
-pub(crate) struct Site<'a> {
-    pub(crate) scene: &'a Scene<'a>,
-    pub(crate) fanin: &'a Fanin,
-    pub(crate) nets: &'a [NetId],
-}
-
-/// Gives some nets, or takes that back.
-pub(crate) fn give_nets(desk: &mut Desk, nets: &[NetId], given: bool) {
-    'nets: for net in nets {
-        put_flag(&mut desk.given, net.0, given);
-    }
 }
 
 /// Those that are left of 64 cycles at which given nets keep the bits.
@@ -36,25 +21,15 @@ fn kept_word(site: &Site<'_>, desk: &mut Desk, first: u32, left: u64) -> u64 {
     if left == 0 {
         return 0;
     }
-    let view = View::of_word(site.scene, site.fanin, first, left);
+    let view = View {
+        scene: site.scene,
+        fanin: site.fanin,
+        cycle: first,
+        cycles: left,
+    };
     know_by_given(&view, desk);
     note_gates(&view, desk, site.fanin.gates.as_slice());
-    all_kept(&view, desk.known.as_slice(), site.nets)
-}
-
-/// The cycles that are left at which given nets keep the bits.
-fn kept_words(
-    alloc: Global,
-    site: &Site<'_>,
-    desk: &mut Desk,
-    left: &[u64],
-) -> Result<Vec<u64>, NoMemory> {
-    let mut kept = Vec::new(alloc);
-    'words: for i in 0..left.len() {
-        let first = number_of(i).saturating_mul(64);
-        kept.push(kept_word(site, desk, first, left[i]))?;
-    }
-    Ok(kept)
+    all_kept(&view, desk.known.as_slice(), site.facts)
 }
 
 /// The cycles that are left at which sources keep the bits.
@@ -62,26 +37,52 @@ fn kept_by(
     alloc: Global,
     site: &Site<'_>,
     desk: &mut Desk,
-    sources: &[u32],
+    sources: &[NetId],
     left: &[u64],
 ) -> Result<Vec<u64>, NoMemory> {
-    put_flags(&mut desk.given, sources, true);
-    give_nets(desk, site.nets, true);
-    let kept = kept_words(alloc, site, desk, left)?;
-    put_flags(&mut desk.given, sources, false);
-    give_nets(desk, site.nets, false);
+    put_nets(&mut desk.given, sources, true);
+    put_facts(&mut desk.given, site.facts, true);
+    let mut kept = Vec::new(alloc);
+    let mut first = 0u32;
+    'words: for word in left {
+        kept.push(kept_word(site, desk, first, *word))?;
+        first = first.saturating_add(64);
+    }
+    put_nets(&mut desk.given, sources, false);
+    put_facts(&mut desk.given, site.facts, false);
     Ok(kept)
 }
 
 /// The sources without the block's own nets.
-fn others_of(alloc: Global, desk: &Desk, sources: &[u32]) -> Result<Vec<u32>, NoMemory> {
+fn others_of(alloc: Global, desk: &Desk, sources: &[NetId]) -> Result<Vec<NetId>, NoMemory> {
     let mut others = Vec::new(alloc);
     'sources: for net in sources {
-        if !desk.is_own(*net) {
+        if !at(desk.own.as_slice(), net.0 as usize, false) {
             others.push(*net)?;
         }
     }
     Ok(others)
+}
+
+/// Sources that keep the bits at a cycle, but for the block's own nets; nothing where other sources set the bits once more.
+fn keepers_at(
+    alloc: Global,
+    site: &Site<'_>,
+    desk: &mut Desk,
+    cycle: u32,
+) -> Result<Option<Vec<NetId>>, NoMemory> {
+    let view = View {
+        scene: site.scene,
+        fanin: site.fanin,
+        cycle,
+        cycles: bit_of(cycle),
+    };
+    let chosen = choose(alloc, &view, desk, site.facts, true)?;
+    let nets = others_of(alloc, desk, chosen.as_slice())?;
+    if nets.len() == chosen.len() {
+        return Ok(None);
+    }
+    Ok(Some(nets))
 }
 
 /// Puts in a hold, unless it does not keep the bits at a cycle. It gives whether it does.
@@ -94,31 +95,14 @@ fn push_hold(
     if !has(hold.cycles.as_slice(), cycle) {
         return Ok(false);
     }
-    take_out(left, hold.cycles.as_slice());
+    'words: for i in 0..left.len() {
+        left[i] = left[i] & !at(hold.cycles.as_slice(), i, 0);
+    }
     holds.push(hold)?;
     Ok(true)
 }
 
-/// Sources that keep the bits at a cycle, with the cycles that are left at which they do; nothing where other sources set the bits
-/// once more.
-fn hold_at(
-    alloc: Global,
-    site: &Site<'_>,
-    desk: &mut Desk,
-    left: &[u64],
-    cycle: u32,
-) -> Result<Option<Hold>, NoMemory> {
-    let view = View::of_cycle(site.scene, site.fanin, cycle);
-    let chosen = choose(alloc, &view, desk, site.nets, cycle, true)?;
-    let nets = others_of(alloc, desk, chosen.as_slice())?;
-    if nets.len() == chosen.len() {
-        return Ok(None);
-    }
-    let cycles = kept_by(alloc, site, desk, nets.as_slice(), left)?;
-    Ok(Some(Hold { nets, cycles }))
-}
-
-/// Keeps the bits at a cycle, and at others by the way. It gives whether the bits are kept there, and not set once more.
+/// Keeps the bits at a cycle, and at others that are left by the way. It gives whether the bits are kept there, and not set once more.
 fn keep(
     alloc: Global,
     site: &Site<'_>,
@@ -127,15 +111,18 @@ fn keep(
     holds: &mut Vec<Hold>,
     cycle: u32,
 ) -> Result<bool, NoMemory> {
-    match hold_at(alloc, site, desk, left.as_slice(), cycle)? {
-        Some(hold) => push_hold(holds, left, cycle, hold),
+    match keepers_at(alloc, site, desk, cycle)? {
+        Some(nets) => {
+            let cycles = kept_by(alloc, site, desk, nets.as_slice(), left.as_slice())?;
+            push_hold(holds, left, cycle, Hold { nets, cycles })
+        }
         None => Ok(false),
     }
 }
 
-/// Keeps the bits at each cycle that is left, the latest first, down to one at which they are set. It gives the cycle behind that, or
-/// the first one.
-fn keep_all(
+/// Keeps the bits of flip-flops at each cycle that is left, the latest first, down to one at which they are set. It gives the cycle
+/// behind that, or the first one. The holds have all that keeps the bits from then on, and may have more.
+pub(crate) fn keep_all(
     alloc: Global,
     site: &Site<'_>,
     desk: &mut Desk,
@@ -153,18 +140,4 @@ fn keep_all(
         }
     }
     Ok(first)
-}
-
-/// Since when flip-flops have their bits of a cycle, where they are the same from the first cycle on. The holds have all that keeps
-/// them from then on, and may have more.
-pub(crate) fn hold_since(
-    alloc: Global,
-    site: &Site<'_>,
-    desk: &mut Desk,
-    holds: &mut Vec<Hold>,
-    first: u32,
-    end: u32,
-) -> Result<u32, NoMemory> {
-    let mut left = cycles_from(alloc, first, end)?;
-    keep_all(alloc, site, desk, &mut left, holds, first, end)
 }

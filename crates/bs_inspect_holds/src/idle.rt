@@ -1,25 +1,18 @@
 //! What shows 1 below a block, is not forced by its facts, and does not matter.
 
+use crate::driver::Driver;
+use crate::fanin::fanin_of;
+use crate::known::know_by_given;
+use crate::scene::Scene;
+use crate::tables::{at, bit_of, put_nets};
+use crate::view::{Desk, View, give_constants};
 use bs_bits::{List, NoMemory};
-use bs_inspect_cones::{
-    Desk, Driver, Fanin, Scene, View, fanin_of, give_constants, is_known, know_by_given, put_flags,
-};
 use bs_net::NetId;
 use bs_net_facts::Fact;
 use std::alloc::Global;
 
-/// Whether a net is worth telling: a gate's net at which a cone ends, or a vector by itself.
-fn is_telling(scene: &Scene<'_>, net: u32) -> bool {
-    match scene.driver(NetId(net)) {
-        Driver::Gate(_) => true,
-        Driver::Flop(_) => scene.is_single(net),
-        Driver::Constant => false,
-        Driver::Outside => scene.is_single(net),
-    }
-}
-
 /// Whether one of these nets is of the same vector as a net.
-pub(crate) fn shares_vector(scene: &Scene<'_>, nets: &[u32], net: u32) -> bool {
+pub(crate) fn shares_vector(scene: &Scene<'_>, nets: &[NetId], net: NetId) -> bool {
     let group = scene.group(net);
     'nets: for other in nets {
         if scene.group(*other) == group {
@@ -29,10 +22,15 @@ pub(crate) fn shares_vector(scene: &Scene<'_>, nets: &[u32], net: u32) -> bool {
     false
 }
 
-/// Whether a net is worth telling beside sources: it is not the block's own, and of no vector of theirs.
-pub(crate) fn is_beside(scene: &Scene<'_>, desk: &Desk, sources: &[u32], net: u32) -> bool {
-    let telling = is_telling(scene, net);
-    let own = desk.is_own(net);
+/// Whether a net is worth telling beside sources: a gate's net at which a cone ends, or a vector by itself. It is not the block's own,
+/// and of no vector of theirs.
+pub(crate) fn is_beside(scene: &Scene<'_>, desk: &Desk, sources: &[NetId], net: NetId) -> bool {
+    let telling = match scene.driver(net) {
+        Driver::Gate(_) => true,
+        Driver::Constant => false,
+        _ => scene.is_single(net),
+    };
+    let own = at(desk.own.as_slice(), net.0 as usize, false);
     telling && !own && !shares_vector(scene, sources, net)
 }
 
@@ -41,8 +39,8 @@ fn ones_beside(
     alloc: Global,
     view: &View<'_>,
     desk: &Desk,
-    sources: &[u32],
-) -> Result<Vec<u32>, NoMemory> {
+    sources: &[NetId],
+) -> Result<Vec<NetId>, NoMemory> {
     let mut ones = Vec::new(alloc);
     'leaves: for net in view.fanin.leaves.as_slice() {
         let one = view.shows_one(*net);
@@ -53,74 +51,67 @@ fn ones_beside(
     Ok(ones)
 }
 
-/// Notes which nets of a fan-in given nets force at a cycle.
-fn know_below(scene: &Scene<'_>, fanin: &Fanin, desk: &mut Desk, cycle: u32) {
-    give_constants(scene, desk, fanin.leaves.as_slice());
-    let view = View::of_cycle(scene, fanin, cycle);
-    know_by_given(&view, desk);
-}
-
 /// Notes which of some nets given nets force at a cycle, down all cones.
 fn know_forced(
     alloc: Global,
     scene: &Scene<'_>,
     desk: &mut Desk,
-    nets: &[u32],
+    nets: &[NetId],
     cycle: u32,
 ) -> Result<(), NoMemory> {
     let fanin = fanin_of(alloc, scene, nets, desk.given.as_slice())?;
-    know_below(scene, &fanin, desk, cycle);
+    give_constants(scene, desk, fanin.leaves.as_slice());
+    let view = View {
+        scene,
+        fanin: &fanin,
+        cycle,
+        cycles: bit_of(cycle),
+    };
+    know_by_given(&view, desk);
     Ok(())
 }
 
-/// Those of these nets that are not known.
-fn unknown_of(alloc: Global, desk: &Desk, nets: &[u32]) -> Result<Vec<u32>, NoMemory> {
-    let mut unknown = Vec::new(alloc);
-    'nets: for net in nets {
-        if !is_known(desk, *net) {
-            unknown.push(*net)?;
-        }
-    }
-    Ok(unknown)
-}
-
-/// Those of these nets that sources do not force at a cycle.
-pub(crate) fn unforced(
+/// Tells that those of some nets show 1 at a cycle that sources do not force there.
+pub(crate) fn push_unforced(
     alloc: Global,
     scene: &Scene<'_>,
     desk: &mut Desk,
-    sources: &[u32],
-    nets: &[u32],
+    sources: &[NetId],
+    nets: &[NetId],
     cycle: u32,
-) -> Result<Vec<u32>, NoMemory> {
-    put_flags(&mut desk.given, sources, true);
+    idle: &mut List<Fact>,
+) -> Result<(), NoMemory> {
+    put_nets(&mut desk.given, sources, true);
     know_forced(alloc, scene, desk, nets, cycle)?;
-    put_flags(&mut desk.given, sources, false);
-    unknown_of(alloc, desk, nets)
-}
-
-/// Tells that nets show 1 at a cycle.
-pub(crate) fn push_ones(idle: &mut List<Fact>, nets: &[u32], cycle: u32) -> Result<(), NoMemory> {
+    put_nets(&mut desk.given, sources, false);
     'nets: for net in nets {
-        idle.push(Fact {
-            net: NetId(*net),
-            cycle,
-            bit: true,
-        })?;
+        if at(desk.known.as_slice(), net.0 as usize, 0) == 0 {
+            idle.push(Fact {
+                net: *net,
+                cycle,
+                bit: true,
+            })?;
+        }
     }
     Ok(())
 }
 
-/// Tells what shows 1 at a cycle below a block and does not matter, where sources decide it: the nearest first.
+/// Tells what shows 1 at a moment below a block and does not matter, where sources decide it: the nearest first.
 pub(crate) fn push_idle(
     alloc: Global,
     view: &View<'_>,
     desk: &mut Desk,
-    sources: &[u32],
-    cycle: u32,
+    sources: &[NetId],
     idle: &mut List<Fact>,
 ) -> Result<(), NoMemory> {
     let ones = ones_beside(alloc, view, desk, sources)?;
-    let nets = unforced(alloc, view.scene, desk, sources, ones.as_slice(), cycle)?;
-    push_ones(idle, nets.as_slice(), cycle)
+    push_unforced(
+        alloc,
+        view.scene,
+        desk,
+        sources,
+        ones.as_slice(),
+        view.cycle,
+        idle,
+    )
 }

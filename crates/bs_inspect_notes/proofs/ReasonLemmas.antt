@@ -1,12 +1,14 @@
 -- The first word whose option takes another value, an option that is missing, and what is said by them.
-use Rattle.std.proofs.Common.{◌≡◌, ◌≤◌, ◌<◌, ◌+◌, ◌||◌, ℕ, zero, suc, arith, Bool, true, false, List, [], ◌∷◌, length, map, drop, get_or, Option, Some, None, Result, Vec, refl, ap, sym, ◌∙◌, subst, codes}
+use Rattle.std.proofs.Common.{◌≡◌, ◌≤◌, ◌<◌, ◌+◌, ◌||◌, ◌&&◌, ℕ, zero, suc, arith, Bool, true, false, List, [], ◌∷◌, length, map, drop, get_or, Option, Some, None, Result, Vec, refl, ap, sym, ◌∙◌, subst, codes}
 use Rattle.std.specs.Prelude.{IfOk, slice_index_or, if◌then◌else◌, String, string_bytes}
 use Rattle.std.specs.List.{list_any}
 use Rattle.std.specs.Str.{bytes_eq}
+use Rattle.std.specs.Borrow.{Bor}
 use Rattle.std.specs.declared.alloc.Global.{Global}
 use Rattle.std.proofs.lemmas.List.{drop_more, drop_all}
 use Rattle.bs_bits.specs.declared.memory.NoMemory.{NoMemory}
-use Rattle.bs_inspect_notes.specs.Usages.{bad_text, first_bad, gives, is_bad, number_text, option_name, reason_text, stand_sentence}
+use Rattle.bs_inspect_notes.specs.declared.reason.Bounds.{Bounds}
+use Rattle.bs_inspect_notes.specs.Usages.{bad_text, bounds_in, first_bad, gives, is_bad, number_text, option_name, reason_text, stand_of}
 
 abbrev Words : Type 0
 Words = List (String Global)
@@ -24,6 +26,33 @@ word_past [] i le = refl
 word_past (w ∷ ws) zero le = absurd (omega (arith, le))
 word_past (w ∷ ws) (suc i) le = word_past ws i (omega (arith, le))
 
+-- ---- the first entry of a table that has two names
+
+abbrev Entry : Type 0
+Entry = (Bor (List ℕ) × Bor (List ℕ)) × Bounds
+
+-- what is found from an entry on
+entry_step : (command name : List ℕ) (table : List Entry) (i : ℕ) (d : Entry) (named b : Bool) (goal : Option Bounds) → i < length table →
+    named ≡ (bytes_eq command (get_or table i d).0.0.now && bytes_eq name (get_or table i d).0.1.now) → named ≡ b →
+    bounds_in command name (drop i table) ≡ goal → (if b then Some (get_or table i d).1 else bounds_in command name (drop (i + 1) table)) ≡ goal
+entry_step command name table i d named b goal lt is same e =
+    subst (λ (c : Bool). (if c then Some (get_or table i d).1 else bounds_in command name (drop (i + 1) table)) ≡ goal) (sym is ∙ same)
+    (sym (ap (bounds_in command name) (drop_more table i d lt)) ∙ e)
+
+pub entry_found : (command name : List ℕ) (table : List Entry) (i : ℕ) (d : Entry) (named : Bool) (goal : Option Bounds) → i < length table →
+    named ≡ (bytes_eq command (get_or table i d).0.0.now && bytes_eq name (get_or table i d).0.1.now) → named ≡ true →
+    bounds_in command name (drop i table) ≡ goal → Some (get_or table i d).1 ≡ goal
+entry_found command name table i d named goal lt is held e = entry_step command name table i d named true goal lt is held e
+
+pub entry_next : (command name : List ℕ) (table : List Entry) (i : ℕ) (d : Entry) (named : Bool) (goal : Option Bounds) → i < length table →
+    named ≡ (bytes_eq command (get_or table i d).0.0.now && bytes_eq name (get_or table i d).0.1.now) → named ≡ false →
+    bounds_in command name (drop i table) ≡ goal → bounds_in command name (drop (i + 1) table) ≡ goal
+entry_next command name table i d named goal lt is failed e = entry_step command name table i d named false goal lt is failed e
+
+pub entry_none : (command name : List ℕ) (table : List Entry) (i : ℕ) (goal : Option Bounds) → length table ≤ i →
+    bounds_in command name (drop i table) ≡ goal → None ≡ goal
+entry_none command name table i goal le e = sym (ap (bounds_in command name) (drop_all i table le)) ∙ e
+
 -- ---- the first word whose option takes another value
 
 index_is : (ws : List (List ℕ)) (i : ℕ) → slice_index_or ws i [] ≡ get_or ws i []
@@ -38,42 +67,42 @@ front_is (w ∷ ws) zero = refl
 front_is (w ∷ ws) (suc i) = front_is ws i
 
 -- what is found from a word on, behind which another stands
-abbrev from_word : ℕ → (word next : List ℕ) → List (List ℕ) → Option ℕ
-from_word number w next ws = if bytes_eq w (codes "--") then None else (if is_bad w next then Some number else first_bad (number + 1) ws)
+abbrev from_word : List ℕ → ℕ → (word next : List ℕ) → List (List ℕ) → Option ℕ
+from_word command number w next ws = if bytes_eq w (codes "--") then None else (if is_bad command w next then Some number else first_bad command (number + 1) ws)
 
-word_step : (ws : List (List ℕ)) (at : ℕ) (w next : List ℕ) (goal : Option ℕ) → at < length ws → w ≡ slice_index_or ws at [] →
-    next ≡ slice_index_or ws (at + 1) [] → first_bad (at + 1) (drop at ws) ≡ goal → from_word (at + 1) w next (drop (at + 1) ws) ≡ goal
-word_step ws at w next goal lt is other e =
-    (λ i. from_word (at + 1) ((is ∙ index_is ws at) i) ((other ∙ front_is ws (at + 1)) i) (drop (at + 1) ws))
-    ∙ (sym (ap (first_bad (at + 1)) (drop_more ws at [] lt)) ∙ e)
+word_step : (command : List ℕ) (ws : List (List ℕ)) (at : ℕ) (w next : List ℕ) (goal : Option ℕ) → at < length ws → w ≡ slice_index_or ws at [] →
+    next ≡ slice_index_or ws (at + 1) [] → first_bad command (at + 1) (drop at ws) ≡ goal → from_word command (at + 1) w next (drop (at + 1) ws) ≡ goal
+word_step command ws at w next goal lt is other e =
+    (λ i. from_word command (at + 1) ((is ∙ index_is ws at) i) ((other ∙ front_is ws (at + 1)) i) (drop (at + 1) ws))
+    ∙ (sym (ap (first_bad command (at + 1)) (drop_more ws at [] lt)) ∙ e)
 
-pub bad_stop : (ws : List (List ℕ)) (at : ℕ) (w next : List ℕ) (goal : Option ℕ) → at < length ws → w ≡ slice_index_or ws at [] →
-    next ≡ slice_index_or ws (at + 1) [] → first_bad (at + 1) (drop at ws) ≡ goal → bytes_eq w (codes "--") ≡ true → None ≡ goal
-bad_stop ws at w next goal lt is other e stops =
-    subst (λ (b : Bool). (if b then None else (if is_bad w next then Some (at + 1) else first_bad (at + 1 + 1) (drop (at + 1) ws))) ≡ goal) stops
-    (word_step ws at w next goal lt is other e)
+pub bad_stop : (command : List ℕ) (ws : List (List ℕ)) (at : ℕ) (w next : List ℕ) (goal : Option ℕ) → at < length ws → w ≡ slice_index_or ws at [] →
+    next ≡ slice_index_or ws (at + 1) [] → first_bad command (at + 1) (drop at ws) ≡ goal → bytes_eq w (codes "--") ≡ true → None ≡ goal
+bad_stop command ws at w next goal lt is other e stops =
+    subst (λ (b : Bool). (if b then None else (if is_bad command w next then Some (at + 1) else first_bad command (at + 1 + 1) (drop (at + 1) ws))) ≡ goal) stops
+    (word_step command ws at w next goal lt is other e)
 
-goes_on : (ws : List (List ℕ)) (at : ℕ) (w next : List ℕ) (goal : Option ℕ) → at < length ws → w ≡ slice_index_or ws at [] →
-    next ≡ slice_index_or ws (at + 1) [] → first_bad (at + 1) (drop at ws) ≡ goal → bytes_eq w (codes "--") ≡ false →
-    (if is_bad w next then Some (at + 1) else first_bad (at + 1 + 1) (drop (at + 1) ws)) ≡ goal
-goes_on ws at w next goal lt is other e goes =
-    subst (λ (b : Bool). (if b then None else (if is_bad w next then Some (at + 1) else first_bad (at + 1 + 1) (drop (at + 1) ws))) ≡ goal) goes
-    (word_step ws at w next goal lt is other e)
+goes_on : (command : List ℕ) (ws : List (List ℕ)) (at : ℕ) (w next : List ℕ) (goal : Option ℕ) → at < length ws → w ≡ slice_index_or ws at [] →
+    next ≡ slice_index_or ws (at + 1) [] → first_bad command (at + 1) (drop at ws) ≡ goal → bytes_eq w (codes "--") ≡ false →
+    (if is_bad command w next then Some (at + 1) else first_bad command (at + 1 + 1) (drop (at + 1) ws)) ≡ goal
+goes_on command ws at w next goal lt is other e goes =
+    subst (λ (b : Bool). (if b then None else (if is_bad command w next then Some (at + 1) else first_bad command (at + 1 + 1) (drop (at + 1) ws))) ≡ goal) goes
+    (word_step command ws at w next goal lt is other e)
 
-pub bad_found : (ws : List (List ℕ)) (at : ℕ) (w next : List ℕ) (goal : Option ℕ) → at < length ws → w ≡ slice_index_or ws at [] →
-    next ≡ slice_index_or ws (at + 1) [] → first_bad (at + 1) (drop at ws) ≡ goal → bytes_eq w (codes "--") ≡ false → is_bad w next ≡ true →
+pub bad_found : (command : List ℕ) (ws : List (List ℕ)) (at : ℕ) (w next : List ℕ) (goal : Option ℕ) → at < length ws → w ≡ slice_index_or ws at [] →
+    next ≡ slice_index_or ws (at + 1) [] → first_bad command (at + 1) (drop at ws) ≡ goal → bytes_eq w (codes "--") ≡ false → is_bad command w next ≡ true →
     Some (at + 1) ≡ goal
-bad_found ws at w next goal lt is other e goes bad =
-    subst (λ (b : Bool). (if b then Some (at + 1) else first_bad (at + 1 + 1) (drop (at + 1) ws)) ≡ goal) bad (goes_on ws at w next goal lt is other e goes)
+bad_found command ws at w next goal lt is other e goes bad =
+    subst (λ (b : Bool). (if b then Some (at + 1) else first_bad command (at + 1 + 1) (drop (at + 1) ws)) ≡ goal) bad (goes_on command ws at w next goal lt is other e goes)
 
-pub bad_next : (ws : List (List ℕ)) (at : ℕ) (w next : List ℕ) (goal : Option ℕ) → at < length ws → w ≡ slice_index_or ws at [] →
-    next ≡ slice_index_or ws (at + 1) [] → first_bad (at + 1) (drop at ws) ≡ goal → bytes_eq w (codes "--") ≡ false → is_bad w next ≡ false →
-    first_bad (at + 1 + 1) (drop (at + 1) ws) ≡ goal
-bad_next ws at w next goal lt is other e goes right =
-    subst (λ (b : Bool). (if b then Some (at + 1) else first_bad (at + 1 + 1) (drop (at + 1) ws)) ≡ goal) right (goes_on ws at w next goal lt is other e goes)
+pub bad_next : (command : List ℕ) (ws : List (List ℕ)) (at : ℕ) (w next : List ℕ) (goal : Option ℕ) → at < length ws → w ≡ slice_index_or ws at [] →
+    next ≡ slice_index_or ws (at + 1) [] → first_bad command (at + 1) (drop at ws) ≡ goal → bytes_eq w (codes "--") ≡ false → is_bad command w next ≡ false →
+    first_bad command (at + 1 + 1) (drop (at + 1) ws) ≡ goal
+bad_next command ws at w next goal lt is other e goes right =
+    subst (λ (b : Bool). (if b then Some (at + 1) else first_bad command (at + 1 + 1) (drop (at + 1) ws)) ≡ goal) right (goes_on command ws at w next goal lt is other e goes)
 
-pub bad_none : (ws : List (List ℕ)) (at : ℕ) (goal : Option ℕ) → length ws ≤ at → first_bad (at + 1) (drop at ws) ≡ goal → None ≡ goal
-bad_none ws at goal le e = sym (ap (first_bad (at + 1)) (drop_all at ws le)) ∙ e
+pub bad_none : (command : List ℕ) (ws : List (List ℕ)) (at : ℕ) (goal : Option ℕ) → length ws ≤ at → first_bad command (at + 1) (drop at ws) ≡ goal → None ≡ goal
+bad_none command ws at goal le e = sym (ap (first_bad command (at + 1)) (drop_all at ws le)) ∙ e
 
 -- ---- an option that is missing
 
@@ -90,14 +119,14 @@ gives_by option words b e = e ∙ each words
 abbrev Said : Type 0
 Said = Result (Vec ℕ Global) NoMemory
 
-pub number_found : (words : List (List ℕ)) (number : ℕ) (found : Option ℕ) (r : Said) → Some number ≡ found → IfOk r (λ n. n.items ≡ bad_text words number) →
-    IfOk r (λ n. n.items ≡ number_text words found)
-number_found words number found r e says = subst (λ (o : Option ℕ). IfOk r (λ n. n.items ≡ number_text words o)) e says
+pub number_found : (command : List ℕ) (words : List (List ℕ)) (number : ℕ) (found : Option ℕ) (r : Said) → Some number ≡ found →
+    IfOk r (λ n. n.items ≡ bad_text command words number) → IfOk r (λ n. n.items ≡ number_text command words found)
+number_found command words number found r e says = subst (λ (o : Option ℕ). IfOk r (λ n. n.items ≡ number_text command words o)) e says
 
-pub number_none : (words : List (List ℕ)) (found : Option ℕ) (r : Said) → None ≡ found → IfOk r (λ n. n.items ≡ stand_sentence) →
-    IfOk r (λ n. n.items ≡ number_text words found)
-number_none words found r e says = subst (λ (o : Option ℕ). IfOk r (λ n. n.items ≡ number_text words o)) e says
+pub number_none : (command : List ℕ) (words : List (List ℕ)) (found : Option ℕ) (r : Said) → None ≡ found →
+    IfOk r (λ n. n.items ≡ stand_of command words) → IfOk r (λ n. n.items ≡ number_text command words found)
+number_none command words found r e says = subst (λ (o : Option ℕ). IfOk r (λ n. n.items ≡ number_text command words o)) e says
 
-pub reason_by : (words : List (List ℕ)) (one other : Option (List ℕ)) (r : Said) → one ≡ other → IfOk r (λ n. n.items ≡ reason_text words one) →
-    IfOk r (λ n. n.items ≡ reason_text words other)
-reason_by words one other r e says = subst (λ (o : Option (List ℕ)). IfOk r (λ n. n.items ≡ reason_text words o)) e says
+pub reason_by : (command : List ℕ) (words : List (List ℕ)) (one other : Option (List ℕ)) (r : Said) → one ≡ other →
+    IfOk r (λ n. n.items ≡ reason_text command words one) → IfOk r (λ n. n.items ≡ reason_text command words other)
+reason_by command words one other r e says = subst (λ (o : Option (List ℕ)). IfOk r (λ n. n.items ≡ reason_text command words o)) e says

@@ -9,7 +9,12 @@ use Rattle.bs_bits.specs.Lines.{number_in}
 use Rattle.bs_net_names.specs.Splits.{Halves, first_split}
 use Rattle.bs_note_files.specs.Notes.{pair_text, plain_text}
 use Rattle.bs_inspect_notes.specs.declared.reason.Bounds.{Bounds}
-use Rattle.bs_inspect_notes.specs.declared.reason.TheConstants.{MOST_BITS, LAST_CYCLE, LAST_STEP, LONGEST, MOST_SHOWN, LAST_TIME}
+use Rattle.bs_inspect_notes.specs.declared.reason.TheConstants.{LAST_TIME}
+use Rattle.bs_inspect_words.specs.declared.causes.TheConstants.{MAX_DEPTH}
+use Rattle.bs_inspect_words.specs.declared.novel.TheConstants.{MAX_LINES}
+use Rattle.bs_inspect_words.specs.declared.paged.TheConstants.{MAX_DRAWN}
+use Rattle.bs_stim.specs.declared.limits.TheConstants.{MAX_CYCLES}
+use Rattle.bs_top_words.specs.declared.limits.TheConstants.{MAX_BITS, MAX_BOUND, MAX_STEPS}
 use Rattle.bs_inspect_notes.specs.Listings.{some_near, word_piece}
 
 -- a command, and how its words stand
@@ -29,7 +34,7 @@ usages =
     ∷ stands (codes "trace") (codes "usage: backspace_inspect trace NETLIST REPORT [--all] [--only NAME ..] [--csv]")
     ∷ stands (codes "steps") (codes "usage: backspace_inspect steps REPORT [--csv]")
     ∷ stands (codes "wave") (codes "usage: backspace_inspect wave NETLIST REPORT [--all] [--from CYCLE] [--only NAME ..]")
-    ∷ stands (codes "page") (codes "usage: backspace_inspect page NETLIST REPORT [--only NAME ..] [--most N]")
+    ∷ stands (codes "page") (codes "usage: backspace_inspect page NETLIST REPORT [--signature FILE] [--only NAME ..] [--most N]")
     ∷ stands (codes "stimulus") (codes "usage: backspace_inspect stimulus NETLIST VCD .. --clock NAME [--scope PATH] [--map FILE]")
     ∷ stands (codes "dump")
     (codes "usage: backspace_inspect dump NETLIST VCD --cycle N|--time T [--clock NAME] [--scope PATH] [--map FILE] [--signature FILE]")
@@ -98,18 +103,50 @@ word_text number word name what known =
 abbrev pub between : ℕ → ℕ → Bounds
 between least most = record { least = least; most = most }
 
--- the bounds of the number behind an option, where it takes one
-abbrev pub bounds_of : List ℕ → Option Bounds
-bounds_of name =
-    if bytes_eq name (codes "--bits") then Some (between 1 MOST_BITS)
-    else (if bytes_eq name (codes "--cycle") || bytes_eq name (codes "--from") then Some (between 0 LAST_CYCLE)
-    else (if bytes_eq name (codes "--step") then Some (between 1 LAST_STEP)
-    else (if bytes_eq name (codes "--most") then Some (between 1 MOST_SHOWN)
-    else (if bytes_eq name (codes "--length") then Some (between 1 LONGEST)
-    else (if bytes_eq name (codes "--time") then Some (between 0 LAST_TIME) else None)))))
+-- a number that an option of a command takes
+pub record Range : Type 0 where
+  pub command : List ℕ
+  pub option : List ℕ
+  pub bounds : Bounds
 
-abbrev pub bounds_or : List ℕ → Bounds
-bounds_or name = unwrap_or (bounds_of name) (between 0 0)
+abbrev pub range : List ℕ → List ℕ → ℕ → ℕ → Range
+range command option least most = record { command = command; option = option; bounds = between least most }
+
+-- the numbers that a request takes (docs/FORMATS.md, "Words of `backspace_inspect`")
+abbrev pub ranges : List Range
+ranges =
+    range (codes "signature") (codes "--bits") 1 MAX_BITS
+    ∷ range (codes "wave") (codes "--from") 0 MAX_CYCLES
+    ∷ range (codes "dump") (codes "--cycle") 0 MAX_CYCLES
+    ∷ range (codes "dump") (codes "--time") 0 LAST_TIME
+    ∷ range (codes "cnf") (codes "--step") 1 MAX_STEPS
+    ∷ range (codes "lrat") (codes "--step") 1 MAX_STEPS
+    ∷ range (codes "page") (codes "--most") 1 MAX_DRAWN
+    ∷ range (codes "novel") (codes "--most") 1 MAX_LINES
+    ∷ range (codes "reach-cnf") (codes "--length") 1 MAX_BOUND
+    ∷ range (codes "reach-lrat") (codes "--length") 1 MAX_BOUND
+    ∷ range (codes "why") (codes "--at") 0 MAX_CYCLES
+    ∷ range (codes "why") (codes "--depth") 1 MAX_DEPTH
+    ∷ []
+
+-- the bounds that the first of these ranges of an option of a command has
+abbrev pub bounds_among : (command name : List ℕ) → List Range → Option Bounds
+bounds_among command name [] = None
+bounds_among command name (r ∷ rs) =
+    if bytes_eq command r.command && bytes_eq name r.option then Some r.bounds else bounds_among command name rs
+
+-- the same of a table of the code
+abbrev pub bounds_in : (command name : List ℕ) → List ((Bor (List ℕ) × Bor (List ℕ)) × Bounds) → Option Bounds
+bounds_in command name [] = None
+bounds_in command name (e ∷ es) =
+    if bytes_eq command e.0.0.now && bytes_eq name e.0.1.now then Some e.1 else bounds_in command name es
+
+-- the bounds of the number behind an option of a command, where it takes one
+abbrev pub bounds_of : (command name : List ℕ) → Option Bounds
+bounds_of command name = bounds_among command name ranges
+
+abbrev pub bounds_or : (command name : List ℕ) → Bounds
+bounds_or command name = unwrap_or (bounds_of command name) (between 0 0)
 
 abbrev pub behind_sign : List ℕ → Option Halves → List ℕ
 behind_sign next None = next
@@ -127,15 +164,16 @@ abbrev pub is_outside : Option Bounds → List ℕ → Bool
 is_outside None value = false
 is_outside (Some b) value = not (is_between b (number_in value))
 
--- a word that gives an option another value than a number in its bounds
-abbrev pub is_bad : (word next : List ℕ) → Bool
-is_bad word next = is_outside (bounds_of (option_name word)) (value_of word next)
+-- a word behind a command that gives an option another value than a number in its bounds
+abbrev pub is_bad : (command word next : List ℕ) → Bool
+is_bad command word next = is_outside (bounds_of command (option_name word)) (value_of word next)
 
 -- the number of the first such word of these, the first of which has this number; behind `--` there is none
-abbrev pub first_bad : ℕ → List (List ℕ) → Option ℕ
-first_bad number [] = None
-first_bad number (w ∷ ws) =
-    if bytes_eq w (codes "--") then None else (if is_bad w (slice_index_or ws 0 []) then Some number else first_bad (number + 1) ws)
+abbrev pub first_bad : List ℕ → ℕ → List (List ℕ) → Option ℕ
+first_bad command number [] = None
+first_bad command number (w ∷ ws) =
+    if bytes_eq w (codes "--") then None
+    else (if is_bad command w (slice_index_or ws 0 []) then Some number else first_bad command (number + 1) ws)
 
 -- what is wanted in place of a number out of its bounds
 unfoldable pub bounds_piece : Bounds → List ℕ
@@ -145,8 +183,9 @@ bounds_piece b = codes ", wants a number in digits from " ++ (decimal b.least ++
 unfoldable pub bound_text : ℕ → List ℕ → Bounds → List ℕ
 bound_text number word b = word_piece number word ++ bounds_piece b
 
-abbrev pub bad_text : List (List ℕ) → ℕ → List ℕ
-bad_text words number = bound_text number (slice_index_or words (number - 1) []) (bounds_or (option_name (slice_index_or words (number - 1) [])))
+abbrev pub bad_text : List ℕ → List (List ℕ) → ℕ → List ℕ
+bad_text command words number =
+    bound_text number (slice_index_or words (number - 1) []) (bounds_or command (option_name (slice_index_or words (number - 1) [])))
 
 -- ---- options that are missing
 
@@ -170,21 +209,38 @@ lack_of command words =
 
 -- ---- the reason
 
+-- a command that takes its option behind its files alone
+abbrev pub is_trailing : List ℕ → Bool
+is_trailing command = bytes_eq command (codes "reach-cnf") || bytes_eq command (codes "reach-lrat")
+
+-- it is given before the files, or with its number in one word
+abbrev pub is_misplaced : List ℕ → List (List ℕ) → Bool
+is_misplaced command words =
+    is_trailing command && (gives (codes "--length") words && not (bytes_eq (slice_index_or words 4 []) (codes "--length")))
+
 abbrev pub stand_sentence : List ℕ
 stand_sentence =
     codes "the words do not stand as this command takes them: its files in this order, and each option that it takes as often as it may stand; --only takes every word up to the next option"
 
-abbrev pub number_text : List (List ℕ) → Option ℕ → List ℕ
-number_text words None = stand_sentence
-number_text words (Some number) = bad_text words number
+abbrev pub stand_of : List ℕ → List (List ℕ) → List ℕ
+stand_of command words =
+    if is_misplaced command words then codes "`--length J` stands behind the files, and J is a word of its own" else stand_sentence
 
-abbrev pub reason_text : List (List ℕ) → Option (List ℕ) → List ℕ
-reason_text words None = number_text words (first_bad 2 (drop 1 words))
-reason_text words (Some sentence) = sentence
+abbrev pub number_text : List ℕ → List (List ℕ) → Option ℕ → List ℕ
+number_text command words None = stand_of command words
+number_text command words (Some number) = bad_text command words number
 
--- why the words of a command, which is the first, do not stand as it takes them
+abbrev pub reason_text : List ℕ → List (List ℕ) → Option (List ℕ) → List ℕ
+reason_text command words None = number_text command words (first_bad command 2 (drop 1 words))
+reason_text command words (Some sentence) = sentence
+
+-- why the words of a command do not stand as it takes them
+abbrev pub reason_for : List ℕ → List (List ℕ) → List ℕ
+reason_for command words = reason_text command words (lack_of command words)
+
+-- the same of the command that is the first word
 abbrev pub reason_of : List (List ℕ) → List ℕ
-reason_of words = reason_text words (lack_of (slice_index_or words 0 []) words)
+reason_of words = reason_for (slice_index_or words 0 []) words
 
 -- ---- the note on words
 

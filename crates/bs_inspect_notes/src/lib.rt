@@ -2,10 +2,10 @@
 //!
 //! Modules: `nearest` (the names that are nearest to one), `listing` (names in a note), `simulation`
 //! (on a VCD), `name` (on names and places that do not fit), `usage` (how words stand, and wrong
-//! words), `reason` (an option that is missing, a number out of its bounds). Used above: the text of each note, exactly (`specs/Simulations`, `specs/Names`,
-//! `specs/Usages`). A path before a name counts as none apart, so a forgotten scope is found
-//! (`specs/Nearest`). A sentence: its text in specs and its function; a command: a line of `usages`
-//! and of `USAGES`, and each option in `options` and `OPTIONS`.
+//! words), `reason` (an option that is missing, a number out of its bounds). Used above: the text of each note, exactly
+//! (`specs/Simulations`, `specs/Names`, `specs/Usages`). A path before a name counts as none apart, so a forgotten scope is found
+//! (`specs/Nearest`). A sentence: its text in specs and its function; a command: a line of `usages` and of `USAGES`, each option in
+//! `options` and `OPTIONS`, and each number in `ranges` and `RANGES`.
 #![tactic(auto)]
 
 mod listing;

@@ -1,14 +1,17 @@
 //! Why the words behind a command do not stand as it takes them: an option is missing, or a number is none or out of its bounds.
-ghost use Rattle.std.specs.Prelude.{◌≡◌, ◌<◌, ◌≤◌, ◌++◌, [], drop, length, map, option_map, slice_index_or, string_bytes, IfOk, IfSome, OnOk};
+ghost use Rattle.std.specs.Prelude.{◌≡◌, ◌<◌, ◌≤◌, ◌++◌, ◌&&◌, [], drop, length, map, option_map, slice_index_or, string_bytes, IfOk, IfSome, OnOk};
 ghost use Rattle.std.specs.List.{list_any};
 ghost use Rattle.std.specs.Str.{bytes_eq};
 ghost use Rattle.bs_bits.specs.Lines.{number_in};
-ghost use Rattle.bs_inspect_notes.specs.Usages.{bad_text, bound_text, bounds_of, bounds_or, bounds_piece, first_bad, gives, is_bad, is_between, lack_if, lack_of, number_text, option_name, reason_of, value_of};
+ghost use Rattle.bs_inspect_notes.specs.Usages.{bad_text, bound_text, bounds_in, bounds_of, bounds_or, first_bad, gives, is_bad, is_between, lack_if, lack_of, number_text, option_name, reason_for, reason_of, stand_of, value_of};
 
 use crate::listing::push_word;
 use crate::usage::option_name;
 use bs_bits::{NoMemory, push_number, push_piece, read_number};
+use bs_inspect_words::{MAX_DEPTH, MAX_DRAWN, MAX_LINES};
 use bs_net_names::first_split;
+use bs_stim::MAX_CYCLES;
+use bs_top_words::{MAX_BITS, MAX_BOUND, MAX_STEPS};
 use bs_vcd_header::is_text;
 use std::alloc::Global;
 
@@ -19,23 +22,96 @@ pub struct Bounds {
     pub most: u64,
 }
 
-/// The most bits of a signature.
-pub const MOST_BITS: u64 = 256;
-
-/// The last cycle of the longest run.
-pub const LAST_CYCLE: u64 = 65_536;
-
-/// The last step of the longest report.
-pub const LAST_STEP: u64 = 65_536;
-
-/// The most that an answer shows of what there is.
-pub const MOST_SHOWN: u64 = 65_536;
-
-/// The most cycles of an answer of `reach`.
-pub const LONGEST: u64 = 1_024;
-
 /// The last time of a simulation.
 pub const LAST_TIME: u64 = 18_446_744_073_709_551_615;
+
+/// The numbers that options of commands take.
+const RANGES: [((&str, &str), Bounds); 12] = [
+    (
+        ("signature", "--bits"),
+        Bounds {
+            least: 1,
+            most: MAX_BITS,
+        },
+    ),
+    (
+        ("wave", "--from"),
+        Bounds {
+            least: 0,
+            most: MAX_CYCLES as u64,
+        },
+    ),
+    (
+        ("dump", "--cycle"),
+        Bounds {
+            least: 0,
+            most: MAX_CYCLES as u64,
+        },
+    ),
+    (
+        ("dump", "--time"),
+        Bounds {
+            least: 0,
+            most: LAST_TIME,
+        },
+    ),
+    (
+        ("cnf", "--step"),
+        Bounds {
+            least: 1,
+            most: MAX_STEPS,
+        },
+    ),
+    (
+        ("lrat", "--step"),
+        Bounds {
+            least: 1,
+            most: MAX_STEPS,
+        },
+    ),
+    (
+        ("page", "--most"),
+        Bounds {
+            least: 1,
+            most: MAX_DRAWN,
+        },
+    ),
+    (
+        ("novel", "--most"),
+        Bounds {
+            least: 1,
+            most: MAX_LINES,
+        },
+    ),
+    (
+        ("reach-cnf", "--length"),
+        Bounds {
+            least: 1,
+            most: MAX_BOUND,
+        },
+    ),
+    (
+        ("reach-lrat", "--length"),
+        Bounds {
+            least: 1,
+            most: MAX_BOUND,
+        },
+    ),
+    (
+        ("why", "--at"),
+        Bounds {
+            least: 0,
+            most: MAX_CYCLES as u64,
+        },
+    ),
+    (
+        ("why", "--depth"),
+        Bounds {
+            least: 1,
+            most: MAX_DEPTH,
+        },
+    ),
+];
 
 /// The word at a place, and an empty one behind the last.
 #[tactic(auto, using(crate::proofs::ReasonLemmas::word_there, crate::proofs::ReasonLemmas::word_past))]
@@ -51,54 +127,38 @@ pub fn word_or(words: &[String], at: usize) -> &[u8]
 
 // ---- a number
 
-/// The bounds of the number behind an option, where it takes one.
-fn bounds_of(name: &[u8]) -> Option<Bounds>
-    ensures { result ≡ bounds_of name.now }
+/// Whether these are a command and an option of it.
+fn are_named(command: &[u8], name: &[u8], names: (&str, &str)) -> bool
+    ensures { result ≡ (bytes_eq command.now names.entry.0.now && bytes_eq name.now names.entry.1.now) }
 {
-    if is_text(name, b"--bits") {
-        return Some(Bounds {
-            least: 1,
-            most: MOST_BITS,
-        });
-    }
-    if is_text(name, b"--cycle") || is_text(name, b"--from") {
-        return Some(Bounds {
-            least: 0,
-            most: LAST_CYCLE,
-        });
-    }
-    if is_text(name, b"--step") {
-        return Some(Bounds {
-            least: 1,
-            most: LAST_STEP,
-        });
-    }
-    if is_text(name, b"--most") {
-        return Some(Bounds {
-            least: 1,
-            most: MOST_SHOWN,
-        });
-    }
-    if is_text(name, b"--length") {
-        return Some(Bounds {
-            least: 1,
-            most: LONGEST,
-        });
-    }
-    if is_text(name, b"--time") {
-        return Some(Bounds {
-            least: 0,
-            most: LAST_TIME,
-        });
+    is_text(command, names.0.as_bytes()) && is_text(name, names.1.as_bytes())
+}
+
+/// The bounds in a table of the number behind an option of a command, where it takes one.
+#[tactic(auto, using(crate::proofs::ReasonLemmas::entry_found, crate::proofs::ReasonLemmas::entry_next, crate::proofs::ReasonLemmas::entry_none))]
+fn bounds_in(command: &[u8], name: &[u8], table: &[((&str, &str), Bounds)]) -> Option<Bounds>
+    ensures { result ≡ bounds_in command.now name.now table.now }
+{
+    'entries: for entry in table {
+        if are_named(command, name, entry.0) {
+            return Some(entry.1);
+        }
     }
     None
 }
 
-/// The bounds of the number behind an option, or none at all.
-fn bounds_or(name: &[u8]) -> Bounds
-    ensures { result ≡ bounds_or name.now }
+/// The bounds of the number behind an option of a command, where it takes one.
+fn bounds_of(command: &[u8], name: &[u8]) -> Option<Bounds>
+    ensures { result ≡ bounds_of command.now name.now }
 {
-    match bounds_of(name) {
+    bounds_in(command, name, &RANGES)
+}
+
+/// The bounds of the number behind an option of a command, or none at all.
+fn bounds_or(command: &[u8], name: &[u8]) -> Bounds
+    ensures { result ≡ bounds_or command.now name.now }
+{
+    match bounds_of(command, name) {
         Some(bounds) => bounds,
         None => Bounds { least: 0, most: 0 },
     }
@@ -124,20 +184,20 @@ fn is_between(bounds: Bounds, number: Option<u64>) -> bool
     }
 }
 
-/// Whether a word gives an option another value than a number in its bounds.
-fn is_bad(word: &[u8], next: &[u8]) -> bool
-    ensures { result ≡ is_bad word.now next.now }
+/// Whether a word behind a command gives an option another value than a number in its bounds.
+fn is_bad(command: &[u8], word: &[u8], next: &[u8]) -> bool
+    ensures { result ≡ is_bad command.now word.now next.now }
 {
-    match bounds_of(option_name(word)) {
+    match bounds_of(command, option_name(word)) {
         Some(bounds) => !is_between(bounds, read_number(value_of(word, next))),
         None => false,
     }
 }
 
-/// The number, from 1, of the first word behind the command that gives an option another value than a number in its bounds.
+/// The number, from 1, of the first word behind a command that gives an option another value than a number in its bounds.
 #[tactic(auto, using(crate::proofs::ReasonLemmas::bad_stop, crate::proofs::ReasonLemmas::bad_found, crate::proofs::ReasonLemmas::bad_next, crate::proofs::ReasonLemmas::bad_none))]
-fn first_bad(words: &[String]) -> Option<usize>
-    ensures is { result ≡ first_bad 2 (drop 1 (map string_bytes words.now)) }
+fn first_bad(command: &[u8], words: &[String]) -> Option<usize>
+    ensures is { result ≡ first_bad command.now 2 (drop 1 (map string_bytes words.now)) }
     ensures there { IfSome result (λ number. (0 < number) × (number ≤ length words.now)) }
 {
     'words: for at in 1..words.len() {
@@ -146,18 +206,19 @@ fn first_bad(words: &[String]) -> Option<usize>
         if word == b"--".as_slice() {
             return None;
         }
-        if is_bad(word, next) {
+        if is_bad(command, word, next) {
             return Some(at + 1);
         }
     }
     None
 }
 
-/// Appends what is wanted in place of a number out of its bounds.
-#[tactic(auto, unfolding(crate::specs::Usages::bounds_piece))]
-fn push_bounds(said: &mut Vec<u8>, bounds: Bounds) -> Result<(), NoMemory>
-    ensures { OnOk result (said.new.items ≡ said.old.items ++ bounds_piece bounds) }
+/// Appends what is said of a word with its number, whose option takes a number in these bounds.
+#[tactic(auto, unfolding(crate::specs::Usages::bound_text, crate::specs::Usages::bounds_piece))]
+fn push_bound(said: &mut Vec<u8>, number: u64, word: &[u8], bounds: Bounds) -> Result<(), NoMemory>
+    ensures { OnOk result (said.new.items ≡ said.old.items ++ bound_text number word.now bounds) }
 {
+    push_word(said, number, word)?;
     push_piece(said, b", wants a number in digits from ")?;
     push_number(said, bounds.least)?;
     push_piece(said, b" to ")?;
@@ -165,7 +226,6 @@ fn push_bounds(said: &mut Vec<u8>, bounds: Bounds) -> Result<(), NoMemory>
 }
 
 /// What is said of a word with its number, whose option takes a number in these bounds.
-#[tactic(auto, unfolding(crate::specs::Usages::bound_text))]
 fn bound_sentence(
     alloc: Global,
     number: u64,
@@ -175,18 +235,22 @@ fn bound_sentence(
     ensures { IfOk result (λ said. said.items ≡ bound_text number word.now bounds) }
 {
     let mut said = Vec::new(alloc);
-    push_word(&mut said, number, word)?;
-    push_bounds(&mut said, bounds)?;
+    push_bound(&mut said, number, word, bounds)?;
     Ok(said)
 }
 
 /// What is said of the word with a number, from 1, whose option takes another value.
-fn bad_sentence(alloc: Global, words: &[String], number: usize) -> Result<Vec<u8>, NoMemory>
+fn bad_sentence(
+    alloc: Global,
+    command: &[u8],
+    words: &[String],
+    number: usize,
+) -> Result<Vec<u8>, NoMemory>
     requires { 0 < number }
-    ensures { IfOk result (λ said. said.items ≡ bad_text (map string_bytes words.now) number) }
+    ensures { IfOk result (λ said. said.items ≡ bad_text command.now (map string_bytes words.now) number) }
 {
     let word = word_or(words, number - 1);
-    let bounds = bounds_or(option_name(word));
+    let bounds = bounds_or(command, option_name(word));
     let said = bound_sentence(alloc, number as u64, word, bounds)?;
     Ok(said)
 }
@@ -254,16 +318,37 @@ fn copy_of(alloc: Global, text: &str) -> Result<Vec<u8>, NoMemory>
     Ok(said)
 }
 
-/// What is said by the first word whose option takes another value, where there is one.
-fn number_sentence(alloc: Global, words: &[String]) -> Result<Vec<u8>, NoMemory>
-    ensures { IfOk result (λ said. said.items ≡ number_text (map string_bytes words.now) (first_bad 2 (drop 1 (map string_bytes words.now)))) }
+/// What is said where no word is wrong by itself.
+fn stand_sentence(command: &[u8], words: &[String]) -> &'static str
+    ensures { result.now ≡ stand_of command.now (map string_bytes words.now) }
 {
-    match first_bad(words) {
-        Some(number) => bad_sentence(alloc, words, number),
-        None => copy_of(
-            alloc,
-            "the words do not stand as this command takes them: its files in this order, and each option that it takes as often as it may stand; --only takes every word up to the next option",
-        ),
+    let trailing = is_text(command, b"reach-cnf") || is_text(command, b"reach-lrat");
+    let given = gives(words, b"--length");
+    let behind = is_text(word_or(words, 4), b"--length");
+    if trailing && (given && !behind) {
+        "`--length J` stands behind the files, and J is a word of its own"
+    } else {
+        "the words do not stand as this command takes them: its files in this order, and each option that it takes as often as it may stand; --only takes every word up to the next option"
+    }
+}
+
+/// What is said by the first word whose option takes another value, where there is one.
+fn number_sentence(alloc: Global, command: &[u8], words: &[String]) -> Result<Vec<u8>, NoMemory>
+    ensures { IfOk result (λ said. said.items ≡ number_text command.now (map string_bytes words.now) (first_bad command.now 2 (drop 1 (map string_bytes words.now)))) }
+{
+    match first_bad(command, words) {
+        Some(number) => bad_sentence(alloc, command, words, number),
+        None => copy_of(alloc, stand_sentence(command, words)),
+    }
+}
+
+/// Why the words of a command do not stand as it takes them.
+fn reason_for(alloc: Global, command: &[u8], words: &[String]) -> Result<Vec<u8>, NoMemory>
+    ensures { IfOk result (λ said. said.items ≡ reason_for command.now (map string_bytes words.now)) }
+{
+    match lack_of(command, words) {
+        Some(sentence) => copy_of(alloc, sentence),
+        None => number_sentence(alloc, command, words),
     }
 }
 
@@ -271,8 +356,7 @@ fn number_sentence(alloc: Global, words: &[String]) -> Result<Vec<u8>, NoMemory>
 pub fn reason_sentence(alloc: Global, words: &[String]) -> Result<Vec<u8>, NoMemory>
     ensures { IfOk result (λ said. said.items ≡ reason_of (map string_bytes words.now)) }
 {
-    match lack_of(word_or(words, 0), words) {
-        Some(sentence) => copy_of(alloc, sentence),
-        None => number_sentence(alloc, words),
-    }
+    let command = word_or(words, 0);
+    let said = reason_for(alloc, command, words)?;
+    Ok(said)
 }

@@ -31,7 +31,7 @@ const USAGES: [(&str, &str); 20] = [
     ),
     (
         "page",
-        "usage: backspace_inspect page NETLIST REPORT [--only NAME ..] [--most N]",
+        "usage: backspace_inspect page NETLIST REPORT [--signature FILE] [--only NAME ..] [--most N]",
     ),
     (
         "stimulus",
@@ -122,20 +122,6 @@ const COMMANDS: [&[u8]; 20] = [
     b"version",
 ];
 
-/// The commands, as names.
-fn command_names() -> &'static [&'static [u8]]
-    ensures { map (λ n. n.now) result.now ≡ commands }
-{
-    &COMMANDS
-}
-
-/// The options of all commands, as names.
-fn option_names() -> &'static [&'static [u8]]
-    ensures { map (λ n. n.now) result.now ≡ options }
-{
-    &OPTIONS
-}
-
 // ---- how words stand
 
 /// Appends the line of each command of a table.
@@ -167,13 +153,6 @@ fn line_in<'a>(name: &[u8], table: &[(&str, &'a str)]) -> Option<&'a str>
     None
 }
 
-/// How the words of a command stand.
-fn usage_of(name: &[u8]) -> Option<&'static str>
-    ensures { option_map (λ s. s.now) result ≡ line_among name.now usages }
-{
-    line_in(name, &USAGES)
-}
-
 // ---- wrong words
 
 /// The name of the option that a word gives.
@@ -193,20 +172,13 @@ pub fn is_one_of(name: &[u8], names: &[&[u8]]) -> bool
     names.iter().any(|other| *other == name)
 }
 
-/// Whether a name is that of an option.
-fn is_option(name: &[u8]) -> bool
-    ensures { result ≡ list_any (λ o. bytes_eq o name.now) options }
-{
-    is_one_of(name, &OPTIONS)
-}
-
 /// Whether a word begins as an option and is none.
 fn is_wrong(word: &[u8]) -> bool
     ensures { result ≡ is_wrong word.now }
 {
     let dashed = word.starts_with(b"-".as_slice());
     let named = 1 < word.len();
-    let known = is_option(option_name(word));
+    let known = is_one_of(option_name(word), &OPTIONS);
     (dashed && named) && !known
 }
 
@@ -258,7 +230,7 @@ fn option_note(alloc: Global, number: usize, word: &[u8], line: &str) -> Result<
         word,
         option_name(word),
         "option",
-        option_names(),
+        &OPTIONS,
     )?;
     pair_note(alloc, &said, line.as_bytes())
 }
@@ -286,7 +258,7 @@ fn behind_note(alloc: Global, words: &[String], line: &str) -> Result<Vec<u8>, N
 fn unknown_note(alloc: Global, command: &[u8]) -> Result<Vec<u8>, NoMemory>
     ensures { IfOk result (λ note. note.items ≡ plain_text (word_text 1 command.now command.now (codes "command") commands) ++ plain_text hint) }
 {
-    let said = word_sentence(alloc, 1, command, command, "command", command_names())?;
+    let said = word_sentence(alloc, 1, command, command, "command", &COMMANDS)?;
     pair_note(
         alloc,
         &said,
@@ -295,11 +267,10 @@ fn unknown_note(alloc: Global, command: &[u8]) -> Result<Vec<u8>, NoMemory>
 }
 
 /// A note on words that begin with this one.
-#[tactic(auto, using(crate::proofs::WordLemmas::known_command, crate::proofs::WordLemmas::no_command))]
 fn command_note(alloc: Global, command: &[u8], words: &[String]) -> Result<Vec<u8>, NoMemory>
     ensures { IfOk result (λ note. note.items ≡ command_text command.now (map string_bytes words.now) (line_among command.now usages)) }
 {
-    match usage_of(command) {
+    match line_in(command, &USAGES) {
         Some(line) => behind_note(alloc, words, line),
         None => unknown_note(alloc, command),
     }

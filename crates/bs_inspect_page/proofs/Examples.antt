@@ -1,4 +1,4 @@
--- An execution of two cycles, and the last lists of reports that stopped with `nohit`, `empty` and `candidates`.
+-- An execution of two cycles, the last lists of reports that stopped with `nohit`, `empty` and `candidates`, and what a signature reads.
 use Rattle.std.proofs.Common.{◌≡◌, ℕ, Bool, true, false, List, [], ◌∷◌, ◌++◌, length, map, Option, Some, None, refl}
 use Rattle.std.specs.Prelude.{codes}
 use Rattle.std.specs.Fmt.{digits}
@@ -14,11 +14,9 @@ use Rattle.bs_report.specs.declared.report.Stop.{Stop as StopCause}
 use Rattle.bs_report.specs.declared.report.Stop.TheVariants as stops
 use Rattle.bs_inspect_cells.specs.Rows.{name_cell, shown_name}
 use Rattle.bs_inspect_page.specs.Columns.{columns_text, count_text}
-use Rattle.bs_inspect_page.specs.Execution.{cycle_column, cycles_title, evidence_words, search_part, search_words}
-use Rattle.bs_inspect_page.specs.Front.{job_part, stop_part, title_text}
+use Rattle.bs_inspect_page.specs.Execution.{cycle_column}
 use Rattle.bs_inspect_page.specs.Last.{cand_cell, cand_column, cand_row, filled_text, list_front, list_text, unmet_list}
-use Rattle.bs_inspect_page.specs.Page.{PageOptions, listed_of}
-use Rattle.bs_inspect_page.specs.Paths.{shown_path}
+use Rattle.bs_inspect_page.specs.Page.{PageOptions, listed_of, trace_front}
 
 -- ---- an execution
 
@@ -33,18 +31,6 @@ two_cycles =
       inputs = (true ∷ []) ∷ (false ∷ []) ∷ [];
       log = [];
     }
-
-found_part :
-    stop_part two_cycles
-    ≡ codes "<h1>Cycles from reset: 2</h1>\n<p>The state that was asked for is <b>reached</b>: the states below are an execution from reset that ends in it, and no shorter one does.</p>\n"
-unfolding digits stop_part title_text cycles_title
-found_part = refl
-
-found_job :
-    job_part two_cycles (codes "a<b.v") (codes "x.txt")
-    ≡ codes "<li>asked for: 100 lemmas a search</li></ul>\n<p class='d'>This page shows what the answer says. The answer is right if the first command writes the same one, with the job's own files. The others write clauses and their refutation, by which other checkers see that no shorter execution ends in the state:</p>\n<pre>backspace reach a&lt;b.v STATE CYCLES --conflicts 100\nbackspace_inspect reach-cnf a&lt;b.v STATE x.txt\nbackspace_inspect reach-lrat a&lt;b.v STATE x.txt\n</pre>\n"
-unfolding digits job_part search_part search_words evidence_words shown_path
-found_job = refl
 
 found_columns :
     columns_text two_cycles
@@ -83,7 +69,7 @@ abbrev bit : List ℕ → ℕ → Signal
 bit name place = record { base = name; high = None; places = place ∷ [] }
 
 abbrev first_hundred : PageOptions
-first_hundred = record { netlist = []; report = []; only = []; most = 100 }
+first_hundred = record { netlist = []; report = []; signature = None; only = []; most = 100 }
 
 -- the candidates differ at the second flip-flop alone
 listed : listed_of first_hundred (step_with two_cands (Finished 9) None) (bit (codes "a") 0 ∷ bit (codes "q") 1 ∷ []) ≡ bit (codes "q") 1 ∷ []
@@ -93,12 +79,12 @@ nohit_list : unmet_list (stopped stops.Nohit (step_with two_cands (Finished 9) N
 nohit_list = refl
 
 nohit_text :
-    list_text (step_with two_cands (Finished 9) None) (bit (codes "q") 1 ∷ [])
+    list_text [] (step_with two_cands (Finished 9) None) (bit (codes "q") 1 ∷ [])
     ≡ codes "<h2 id='l'>The last list</h2>\n<p class='d'>Candidates: 2, not shown: 0. Each is a state that may stand before the first one of the trace. Shown are flip-flops at which candidates differ.</p>\n<div tabindex='0' role='region' aria-labelledby='l'><table class='t n'><thead><tr><th scope='col'>flip-flop</th><th scope='col'>1</th><th scope='col'>2</th></tr></thead><tbody>\n<tr><th scope='row'>q</th><td>0</td><td>1</td></tr>\n</tbody></table></div>\n"
 unfolding digits list_text filled_text list_front count_text cand_column cand_row name_cell shown_name cand_cell
 nohit_text = refl
 
-empty_text : list_text (step_with [] (Finished 9) None) [] ≡ codes "<h2 id='l'>The last list</h2>\n<p class='d'>It has no candidate.</p>\n"
+empty_text : list_text [] (step_with [] (Finished 9) None) [] ≡ codes "<h2 id='l'>The last list</h2>\n<p class='d'>It has no candidate.</p>\n"
 unfolding list_text
 empty_text = refl
 
@@ -112,3 +98,18 @@ cut_front = refl
 -- a list that a recorded run comes into is not shown
 hit_list : unmet_list (stopped stops.Length (step_with two_cands (Finished 9) (Some record { run = 1; cycle = 3; state = true ∷ false ∷ [] }))) ≡ None
 hit_list = refl
+
+-- ---- a signature
+
+-- the flip-flop that the signature reads is marked in the list
+signed_text :
+    list_text (false ∷ true ∷ []) (step_with two_cands (Finished 9) None) (bit (codes "q") 1 ∷ [])
+    ≡ codes "<h2 id='l'>The last list</h2>\n<p class='d'>Candidates: 2, not shown: 0. Each is a state that may stand before the first one of the trace. Shown are flip-flops at which candidates differ.</p>\n<div tabindex='0' role='region' aria-labelledby='l'><table class='t n'><thead><tr><th scope='col'>flip-flop</th><th scope='col'>1</th><th scope='col'>2</th></tr></thead><tbody>\n<tr><th scope='row' class='m'>q <span>signature</span></th><td>0</td><td>1</td></tr>\n</tbody></table></div>\n"
+unfolding digits list_text filled_text list_front count_text cand_column cand_row name_cell shown_name cand_cell
+signed_text = refl
+
+-- without a signature the trace begins as it does here
+plain_front : trace_front two_cycles None
+    ≡ codes "<h2 id='t'>Trace</h2>\n<p class='d'>Cycle 0 is reset, and the last state is the one that was asked for. A vector is a number of base 16.</p>\n<div class='late' tabindex='0' role='region' aria-labelledby='t'><table class='w'>\n<thead><tr><th scope='col'>cycle</th><th scope='col'>0</th><th scope='col'>1</th><th scope='col' class='x'>2</th></tr></thead>\n"
+unfolding digits trace_front columns_text cycle_column
+plain_front = refl

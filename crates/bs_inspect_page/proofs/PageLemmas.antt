@@ -1,5 +1,5 @@
 -- The page, where the bits are open at which other candidates differ.
-use Rattle.std.proofs.Common.{◌≡◌, ℕ, Bool, List, ◌++◌, ap, subst, ◌∙◌}
+use Rattle.std.proofs.Common.{◌≡◌, ℕ, Bool, List, ◌++◌, ap, subst, ◌∙◌, Option}
 use Rattle.std.specs.Prelude.{Vec, Result, IfOk, codes}
 use Rattle.std.specs.declared.alloc.Global.{Global}
 use Rattle.bs_bits.specs.declared.memory.NoMemory.{NoMemory}
@@ -10,30 +10,42 @@ use Rattle.bs_net_names.specs.Signals.{Signal}
 use Rattle.bs_inspect_cells.specs.Rows.{group_text}
 use Rattle.bs_inspect_cells.proofs.PutLemmas.{four_put, three_put}
 use Rattle.bs_inspect_report.specs.Lemmas.{lemmas_logged}
-use Rattle.bs_inspect_page.specs.Front.{front_text}
-use Rattle.bs_inspect_page.specs.Page.{PageOptions, ShowsOpen, ShowsReport, end_text, flops_heading, input_figure, inputs_heading, page_text, state_figure, steps_shown, trace_front, trace_text}
+use Rattle.bs_inspect_front.specs.Front.{front_text}
+use Rattle.bs_inspect_front.specs.Signed.{SignatureFile}
+use Rattle.bs_inspect_cells.specs.Cells.{Figure}
+use Rattle.bs_inspect_front.specs.Reads.{signed_of}
+use Rattle.bs_inspect_page.specs.Page.{PageOptions, ShowsFigure, ShowsReport, end_text, flops_heading, input_figure, inputs_heading, page_text, state_figure, steps_shown, trace_front, trace_text}
 use Rattle.bs_inspect_page.specs.Steps.{steps_front, steps_part, steps_rows}
 
 pub opens_there : (result : Result (Vec ℕ Global) NoMemory) (raw : Parts) (r : Report) (a : PageOptions) (opens : List (List Bool)) →
-    opens ≡ opens_of r → IfOk result (λ text. ShowsOpen raw r a opens text.items) → IfOk result (λ text. ShowsReport raw r a text.items)
-opens_there result raw r a opens e shows = subst (λ (o : List (List Bool)). IfOk result (λ text. ShowsOpen raw r a o text.items)) e shows
+    opens ≡ opens_of r → IfOk result (λ text. ShowsFigure raw r a (state_figure r opens (signed_of a.signature)) text.items) →
+    IfOk result (λ text. ShowsReport raw r a text.items)
+opens_there result raw r a opens e shows =
+    subst (λ (o : List (List Bool)). IfOk result (λ text. ShowsFigure raw r a (state_figure r o (signed_of a.signature)) text.items)) e shows
+
+-- the flip-flops that the signature reads
+pub signed_there : (result : Result (Vec ℕ Global) NoMemory) (raw : Parts) (r : Report) (a : PageOptions) (opens : List (List Bool)) (signed : List Bool) →
+    signed ≡ signed_of a.signature → IfOk result (λ text. ShowsFigure raw r a (state_figure r opens signed) text.items) →
+    IfOk result (λ text. ShowsFigure raw r a (state_figure r opens (signed_of a.signature)) text.items)
+signed_there result raw r a opens signed e shows =
+    subst (λ (bits : List Bool). IfOk result (λ text. ShowsFigure raw r a (state_figure r opens bits) text.items)) e shows
 
 -- ---- pieces of the page
 
-pub trace_put : (r : Report) (opens : List (List Bool)) (flops inputs : List Signal) (old a b c d : List ℕ) → a ≡ old ++ trace_front r →
-    b ≡ a ++ group_text inputs_heading (input_figure r) inputs → c ≡ b ++ group_text flops_heading (state_figure r opens) flops →
-    d ≡ c ++ end_text r → d ≡ old ++ trace_text r opens flops inputs
+pub trace_put : (r : Report) (s : Option SignatureFile) (f : Figure) (flops inputs : List Signal) (old a b c d : List ℕ) → a ≡ old ++ trace_front r s →
+    b ≡ a ++ group_text inputs_heading (input_figure r) inputs → c ≡ b ++ group_text flops_heading f flops →
+    d ≡ c ++ end_text r → d ≡ old ++ trace_text r s f flops inputs
 unfolding trace_text
-trace_put r opens flops inputs old a b c d e f g h =
-    four_put old (trace_front r) (group_text inputs_heading (input_figure r) inputs) (group_text flops_heading (state_figure r opens) flops) (end_text r)
+trace_put r s figure flops inputs old a b c d e f g h =
+    four_put old (trace_front r s) (group_text inputs_heading (input_figure r) inputs) (group_text flops_heading figure flops) (end_text r)
     a b c d e f g h
 
-pub page_put : (q : PageOptions) (raw : Parts) (r : Report) (opens : List (List Bool)) (last : List ℕ) (flops inputs : List Signal) (old a b c d : List ℕ) →
-    a ≡ old ++ front_text raw r q.netlist q.report → b ≡ a ++ steps_shown r → c ≡ b ++ last → d ≡ c ++ trace_text r opens flops inputs →
-    d ≡ old ++ page_text q raw r opens last flops inputs
+pub page_put : (q : PageOptions) (raw : Parts) (r : Report) (f : Figure) (last : List ℕ) (flops inputs : List Signal) (old a b c d : List ℕ) →
+    a ≡ old ++ front_text raw r q.netlist q.signature q.report → b ≡ a ++ steps_shown r → c ≡ b ++ last → d ≡ c ++ trace_text r q.signature f flops inputs →
+    d ≡ old ++ page_text q raw r f last flops inputs
 unfolding page_text
-page_put q raw r opens last flops inputs old a b c d e f g h =
-    four_put old (front_text raw r q.netlist q.report) (steps_shown r) last (trace_text r opens flops inputs) a b c d e f g h
+page_put q raw r figure last flops inputs old a b c d e f g h =
+    four_put old (front_text raw r q.netlist q.signature q.report) (steps_shown r) last (trace_text r q.signature figure flops inputs) a b c d e f g h
 
 pub steps_put : (r : Report) (counts slice old a b c : List ℕ) → counts ≡ lemmas_logged r.log → slice ≡ counts → a ≡ old ++ steps_front →
     b ≡ a ++ steps_rows r slice → c ≡ b ++ codes "</tbody></table></div>\n" → c ≡ old ++ steps_part r

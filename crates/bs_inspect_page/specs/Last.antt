@@ -41,12 +41,12 @@ cand_cell places c = codes "<td>" ++ (value_text (signal_bits c.state places) ++
 abbrev pub cand_cells : List ℕ → List Cand → List ℕ
 cand_cells places cands = flat_map (cand_cell places) cands
 
--- the name of a signal, and its value in each of these candidates
-unfoldable pub cand_row : List Cand → Signal → List ℕ
-cand_row cands s = name_cell s ++ (cand_cells s.places cands ++ codes "</tr>\n")
+-- the name of a signal, marked where the signature reads it, and its value in each of these candidates
+unfoldable pub cand_row : List Bool → List Cand → Signal → List ℕ
+cand_row signed cands s = name_cell signed s ++ (cand_cells s.places cands ++ codes "</tr>\n")
 
-abbrev pub cand_rows : List Cand → List Signal → List ℕ
-cand_rows cands signals = flat_map (cand_row cands) signals
+abbrev pub cand_rows : List Bool → List Cand → List Signal → List ℕ
+cand_rows signed cands signals = flat_map (cand_row signed cands) signals
 
 -- candidates are numbered from 1, in the order of the list
 unfoldable pub cand_column : ℕ → List ℕ
@@ -61,15 +61,15 @@ list_front step =
     codes "<p class='d'>Candidates: " ++ (count_text step ++ (codes ", not shown: " ++ (decimal (length step.cands - MAX_SHOWN)
     ++ codes ". Each is a state that may stand before the first one of the trace. Shown are flip-flops at which candidates differ.</p>\n<div tabindex='0' role='region' aria-labelledby='l'><table class='t n'><thead><tr><th scope='col'>flip-flop</th>")))
 
-unfoldable pub filled_text : Step → List Signal → List ℕ
-filled_text step flops =
-    list_front step ++ (cand_columns (shown_of step) ++ (codes "</tr></thead><tbody>\n" ++ (cand_rows (shown_of step) flops ++ codes "</tbody></table></div>\n")))
+unfoldable pub filled_text : List Bool → Step → List Signal → List ℕ
+filled_text signed step flops =
+    list_front step ++ (cand_columns (shown_of step) ++ (codes "</tr></thead><tbody>\n" ++ (cand_rows signed (shown_of step) flops ++ codes "</tbody></table></div>\n")))
 
 abbrev pub no_candidate : List ℕ
 no_candidate = codes "<p class='d'>It has no candidate.</p>\n"
 
-abbrev pub table_text : Step → List Signal → List ℕ
-table_text step flops = if length step.cands == 0 then no_candidate else filled_text step flops
+abbrev pub table_text : List Bool → Step → List Signal → List ℕ
+table_text signed step flops = if length step.cands == 0 then no_candidate else filled_text signed step flops
 
-unfoldable pub list_text : Step → List Signal → List ℕ
-list_text step flops = codes "<h2 id='l'>The last list</h2>\n" ++ table_text step flops
+unfoldable pub list_text : List Bool → Step → List Signal → List ℕ
+list_text signed step flops = codes "<h2 id='l'>The last list</h2>\n" ++ table_text signed step flops

@@ -1,7 +1,4 @@
-pub mod Style
-pub mod Paths
 pub mod Execution
-pub mod Front
 pub mod Opens
 pub mod Columns
 pub mod Steps

@@ -1,5 +1,5 @@
 -- The page of a report (docs/FORMATS.md, "The page").
-use Rattle.std.specs.Prelude.{◌≡◌, ℕ, ◌==◌, nat_lt, not, ◌&&◌, ◌||◌, Bool, List, [], ◌++◌, length, codes, filter, take, map, Option, Some, None, if◌then◌else◌}
+use Rattle.std.specs.Prelude.{◌≡◌, ℕ, ◌==◌, nat_lt, not, ◌&&◌, ◌||◌, Bool, List, [], ◌++◌, length, codes, filter, take, map, option_map, Option, Some, None, if◌then◌else◌}
 use Rattle.bs_net.specs.Parts.{Parts}
 use Rattle.bs_net_names.specs.Signals.{AreSignals, Signal}
 use Rattle.bs_report.specs.declared.report.Report.{Report}
@@ -11,30 +11,41 @@ use Rattle.bs_inspect_report.specs.Keys.{flop_keys, input_keys}
 use Rattle.bs_inspect_report.specs.Steps.{differing_bits}
 use Rattle.bs_inspect_view.specs.Drawn.{is_nameless}
 use Rattle.bs_inspect_page.specs.Columns.{columns_text}
-use Rattle.bs_inspect_page.specs.Front.{front_text}
+use Rattle.bs_inspect_front.specs.Front.{front_text}
+use Rattle.bs_inspect_front.specs.Reads.{signed_of}
+use Rattle.bs_inspect_front.specs.Signed.{SignatureFile, file_in}
 use Rattle.bs_inspect_page.specs.Last.{has_open, list_text, unmet_list}
 use Rattle.bs_inspect_page.specs.Opens.{opens_of}
 use Rattle.bs_inspect_page.specs.Steps.{steps_part}
 use Rattle.bs_inspect_page.specs.declared.options.PageOptions.{PageOptions as CodeAsked}
 
--- the names of the two files, the names of the signals that are drawn alone, where there are any, and how many are drawn at most
+-- the names of the two files, the signature where one is given, the names of the signals that are drawn alone, where there are any, and how
+-- many are drawn at most
 pub record PageOptions : Type 0 where
   pub netlist : List ℕ
   pub report : List ℕ
+  pub signature : Option SignatureFile
   pub only : List (List ℕ)
   pub most : ℕ
 
 abbrev pub asked_in : CodeAsked → PageOptions
-asked_in a = record { netlist = a.netlist.now; report = a.report.now; only = map (λ s. s.now) a.only.now; most = a.most }
+asked_in a = record {
+  netlist = a.netlist.now;
+  report = a.report.now;
+  signature = option_map file_in a.signature;
+  only = map (λ s. s.now) a.only.now;
+  most = a.most;
+}
 
 -- ---- the signals that are drawn
 
--- the states of the trace, and the bits that are open in each
-abbrev pub state_figure : Report → List (List Bool) → Figure
-state_figure r opens = record { moments = r.states; opens = opens }
+-- the states of the trace, the bits that are open in each, and for each flip-flop whether the signature reads it
+abbrev pub state_figure : Report → List (List Bool) → List Bool → Figure
+state_figure r opens signed = record { moments = r.states; opens = opens; signed = signed }
 
+-- a signature reads no data input
 abbrev pub input_figure : Report → Figure
-input_figure r = record { moments = r.inputs; opens = [] }
+input_figure r = record { moments = r.inputs; opens = []; signed = [] }
 
 -- one that is asked for; else one whose name somebody gave, where it is open or changes, or where there is but one state
 abbrev pub is_on_page : PageOptions → Figure → Signal → Bool
@@ -45,10 +56,10 @@ abbrev pub drawn_flops_of : PageOptions → Figure → List Signal → List Sign
 drawn_flops_of a f signals = take a.most (filter (is_on_page a f) signals)
 
 -- the flip-flops that are drawn, with the names of a netlist
-pub record AreDrawnFlops (raw : Parts) (r : Report) (a : PageOptions) (opens : List (List Bool)) (drawn : List Signal) : Type 0 where
+pub record AreDrawnFlops (raw : Parts) (a : PageOptions) (f : Figure) (drawn : List Signal) : Type 0 where
   pub signals : List Signal
   pub are : AreSignals a.only (flop_keys raw) signals
-  pub kept : drawn ≡ drawn_flops_of a (state_figure r opens) signals
+  pub kept : drawn ≡ drawn_flops_of a f signals
 
 -- the data inputs that are drawn: the first ones
 pub record AreDrawnInputs (raw : Parts) (a : PageOptions) (drawn : List Signal) : Type 0 where
@@ -73,19 +84,19 @@ pub record AreListed (raw : Parts) (a : PageOptions) (step : Step) (listed : Lis
   pub kept : listed ≡ listed_of a step signals
 
 -- the text shows the list of a step
-pub record ShowsList (raw : Parts) (a : PageOptions) (step : Step) (text : List ℕ) : Type 0 where
+pub record ShowsList (raw : Parts) (a : PageOptions) (signed : List Bool) (step : Step) (text : List ℕ) : Type 0 where
   pub flops : List Signal
   pub are : AreListed raw a step flops
-  pub shown : text ≡ list_text step flops
+  pub shown : text ≡ list_text signed step flops
 
 -- the text shows the list of a step, and is empty where there is no step
-abbrev pub ShowsAny : Parts → PageOptions → Option Step → List ℕ → Type 0
-ShowsAny raw a None text = text ≡ []
-ShowsAny raw a (Some step) text = ShowsList raw a step text
+abbrev pub ShowsAny : Parts → PageOptions → List Bool → Option Step → List ℕ → Type 0
+ShowsAny raw a signed None text = text ≡ []
+ShowsAny raw a signed (Some step) text = ShowsList raw a signed step text
 
 -- the text shows the last list, if it has no hit
-pub record ShowsLast (raw : Parts) (r : Report) (a : PageOptions) (text : List ℕ) : Type 0 where
-  pub is : ShowsAny raw a (unmet_list r) text
+pub record ShowsLast (raw : Parts) (r : Report) (a : PageOptions) (signed : List Bool) (text : List ℕ) : Type 0 where
+  pub is : ShowsAny raw a signed (unmet_list r) text
 
 -- ---- the text
 
@@ -93,11 +104,19 @@ pub record ShowsLast (raw : Parts) (r : Report) (a : PageOptions) (text : List �
 abbrev pub trace_words : Report → List ℕ
 trace_words r =
     if is_execution r
-    then codes "<h2 id='t'>Trace</h2>\n<p class='d'>Cycle 0 is reset, and the last state is the one that was asked for. A vector is a number of base 16.</p>\n<div class='late' tabindex='0' role='region' aria-labelledby='t'><table class='w'>\n"
-    else codes "<h2 id='t'>Trace</h2>\n<p class='d'>Where a cell is hatched, other candidates of that list differ. A vector is a number of base 16.</p>\n<div class='late' tabindex='0' role='region' aria-labelledby='t'><table class='w'>\n"
+    then codes "<h2 id='t'>Trace</h2>\n<p class='d'>Cycle 0 is reset, and the last state is the one that was asked for. A vector is a number of base 16.</p>\n"
+    else codes "<h2 id='t'>Trace</h2>\n<p class='d'>Where a cell is hatched, other candidates of that list differ. A vector is a number of base 16.</p>\n"
 
-unfoldable pub trace_front : Report → List ℕ
-trace_front r = trace_words r ++ columns_text r
+-- what a mark beside a name means, where there is a signature
+abbrev pub legend_text : Option SignatureFile → List ℕ
+legend_text None = []
+legend_text (Some s) = codes "<p class='d'>Where <b>signature</b> stands beside a name, an item of the signature reads a flip-flop of that signal, alone or in a parity.</p>\n"
+
+abbrev pub table_front : List ℕ
+table_front = codes "<div class='late' tabindex='0' role='region' aria-labelledby='t'><table class='w'>\n"
+
+unfoldable pub trace_front : Report → Option SignatureFile → List ℕ
+trace_front r signature = trace_words r ++ (legend_text signature ++ (table_front ++ columns_text r))
 
 abbrev pub end_text : Report → List ℕ
 end_text r =
@@ -111,29 +130,30 @@ inputs_heading = codes "data inputs, in the cycle behind the state"
 abbrev pub flops_heading : List ℕ
 flops_heading = codes "flip-flops"
 
-unfoldable pub trace_text : Report → List (List Bool) → (flops inputs : List Signal) → List ℕ
-trace_text r opens flops inputs =
-    trace_front r
-    ++ (group_text inputs_heading (input_figure r) inputs ++ (group_text flops_heading (state_figure r opens) flops ++ end_text r))
+unfoldable pub trace_text : Report → Option SignatureFile → Figure → (flops inputs : List Signal) → List ℕ
+trace_text r signature f flops inputs =
+    trace_front r signature
+    ++ (group_text inputs_heading (input_figure r) inputs ++ (group_text flops_heading f flops ++ end_text r))
 
 -- the steps of a backtrace
 abbrev pub steps_shown : Report → List ℕ
 steps_shown r = if is_execution r then [] else steps_part r
 
-unfoldable pub page_text : PageOptions → Parts → Report → List (List Bool) → (last : List ℕ) → (flops inputs : List Signal) → List ℕ
-page_text a raw r opens last flops inputs =
-    front_text raw r a.netlist a.report ++ (steps_shown r ++ (last ++ trace_text r opens flops inputs))
+unfoldable pub page_text : PageOptions → Parts → Report → Figure → (last : List ℕ) → (flops inputs : List Signal) → List ℕ
+page_text a raw r f last flops inputs =
+    front_text raw r a.netlist a.signature a.report ++ (steps_shown r ++ (last ++ trace_text r a.signature f flops inputs))
 
--- the text is the page of a report with the names of a netlist, where these bits are open; where names are given, these signals alone
-pub record ShowsOpen (raw : Parts) (r : Report) (a : PageOptions) (opens : List (List Bool)) (text : List ℕ) : Type 0 where
+-- the text is the page of a report with the names of a netlist, and this figure of its states; where names are given, these signals alone
+pub record ShowsFigure (raw : Parts) (r : Report) (a : PageOptions) (f : Figure) (text : List ℕ) : Type 0 where
   pub last : List ℕ
   pub flops : List Signal
   pub inputs : List Signal
-  pub is_last : ShowsLast raw r a last
-  pub are_flops : AreDrawnFlops raw r a opens flops
+  pub is_last : ShowsLast raw r a f.signed last
+  pub are_flops : AreDrawnFlops raw a f flops
   pub are_inputs : AreDrawnInputs raw a inputs
-  pub shown : text ≡ page_text a raw r opens last flops inputs
+  pub shown : text ≡ page_text a raw r f last flops inputs
 
--- the same where those bits are open at which other candidates of a list differ
+-- the same where those bits are open at which other candidates of a list differ, and those flip-flops are read that an item of the
+-- signature has
 abbrev pub ShowsReport : Parts → Report → PageOptions → List ℕ → Type 0
-ShowsReport raw r a text = ShowsOpen raw r a (opens_of r) text
+ShowsReport raw r a text = ShowsFigure raw r a (state_figure r (opens_of r) (signed_of a.signature)) text

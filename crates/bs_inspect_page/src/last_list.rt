@@ -9,7 +9,7 @@ ghost use Rattle.bs_inspect_page.specs.Page.{ShowsAny, ShowsLast, ShowsList, ask
 use crate::columns::push_count;
 use crate::listing::listed_flops;
 use crate::options::PageOptions;
-use bs_bits::{NoMemory, push_number, push_piece};
+use bs_bits::{Bits, NoMemory, push_number, push_piece};
 use bs_inspect_cells::push_name_cell;
 use bs_inspect_report::{member, push_signal_value};
 use bs_net::Netlist;
@@ -79,11 +79,16 @@ fn push_cells(text: &mut Vec<u8>, places: &[u32], cands: &[Cand]) -> Result<(), 
 }
 
 /// Appends the row of a signal.
-fn push_row(text: &mut Vec<u8>, cands: &[Cand], signal: &Signal<'_>) -> Result<(), NoMemory>
+fn push_row(
+    text: &mut Vec<u8>,
+    signed: &Bits,
+    cands: &[Cand],
+    signal: &Signal<'_>,
+) -> Result<(), NoMemory>
     requires { length signal.now.places < 2 ^ 32 }
-    ensures { OnOk result (text.new.items ≡ text.old.items ++ cand_row cands.now (signal_in signal.now)) }
+    ensures { OnOk result (text.new.items ≡ text.old.items ++ cand_row signed.now cands.now (signal_in signal.now)) }
 {
-    push_name_cell(text, signal)?;
+    push_name_cell(text, signed, signal)?;
     push_cells(text, signal.places.slice(), cands)?;
     push_piece(text, b"</tr>\n")?;
     Ok(())
@@ -91,12 +96,17 @@ fn push_row(text: &mut Vec<u8>, cands: &[Cand], signal: &Signal<'_>) -> Result<(
 
 /// Appends the rows of signals.
 #[tactic(auto, using(crate::proofs::LastLemmas::rows_more))]
-fn push_rows(text: &mut Vec<u8>, cands: &[Cand], signals: &[Signal<'_>]) -> Result<(), NoMemory>
+fn push_rows(
+    text: &mut Vec<u8>,
+    signed: &Bits,
+    cands: &[Cand],
+    signals: &[Signal<'_>],
+) -> Result<(), NoMemory>
     requires { All (λ s. length s.places < 2 ^ 32) signals.now }
-    ensures { OnOk result (text.new.items ≡ text.old.items ++ cand_rows cands.now (map signal_in signals.now)) }
+    ensures { OnOk result (text.new.items ≡ text.old.items ++ cand_rows signed.now cands.now (map signal_in signals.now)) }
 {
     'signals: for signal in signals {
-        push_row(text, cands, signal)?;
+        push_row(text, signed, cands, signal)?;
     }
     Ok(())
 }
@@ -146,40 +156,55 @@ fn push_list_front(text: &mut Vec<u8>, step: &Step) -> Result<(), NoMemory>
 }
 
 /// Appends a list that has candidates.
-fn push_filled(text: &mut Vec<u8>, step: &Step, flops: &[Signal<'_>]) -> Result<(), NoMemory>
+fn push_filled(
+    text: &mut Vec<u8>,
+    signed: &Bits,
+    step: &Step,
+    flops: &[Signal<'_>],
+) -> Result<(), NoMemory>
     requires { All (λ s. length s.places < 2 ^ 32) flops.now }
-    ensures { OnOk result (text.new.items ≡ text.old.items ++ filled_text step.now (map signal_in flops.now)) }
+    ensures { OnOk result (text.new.items ≡ text.old.items ++ filled_text signed.now step.now (map signal_in flops.now)) }
 {
     let cands = shown_of(step);
     push_list_front(text, step)?;
     push_columns(text, cands)?;
     push_piece(text, b"</tr></thead><tbody>\n")?;
-    push_rows(text, cands, flops)?;
+    push_rows(text, signed, cands, flops)?;
     push_piece(text, b"</tbody></table></div>\n")?;
     Ok(())
 }
 
 /// Appends a list.
-fn push_table(text: &mut Vec<u8>, step: &Step, flops: &[Signal<'_>]) -> Result<(), NoMemory>
+fn push_table(
+    text: &mut Vec<u8>,
+    signed: &Bits,
+    step: &Step,
+    flops: &[Signal<'_>],
+) -> Result<(), NoMemory>
     requires { All (λ s. length s.places < 2 ^ 32) flops.now }
-    ensures { OnOk result (text.new.items ≡ text.old.items ++ table_text step.now (map signal_in flops.now)) }
+    ensures { OnOk result (text.new.items ≡ text.old.items ++ table_text signed.now step.now (map signal_in flops.now)) }
 {
     if step.cands.len() == 0 {
         push_piece(text, b"<p class='d'>It has no candidate.</p>\n")
     } else {
-        push_filled(text, step, flops)
+        push_filled(text, signed, step, flops)
     }
 }
 
 /// The text of a list.
 #[tactic(auto, unfolding(crate::specs::Last::list_text))]
-fn list_text(alloc: Global, step: &Step, flops: &[Signal<'_>]) -> Result<Vec<u8>, NoMemory>
+fn list_text(
+    alloc: Global,
+    signed: &Bits,
+    step: &Step,
+    flops: &[Signal<'_>],
+) -> Result<Vec<u8>, NoMemory>
     requires { All (λ s. length s.places < 2 ^ 32) flops.now }
-    ensures { IfOk result (λ text. text.items ≡ list_text step.now (map signal_in flops.now)) }
+    ensures { IfOk result (λ text. text.items ≡ list_text signed.now step.now (map signal_in flops.now)) }
 {
     let mut text = Vec::new(alloc);
     push_piece(&mut text, b"<h2 id='l'>The last list</h2>\n")?;
-    push_table(&mut text, step, flops)?;
+    push_table(&mut text, signed, step, flops)?;
     Ok(text)
 }
 
@@ -188,12 +213,13 @@ fn text_of(
     alloc: Global,
     net: &Netlist,
     asked: &PageOptions<'_>,
+    signed: &Bits,
     step: &Step,
 ) -> Result<Vec<u8>, NoMemory>
-    ensures { IfOk result (λ text. ShowsList net.now.raw (asked_in asked.now) step.now text.items) }
+    ensures { IfOk result (λ text. ShowsList net.now.raw (asked_in asked.now) signed.now step.now text.items) }
 {
     match listed_flops(alloc, net, asked, step) {
-        Ok(flops) => list_text(alloc, step, flops.as_slice()),
+        Ok(flops) => list_text(alloc, signed, step, flops.as_slice()),
         Err(refused) => Err(refused),
     }
 }
@@ -203,12 +229,13 @@ fn any_text(
     alloc: Global,
     net: &Netlist,
     asked: &PageOptions<'_>,
+    signed: &Bits,
     step: Option<&Step>,
 ) -> Result<Vec<u8>, NoMemory>
-    ensures { IfOk result (λ text. ShowsAny net.now.raw (asked_in asked.now) (option_map (λ s. s.now) step.entry) text.items) }
+    ensures { IfOk result (λ text. ShowsAny net.now.raw (asked_in asked.now) signed.now (option_map (λ s. s.now) step.entry) text.items) }
 {
     match step {
-        Some(step) => text_of(alloc, net, asked, step),
+        Some(step) => text_of(alloc, net, asked, signed, step),
         None => Ok(Vec::new(alloc)),
     }
 }
@@ -220,8 +247,9 @@ pub(crate) fn last_text(
     net: &Netlist,
     report: &Report,
     asked: &PageOptions<'_>,
+    signed: &Bits,
 ) -> Result<Vec<u8>, NoMemory>
-    ensures { IfOk result (λ text. ShowsLast net.now.raw report.now (asked_in asked.now) text.items) }
+    ensures { IfOk result (λ text. ShowsLast net.now.raw report.now (asked_in asked.now) signed.now text.items) }
 {
-    any_text(alloc, net, asked, unmet_list(report))
+    any_text(alloc, net, asked, signed, unmet_list(report))
 }

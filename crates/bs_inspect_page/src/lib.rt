@@ -1,8 +1,8 @@
 //! A report as one page of HTML, without a script and without anything from outside.
 //!
-//! Modules: `options` (what is asked), `style`, `paths` (names of files), `front` (what stands in front of the tables), `execution` (the
-//! same of an execution that a search for a state found), `step_table`, `last_list` (the last list, if it has no hit), `listing` (which
-//! signals of it), `opens` (where other candidates differ), `columns` (the head of the trace), `drawn` (which signals), `page`, `law`.
+//! Modules: `options` (what is asked), `step_table`, `last_list` (the last list, if it has no hit), `listing` (which signals of it), `opens`
+//! (where other candidates differ), `columns` (the head of the trace), `execution` (the same of an execution that a search for a state
+//! found), `drawn` (which signals), `page`, `law`. What stands in front, and which flip-flops a signature reads, is bs_inspect_front's.
 //! Used above: `ShowsReport` (`specs/Page`): the text is the page of the report, whose cells (bs_inspect_cells) are those of the
 //! trace's signals. A line: its definition and the function of the same name.
 #![tactic(auto)]
@@ -10,16 +10,13 @@
 mod columns;
 mod drawn;
 mod execution;
-mod front;
 mod last_list;
 mod law;
 mod listing;
 mod opens;
 mod options;
 mod page;
-mod paths;
 mod step_table;
-mod style;
 
 pub use law::cells_are_traced;
 pub use options::PageOptions;

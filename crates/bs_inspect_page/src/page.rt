@@ -1,18 +1,21 @@
 //! The page of a report.
-ghost use Rattle.std.specs.Prelude.{◌≡◌, ◌<◌, ◌^◌, ◌++◌, length, map, All, IfOk, OnOk};
+ghost use Rattle.std.specs.Prelude.{◌≡◌, ◌<◌, ◌^◌, ◌++◌, length, map, option_map, All, IfOk, OnOk};
 ghost use Rattle.bs_net_names.specs.Signals.{signal_in};
+ghost use Rattle.bs_inspect_cells.specs.Figures.{figure_in};
 ghost use Rattle.bs_inspect_cells.specs.Rows.{group_text};
-ghost use Rattle.bs_inspect_page.specs.Page.{AreDrawnFlops, AreDrawnInputs, ShowsLast, ShowsOpen, ShowsReport, asked_in, end_text, flops_heading, inputs_heading, input_figure, page_text, state_figure, steps_shown, trace_front, trace_text, trace_words};
+ghost use Rattle.bs_inspect_front.specs.Reads.{signed_of};
+ghost use Rattle.bs_inspect_front.specs.Signed.{file_in};
+ghost use Rattle.bs_inspect_page.specs.Page.{AreDrawnFlops, AreDrawnInputs, ShowsFigure, ShowsReport, asked_in, end_text, inputs_heading, input_figure, legend_text, page_text, state_figure, steps_shown, table_front, trace_front, trace_text, trace_words};
 
 use crate::columns::push_columns;
 use crate::drawn::{keep_first, keep_first_drawn};
-use crate::front::push_front;
 use crate::last_list::last_text;
 use crate::opens::opens_of;
 use crate::options::PageOptions;
 use crate::step_table::push_step_table;
 use bs_bits::{Bits, List, NoMemory, push_piece};
 use bs_inspect_cells::{Figure, push_group};
+use bs_inspect_front::{SignatureFile, push_front, signed_of};
 use bs_inspect_report::{flop_signals, input_signals, is_execution};
 use bs_net::Netlist;
 use bs_net_names::Signal;
@@ -26,22 +29,51 @@ fn push_trace_words(text: &mut Vec<u8>, report: &Report) -> Result<(), NoMemory>
     if is_execution(report) {
         push_piece(
             text,
-            b"<h2 id='t'>Trace</h2>\n<p class='d'>Cycle 0 is reset, and the last state is the one that was asked for. A vector is a number of base 16.</p>\n<div class='late' tabindex='0' role='region' aria-labelledby='t'><table class='w'>\n",
+            b"<h2 id='t'>Trace</h2>\n<p class='d'>Cycle 0 is reset, and the last state is the one that was asked for. A vector is a number of base 16.</p>\n",
         )
     } else {
         push_piece(
             text,
-            b"<h2 id='t'>Trace</h2>\n<p class='d'>Where a cell is hatched, other candidates of that list differ. A vector is a number of base 16.</p>\n<div class='late' tabindex='0' role='region' aria-labelledby='t'><table class='w'>\n",
+            b"<h2 id='t'>Trace</h2>\n<p class='d'>Where a cell is hatched, other candidates of that list differ. A vector is a number of base 16.</p>\n",
         )
     }
 }
 
+/// Appends what a mark beside a name means, where there is a signature.
+fn push_legend(text: &mut Vec<u8>, signature: Option<SignatureFile<'_>>) -> Result<(), NoMemory>
+    ensures { OnOk result (text.new.items ≡ text.old.items ++ legend_text (option_map file_in signature.entry)) }
+{
+    match signature {
+        Some(_file) => push_piece(
+            text,
+            b"<p class='d'>Where <b>signature</b> stands beside a name, an item of the signature reads a flip-flop of that signal, alone or in a parity.</p>\n",
+        ),
+        None => Ok(()),
+    }
+}
+
+/// Appends the front of the table.
+fn push_table_front(text: &mut Vec<u8>) -> Result<(), NoMemory>
+    ensures { OnOk result (text.new.items ≡ text.old.items ++ table_front) }
+{
+    push_piece(
+        text,
+        b"<div class='late' tabindex='0' role='region' aria-labelledby='t'><table class='w'>\n",
+    )
+}
+
 /// Appends what stands in front of the trace.
 #[tactic(auto, unfolding(crate::specs::Page::trace_front))]
-fn push_trace_front(text: &mut Vec<u8>, report: &Report) -> Result<(), NoMemory>
-    ensures { OnOk result (text.new.items ≡ text.old.items ++ trace_front report.now) }
+fn push_trace_front(
+    text: &mut Vec<u8>,
+    report: &Report,
+    signature: Option<SignatureFile<'_>>,
+) -> Result<(), NoMemory>
+    ensures { OnOk result (text.new.items ≡ text.old.items ++ trace_front report.now (option_map file_in signature.entry)) }
 {
     push_trace_words(text, report)?;
+    push_legend(text, signature)?;
+    push_table_front(text)?;
     push_columns(text, report)?;
     Ok(())
 }
@@ -80,9 +112,11 @@ fn push_inputs(text: &mut Vec<u8>, report: &Report, inputs: &[Signal<'_>]) -> Re
     ensures { OnOk result (text.new.items ≡ text.old.items ++ group_text inputs_heading (input_figure report.now) (map signal_in inputs.now)) }
 {
     let none = List::new(*text.allocator());
+    let unread = Bits::new(*text.allocator());
     let figure = Figure {
         moments: &report.inputs,
         opens: &none,
+        signed: &unread,
     };
     push_group(
         text,
@@ -92,38 +126,22 @@ fn push_inputs(text: &mut Vec<u8>, report: &Report, inputs: &[Signal<'_>]) -> Re
     )
 }
 
-/// Appends the rows of the flip-flops.
-fn push_flops(
-    text: &mut Vec<u8>,
-    report: &Report,
-    opens: &List<Bits>,
-    flops: &[Signal<'_>],
-) -> Result<(), NoMemory>
-    requires { All (λ s. length s.places < 2 ^ 32) flops.now }
-    ensures { OnOk result (text.new.items ≡ text.old.items ++ group_text flops_heading (state_figure report.now opens.now) (map signal_in flops.now)) }
-{
-    let figure = Figure {
-        moments: &report.states,
-        opens,
-    };
-    push_group(text, b"flip-flops", figure, flops)
-}
-
 /// Appends the trace.
 fn push_trace(
     text: &mut Vec<u8>,
     report: &Report,
-    opens: &List<Bits>,
+    signature: Option<SignatureFile<'_>>,
+    figure: Figure<'_>,
     flops: &[Signal<'_>],
     inputs: &[Signal<'_>],
 ) -> Result<(), NoMemory>
     requires few_flops { All (λ s. length s.places < 2 ^ 32) flops.now }
     requires few_inputs { All (λ s. length s.places < 2 ^ 32) inputs.now }
-    ensures { OnOk result (text.new.items ≡ text.old.items ++ trace_text report.now opens.now (map signal_in flops.now) (map signal_in inputs.now)) }
+    ensures { OnOk result (text.new.items ≡ text.old.items ++ trace_text report.now (option_map file_in signature.entry) (figure_in figure.entry) (map signal_in flops.now) (map signal_in inputs.now)) }
 {
-    push_trace_front(text, report)?;
+    push_trace_front(text, report, signature)?;
     push_inputs(text, report, inputs)?;
-    push_flops(text, report, opens, flops)?;
+    push_group(text, b"flip-flops", figure, flops)?;
     push_end(text, report)?;
     Ok(())
 }
@@ -132,18 +150,13 @@ fn push_trace(
 fn drawn_flops<'a>(
     alloc: Global,
     net: &'a Netlist,
-    report: &Report,
     asked: &PageOptions<'_>,
-    opens: &List<Bits>,
+    figure: Figure<'_>,
 ) -> Result<Vec<Signal<'a>>, NoMemory>
-    ensures are { IfOk result (λ signals. AreDrawnFlops net.now.raw report.now (asked_in asked.now) opens.now (map signal_in signals.items)) }
+    ensures are { IfOk result (λ signals. AreDrawnFlops net.now.raw (asked_in asked.now) (figure_in figure.entry) (map signal_in signals.items)) }
     ensures few { IfOk result (λ signals. All (λ s. length s.places < 2 ^ 32) signals.items) }
 {
     let mut signals = flop_signals(alloc, net, asked.only)?;
-    let figure = Figure {
-        moments: &report.states,
-        opens,
-    };
     keep_first_drawn(asked, figure, &mut signals);
     Ok(signals)
 }
@@ -168,19 +181,26 @@ fn push_page(
     net: &Netlist,
     report: &Report,
     asked: &PageOptions<'_>,
-    opens: &List<Bits>,
+    figure: Figure<'_>,
     last: &[u8],
     flops: &[Signal<'_>],
     inputs: &[Signal<'_>],
 ) -> Result<(), NoMemory>
     requires few_flops { All (λ s. length s.places < 2 ^ 32) flops.now }
     requires few_inputs { All (λ s. length s.places < 2 ^ 32) inputs.now }
-    ensures { OnOk result (text.new.items ≡ text.old.items ++ page_text (asked_in asked.now) net.now.raw report.now opens.now last.now (map signal_in flops.now) (map signal_in inputs.now)) }
+    ensures { OnOk result (text.new.items ≡ text.old.items ++ page_text (asked_in asked.now) net.now.raw report.now (figure_in figure.entry) last.now (map signal_in flops.now) (map signal_in inputs.now)) }
 {
-    push_front(text, net, report, asked.netlist, asked.report)?;
+    push_front(
+        text,
+        net,
+        report,
+        asked.netlist,
+        asked.signature,
+        asked.report,
+    )?;
     push_steps(text, report)?;
     push_piece(text, last)?;
-    push_trace(text, report, opens, flops, inputs)?;
+    push_trace(text, report, asked.signature, figure, flops, inputs)?;
     Ok(())
 }
 
@@ -190,17 +210,17 @@ fn text_of(
     net: &Netlist,
     report: &Report,
     asked: &PageOptions<'_>,
-    opens: &List<Bits>,
+    figure: Figure<'_>,
     last: &[u8],
     flops: &[Signal<'_>],
     inputs: &[Signal<'_>],
 ) -> Result<Vec<u8>, NoMemory>
     requires few_flops { All (λ s. length s.places < 2 ^ 32) flops.now }
     requires few_inputs { All (λ s. length s.places < 2 ^ 32) inputs.now }
-    ensures { IfOk result (λ text. text.items ≡ page_text (asked_in asked.now) net.now.raw report.now opens.now last.now (map signal_in flops.now) (map signal_in inputs.now)) }
+    ensures { IfOk result (λ text. text.items ≡ page_text (asked_in asked.now) net.now.raw report.now (figure_in figure.entry) last.now (map signal_in flops.now) (map signal_in inputs.now)) }
 {
     let mut text = Vec::new(alloc);
-    push_page(&mut text, net, report, asked, opens, last, flops, inputs)?;
+    push_page(&mut text, net, report, asked, figure, last, flops, inputs)?;
     Ok(text)
 }
 
@@ -210,23 +230,23 @@ fn with_last(
     net: &Netlist,
     report: &Report,
     asked: &PageOptions<'_>,
-    opens: &List<Bits>,
+    figure: Figure<'_>,
     flops: &[Signal<'_>],
     inputs: &[Signal<'_>],
 ) -> Result<Vec<u8>, NoMemory>
-    requires are_flops { AreDrawnFlops net.now.raw report.now (asked_in asked.now) opens.now (map signal_in flops.now) }
+    requires are_flops { AreDrawnFlops net.now.raw (asked_in asked.now) (figure_in figure) (map signal_in flops.now) }
     requires are_inputs { AreDrawnInputs net.now.raw (asked_in asked.now) (map signal_in inputs.now) }
     requires few_flops { All (λ s. length s.places < 2 ^ 32) flops.now }
     requires few_inputs { All (λ s. length s.places < 2 ^ 32) inputs.now }
-    ensures { IfOk result (λ text. ShowsOpen net.now.raw report.now (asked_in asked.now) opens.now text.items) }
+    ensures { IfOk result (λ text. ShowsFigure net.now.raw report.now (asked_in asked.now) (figure_in figure.entry) text.items) }
 {
-    match last_text(alloc, net, report, asked) {
+    match last_text(alloc, net, report, asked, figure.signed) {
         Ok(last) => text_of(
             alloc,
             net,
             report,
             asked,
-            opens,
+            figure,
             last.as_slice(),
             flops,
             inputs,
@@ -241,39 +261,75 @@ fn with_inputs(
     net: &Netlist,
     report: &Report,
     asked: &PageOptions<'_>,
-    opens: &List<Bits>,
+    figure: Figure<'_>,
     flops: &[Signal<'_>],
 ) -> Result<Vec<u8>, NoMemory>
-    requires are { AreDrawnFlops net.now.raw report.now (asked_in asked.now) opens.now (map signal_in flops.now) }
+    requires are { AreDrawnFlops net.now.raw (asked_in asked.now) (figure_in figure) (map signal_in flops.now) }
     requires few { All (λ s. length s.places < 2 ^ 32) flops.now }
-    ensures { IfOk result (λ text. ShowsOpen net.now.raw report.now (asked_in asked.now) opens.now text.items) }
+    ensures { IfOk result (λ text. ShowsFigure net.now.raw report.now (asked_in asked.now) (figure_in figure.entry) text.items) }
 {
     match drawn_inputs(alloc, net, asked) {
-        Ok(inputs) => with_last(alloc, net, report, asked, opens, flops, inputs.as_slice()),
+        Ok(inputs) => with_last(alloc, net, report, asked, figure, flops, inputs.as_slice()),
         Err(refused) => Err(refused),
     }
 }
 
-/// The page, where other candidates differ here.
+/// The page with this figure of the states.
 fn with_flops(
+    alloc: Global,
+    net: &Netlist,
+    report: &Report,
+    asked: &PageOptions<'_>,
+    figure: Figure<'_>,
+) -> Result<Vec<u8>, NoMemory>
+    ensures { IfOk result (λ text. ShowsFigure net.now.raw report.now (asked_in asked.now) (figure_in figure.entry) text.items) }
+{
+    match drawn_flops(alloc, net, asked, figure) {
+        Ok(flops) => with_inputs(alloc, net, report, asked, figure, flops.as_slice()),
+        Err(refused) => Err(refused),
+    }
+}
+
+/// The page, where other candidates differ here, and the signature reads these flip-flops.
+fn with_figure(
+    alloc: Global,
+    net: &Netlist,
+    report: &Report,
+    asked: &PageOptions<'_>,
+    opens: &List<Bits>,
+    signed: &Bits,
+) -> Result<Vec<u8>, NoMemory>
+    ensures { IfOk result (λ text. ShowsFigure net.now.raw report.now (asked_in asked.now) (state_figure report.now opens.now signed.now) text.items) }
+{
+    let figure = Figure {
+        moments: &report.states,
+        opens,
+        signed,
+    };
+    with_flops(alloc, net, report, asked, figure)
+}
+
+/// The page, where other candidates differ here.
+#[tactic(auto, using(crate::proofs::PageLemmas::signed_there))]
+fn with_signed(
     alloc: Global,
     net: &Netlist,
     report: &Report,
     asked: &PageOptions<'_>,
     opens: &List<Bits>,
 ) -> Result<Vec<u8>, NoMemory>
-    ensures { IfOk result (λ text. ShowsOpen net.now.raw report.now (asked_in asked.now) opens.now text.items) }
+    ensures { IfOk result (λ text. ShowsFigure net.now.raw report.now (asked_in asked.now) (state_figure report.now opens.now (signed_of (asked_in asked.now).signature)) text.items) }
 {
-    match drawn_flops(alloc, net, report, asked, opens) {
-        Ok(flops) => with_inputs(alloc, net, report, asked, opens, flops.as_slice()),
+    match signed_of(alloc, asked.signature) {
+        Ok(signed) => with_figure(alloc, net, report, asked, opens, &signed),
         Err(refused) => Err(refused),
     }
 }
 
 /// A report as one page of HTML, with the names of a netlist: why the backtrace stopped, a table of its steps, its last list, if that has no
 /// hit, and its trace, where each signal has a cell for each run of cycles with one value, and a cell is marked in which other candidates
-/// of its list differ. Of an execution that a search for a state found, what is known of it and the trace. Where names are given, these
-/// signals alone.
+/// of its list differ. Of an execution that a search for a state found, what is known of it and the trace. Where a signature is given, the
+/// names of signals are marked of which an item reads a flip-flop. Where names are given, these signals alone.
 #[tactic(auto, using(crate::proofs::PageLemmas::opens_there))]
 pub fn page_text(
     alloc: Global,
@@ -284,7 +340,7 @@ pub fn page_text(
     ensures { IfOk result (λ text. ShowsReport net.now.raw report.now (asked_in asked.now) text.items) }
 {
     match opens_of(alloc, report) {
-        Ok(opens) => with_flops(alloc, net, report, asked, &opens),
+        Ok(opens) => with_signed(alloc, net, report, asked, &opens),
         Err(refused) => Err(refused),
     }
 }

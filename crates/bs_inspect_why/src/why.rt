@@ -14,7 +14,7 @@ use crate::telling::accounts_text;
 use bs_bits::{List, NoMemory};
 use bs_inspect_accounts::Account;
 use bs_inspect_causes::{accounts_of, first_break};
-use bs_inspect_cones::Scene;
+use bs_inspect_holds::Scene;
 use bs_net::{NetId, Netlist};
 use bs_net_facts::{Fact, Moments};
 use bs_report::Report;

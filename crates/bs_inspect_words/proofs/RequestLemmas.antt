@@ -84,14 +84,14 @@ wave_told positions settings word from all only r are w c e f is =
 
 -- what `page` asks, from what was read of its options
 pub page_told : (positions : Words) (settings : List CodeSetting) (word : Option (List ℕ)) (names : List (Bor (List ℕ))) (count : ℕ)
-    (most : Option ℕ) (r : Option Request) → fit page_flags (map setting_of settings) ≡ true →
+    (most : Option ℕ) (signature : Option (List ℕ)) (r : Option Request) → fit page_flags (map setting_of settings) ≡ true →
     map (λ s. s.now) names ≡ values_of F.Only (map setting_of settings) → word ≡ value_of F.Most (map setting_of settings) →
-    count ≡ length names → most ≡ drawn_most word count → r ≡ page_of positions most (map (λ s. s.now) names) →
-    r ≡ page_words positions (map setting_of settings)
-page_told positions settings word names count most r are f w n c is =
+    count ≡ length names → most ≡ drawn_most word count → signature ≡ value_of F.Signature (map setting_of settings) →
+    r ≡ page_of positions most signature (map (λ s. s.now) names) → r ≡ page_words positions (map setting_of settings)
+page_told positions settings word names count most signature r are f w n c s is =
     let same : count ≡ length (values_of F.Only (map setting_of settings)) =
-    n ∙ (sym (length-map names (λ (s : Bor (List ℕ)). s.now)) ∙ ap length f) in
-    is ∙ ((λ i. page_of positions ((c ∙ (λ j. drawn_most (w j) (same j))) i) (f i)) ∙ sym (rw are refl))
+    n ∙ (sym (length-map names (λ (n : Bor (List ℕ)). n.now)) ∙ ap length f) in
+    is ∙ ((λ i. page_of positions ((c ∙ (λ j. drawn_most (w j) (same j))) i) (s i) (f i)) ∙ sym (rw are refl))
 
 -- what `stimulus` asks of files of values, where there are not too many
 pub runs_there : (netlist : List ℕ) (vcds copy : Words) (clock : List ℕ) (scope names : Option (List ℕ)) → are_runs vcds ≡ true → copy ≡ vcds →

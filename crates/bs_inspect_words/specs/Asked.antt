@@ -60,7 +60,13 @@ abbrev pub lengths_in : CodeLengthsRequest → LengthsRequest
 lengths_in t = record { netlist = t.netlist.now; state = t.state.now; answer = t.answer.now; length = t.length }
 
 abbrev pub page_in : CodePageRequest → PageRequest
-page_in t = record { netlist = t.netlist.now; report = t.report.now; most = t.most; only = map (λ s. s.now) t.only.items }
+page_in t = record {
+  netlist = t.netlist.now;
+  report = t.report.now;
+  signature = option_map (λ s. s.now) t.signature;
+  most = t.most;
+  only = map (λ s. s.now) t.only.items;
+}
 
 abbrev pub novel_in : CodeNovelRequest → NovelRequest
 novel_in t = record { netlist = t.netlist.now; runs = t.runs.now; run = t.run; most = t.most }

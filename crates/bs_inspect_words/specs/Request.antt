@@ -38,10 +38,12 @@ pub record WaveRequest : Type 0 where
   pub from : ℕ
   pub only : List (List ℕ)
 
--- the files of `page`, how many signals of a kind it draws at most, and the names of those that it draws alone, where there are any
+-- the files of `page`, of which that of a signature may be given, how many signals of a kind it draws at most, and the names of those
+-- that it draws alone, where there are any
 pub record PageRequest : Type 0 where
   pub netlist : List ℕ
   pub report : List ℕ
+  pub signature : Option (List ℕ)
   pub most : ℕ
   pub only : List (List ℕ)
 
@@ -239,7 +241,7 @@ abbrev pub wave_request : Given → Option Request
 wave_request given = wave_words given.positions given.settings
 
 abbrev pub page_flags : List Flag
-page_flags = F.Only ∷ F.Most ∷ []
+page_flags = F.Only ∷ F.Most ∷ F.Signature ∷ []
 
 -- how many signals of a kind a page draws at most, by how many are named
 abbrev pub drawn_most : Option (List ℕ) → ℕ → Option ℕ
@@ -247,14 +249,16 @@ drawn_most None named = Some (if named == 0 then DEFAULT_DRAWN else MAX_DRAWN)
 drawn_most (Some word) named = number_between 1 MAX_DRAWN word
 
 -- `page` has two file names
-abbrev pub page_of : List (List ℕ) → Option ℕ → List (List ℕ) → Option Request
-page_of (netlist ∷ report ∷ []) (Some most) only = Some (Page record { netlist = netlist; report = report; most = most; only = only })
-page_of _ most only = None
+abbrev pub page_of : List (List ℕ) → Option ℕ → (signature : Option (List ℕ)) → List (List ℕ) → Option Request
+page_of (netlist ∷ report ∷ []) (Some most) signature only =
+    Some (Page record { netlist = netlist; report = report; signature = signature; most = most; only = only })
+page_of _ most signature only = None
 
 abbrev pub page_words : List (List ℕ) → List Setting → Option Request
 page_words positions settings =
     if fit page_flags settings
-    then page_of positions (drawn_most (value_of F.Most settings) (length (values_of F.Only settings))) (values_of F.Only settings)
+    then page_of positions (drawn_most (value_of F.Most settings) (length (values_of F.Only settings))) (value_of F.Signature settings)
+    (values_of F.Only settings)
     else None
 
 abbrev pub page_request : Given → Option Request

@@ -28,13 +28,19 @@ fn drawn_most(word: Option<&str>, named: usize) -> Option<u64>
 }
 
 /// The request of `page` by what its words say.
-fn page_at<'a>(positions: &[&'a str], most: Option<u64>, only: Vec<&'a str>) -> Option<Request<'a>>
-    ensures { shown_request result ≡ page_of (map (λ s. s.now) positions.now) most (map (λ s. s.now) only.entry.items) }
+fn page_at<'a>(
+    positions: &[&'a str],
+    most: Option<u64>,
+    signature: Option<&'a str>,
+    only: Vec<&'a str>,
+) -> Option<Request<'a>>
+    ensures { shown_request result ≡ page_of (map (λ s. s.now) positions.now) most (option_map (λ s. s.now) signature.entry) (map (λ s. s.now) only.entry.items) }
 {
     match (positions, most) {
         ([netlist, report], Some(most)) => Some(Request::Page(PageRequest {
             netlist,
             report,
+            signature,
             most,
             only,
         })),
@@ -51,12 +57,13 @@ fn page_words<'a>(
 ) -> Result<Option<Request<'a>>, NoMemory>
     ensures { IfOk result (λ request. shown_request request ≡ page_words (map (λ s. s.now) positions.now) (map setting_of settings.now)) }
 {
-    if !fit(&[Flag::Only, Flag::Most], settings) {
+    if !fit(&[Flag::Only, Flag::Most, Flag::Signature], settings) {
         return Ok(None);
     }
     let only = values_of(alloc, Flag::Only, settings)?;
     let most = drawn_most(value_of(Flag::Most, settings), only.len());
-    let request = page_at(positions, most, only);
+    let signature = value_of(Flag::Signature, settings);
+    let request = page_at(positions, most, signature, only);
     Ok(request)
 }
 

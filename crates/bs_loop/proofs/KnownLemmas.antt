@@ -47,20 +47,22 @@ nothing_here m e = cc
 
 -- ---- where no moment before the present is at hand
 
-known_alone : (r : Recording) (now : Dump) (stored : List Bool) (at : Option Moment) (sought : Sought) →
-    ((m : Moment) → at ≡ Some m → 1 ≤ m.cycle → ⊥) → SoughtOfAll r now.state stored now.older sought → IsCutAt r stored MAX_ASKS sought →
-    IsKnown r now stored at (known_by sought None None).cand (known_by sought None None).answer
-known_alone r now stored at (Found f) never h far =
+known_alone : (r : Recording) (now : Dump) (stored : List Bool) (b : ℕ) (at : Option Moment) (sought : Sought) →
+    ((m : Moment) → at ≡ Some m → 1 ≤ m.cycle → ⊥) → SoughtOfAll r now.state stored now.older sought →
+    IsCutAt r now.state stored now.older b MAX_ASKS sought →
+    IsKnown r now stored b at (known_by sought None None).cand (known_by sought None None).answer
+known_alone r now stored b at (Found f) never h far =
     record {
       right = h.recorded.cand;
       reach = of_first r now stored f.run f.cycle f.cand h.first h.recorded.state;
       sooner = λ m e low. absurd (never m e low);
     }
-known_alone r now stored at NoMoment never h far =
+known_alone r now stored b at NoMoment never h far =
     record { right = tt; reach = record { is = refl; none = h }; sooner = λ m e low. absurd (never m e low) }
-known_alone r now stored at (Cut m) never h far =
+known_alone r now stored b at (Cut m) never h far =
     record { right = tt; reach = record { stays = h; far = far }; sooner = λ m e low. absurd (never m e low) }
-known_alone r now stored at (Unsaid m) never h far = record { right = tt; reach = h; sooner = λ m e low. absurd (never m e low) }
+known_alone r now stored b at (Unsaid m) never h far =
+    record { right = tt; reach = record { stays = h; unknown = far }; sooner = λ m e low. absurd (never m e low) }
 
 -- ---- where it is
 
@@ -124,18 +126,18 @@ found_sooner r now stored m cand found run cycle floor first state =
       state = state;
     })
 
-known_above : (r : Recording) (now : Dump) (stored : List Bool) (m : Moment) (cand : Cand) (sought : Sought) → IsFloor r now stored m cand →
-    SoughtSooner r now.state stored now.older (moment m.run (m.cycle - 1)) sought → IsCutAt r stored MAX_ASKS sought →
-    IsKnown r now stored (Some m) (known_by sought (Some (moment m.run (m.cycle - 1))) (Some cand)).cand
+known_above : (r : Recording) (now : Dump) (stored : List Bool) (b : ℕ) (m : Moment) (cand : Cand) (sought : Sought) → IsFloor r now stored m cand →
+    SoughtSooner r now.state stored now.older (moment m.run (m.cycle - 1)) sought → IsCutAt r now.state stored now.older b MAX_ASKS sought →
+    IsKnown r now stored b (Some m) (known_by sought (Some (moment m.run (m.cycle - 1))) (Some cand)).cand
     (known_by sought (Some (moment m.run (m.cycle - 1))) (Some cand)).answer
-known_above r now stored m cand (Found f) floor h far =
+known_above r now stored b m cand (Found f) floor h far =
     let first : IsFirstIn r.circuit r.runs (asked_in r now.state stored now.older) (moment f.run f.cycle) = h.first in
     record {
       right = h.recorded.cand;
       reach = of_first r now stored f.run f.cycle f.cand first h.recorded.state;
       sooner = found_sooner r now stored m cand f.cand f.run f.cycle floor first h.recorded.state;
     }
-known_above r now stored m cand NoMoment floor h far =
+known_above r now stored b m cand NoMoment floor h far =
     record {
       right = floor.right;
       reach = of_first r now stored m.run (m.cycle - 1) cand
@@ -151,10 +153,10 @@ known_above r now stored m cand NoMoment floor h far =
           }) floor.state;
       sooner = floor_sooner r now stored m cand floor;
     }
-known_above r now stored m cand (Cut o) floor h far =
+known_above r now stored b m cand (Cut o) floor h far =
     record { right = floor.right; reach = record { stays = h; far = far }; sooner = floor_sooner r now stored m cand floor }
-known_above r now stored m cand (Unsaid o) floor h far =
-    record { right = floor.right; reach = h; sooner = floor_sooner r now stored m cand floor }
+known_above r now stored b m cand (Unsaid o) floor h far =
+    record { right = floor.right; reach = record { stays = h; unknown = far }; sooner = floor_sooner r now stored m cand floor }
 
 -- ---- in any case
 
@@ -179,19 +181,19 @@ floor_may r now (Some m) most stands few =
     subst (λ (o : Option Moment). IfSome o (λ (q : Moment). (1 ≤ q.run) × (q.cycle ≤ most))) (sym (a_floor m above))
     (stands.moment.from_one, omega (arith, low))) (cases_eq m.cycle 0)
 
-pub is_known : (r : Recording) (now : Dump) (stored : List Bool) (at : Option Moment) (sought : Sought) → IsRecording r → IfSome at (StandsIn r now) →
+pub is_known : (r : Recording) (now : Dump) (stored : List Bool) (b : ℕ) (at : Option Moment) (sought : Sought) → IsRecording r → IfSome at (StandsIn r now) →
     signatures_of now ≡ stored ∷ option_to_list now.older → SoughtWithin r now.state stored now.older (floor_of at) sought →
-    IsCutAt r stored MAX_ASKS sought →
-    IsKnown r now stored at (known_by sought (floor_of at) (known_before r at)).cand (known_by sought (floor_of at) (known_before r at)).answer
-is_known r now stored None sought sound stands held h far = known_alone r now stored None sought (λ m e low. nothing_here m e) h far
-is_known r now stored (Some m) sought sound stands held h far =
+    IsCutAt r now.state stored now.older b MAX_ASKS sought →
+    IsKnown r now stored b at (known_by sought (floor_of at) (known_before r at)).cand (known_by sought (floor_of at) (known_before r at)).answer
+is_known r now stored b None sought sound stands held h far = known_alone r now stored b None sought (λ m e low. nothing_here m e) h far
+is_known r now stored b (Some m) sought sound stands held h far =
     let Is : Option Moment → Option Cand → Type 0 =
-    λ place floor. IsKnown r now stored (Some m) (known_by sought place floor).cand (known_by sought place floor).answer in
+    λ place floor. IsKnown r now stored b (Some m) (known_by sought place floor).cand (known_by sought place floor).answer in
     ⊎_elim
     (λ (zero_cycle : m.cycle ≡ 0).
     subst (λ (place : Option Moment). Is place (known_before r (Some m))) (sym (no_floor m zero_cycle))
     (subst (Is None) (sym (none_at_zero r m zero_cycle))
-    (known_alone r now stored (Some m) sought
+    (known_alone r now stored b (Some m) sought
     (λ o e low. let same : m.cycle ≡ o.cycle = ap (λ (x : Moment). x.cycle) (same_moment m o e) in omega (arith, same, zero_cycle, low))
     (subst (λ (o : Option Moment). SoughtWithin r now.state stored now.older o sought) (no_floor m zero_cycle) h) far)))
     (λ (above : m.cycle ≡ 0 → ⊥).
@@ -207,7 +209,7 @@ is_known r now stored (Some m) sought sound stands held h far =
     } in
     subst (λ (place : Option Moment). Is place (known_before r (Some m))) (sym (a_floor m above))
     (subst (Is (Some (moment m.run (m.cycle - 1)))) (sym is)
-    (known_above r now stored m cand sought floor (subst (λ (o : Option Moment). SoughtWithin r now.state stored now.older o sought) (a_floor m above) h)
+    (known_above r now stored b m cand sought floor (subst (λ (o : Option Moment). SoughtWithin r now.state stored now.older o sought) (a_floor m above) h)
     far)))
     (cases_eq m.cycle 0)
 
@@ -335,38 +337,38 @@ met_counted r now stored known first old new k b listing circuits choices whole 
 
 -- ---- what a search has seen of a list
 
-seen_whole : (r : Recording) (now : Dump) (stored : List Bool) (known : Option Cand) (cands : List Cand) (first : Option Moment) (reach : Reach) →
-    Reaches r (asked_in r now.state stored now.older) stored known first reach →
+seen_whole : (r : Recording) (now : Dump) (stored : List Bool) (b : ℕ) (known : Option Cand) (cands : List Cand) (first : Option Moment) (reach : Reach) →
+    Reaches r now.state stored now.older b known first reach →
     (MatchOption known (IsOfNone r (asked_in r now.state stored now.older) first) (IsOfFirst r (asked_in r now.state stored now.older) first) →
     first_moment r.circuit r.runs (listed cands) ≡ first_moment r.circuit r.runs (asked_in r now.state stored now.older)) →
     Sees r cands (seen_at first reach)
-seen_whole r now stored known cands first Whole h met = (
+seen_whole r now stored b known cands first Whole h met = (
   met h ∙ found_whole r (asked_in r now.state stored now.older) known first h,
   whole_moment r (asked_in r now.state stored now.older) known first h,
 )
-seen_whole r now stored known cands first (Limited m) h met = tt
-seen_whole r now stored known cands first (Unanswered m) h met = tt
+seen_whole r now stored b known cands first (Limited m) h met = tt
+seen_whole r now stored b known cands first (Unanswered m) h met = tt
 
 seen_given : (r : Recording) (now : Dump) (stored : List Bool) (known : Option Cand) (answer : SearchAnswer) (old new : PreimageState) (k b : ℕ)
     (listing : Listing) → old.circuit ≡ r.circuit → old.choice ≡ r.choice →
-    Reaches r (asked_in r now.state stored now.older) stored known answer.first answer.reach →
+    Reaches r now.state stored now.older b known answer.first answer.reach →
     HasListed old new now.state stored now.older known k b listing → (end : ListEnd) → listing.end ≡ end →
     Sees r listing.cands (seen_by (Some answer) end)
 seen_given r now stored known answer old new k b listing circuits choices h l (Finished id) e =
-    seen_whole r now stored known listing.cands answer.first answer.reach h
+    seen_whole r now stored b known listing.cands answer.first answer.reach h
     (λ whole. met_finished r now stored known old new k b id listing circuits choices l e)
 seen_given r now stored known answer old new k b listing circuits choices h l Candidates e =
-    seen_whole r now stored known listing.cands answer.first answer.reach h
+    seen_whole r now stored b known listing.cands answer.first answer.reach h
     (λ whole. met_counted r now stored known answer.first old new k b listing circuits choices whole l e)
 seen_given r now stored known answer old new k b listing circuits choices h l Conflicts e = tt
 
 seen : (r : Recording) (now : Dump) (stored : List Bool) (at : Option Moment) (known : Option Cand) (answer : Option SearchAnswer)
     (old new : PreimageState) (k b : ℕ) (listing : Listing) → old.circuit ≡ r.circuit → old.choice ≡ r.choice →
-    HasListed old new now.state stored now.older known k b listing → IsAnswered r now stored at listing.end known answer →
+    HasListed old new now.state stored now.older known k b listing → IsAnswered r now stored b at listing.end known answer →
     Sees r listing.cands (seen_by answer listing.end)
 seen r now stored at known answer old new k b listing circuits choices l answered = by answered.either
   where
-    by : ((answer ≡ None) × (listing.end ≢ Candidates)) ⊎ IsAsked r now stored at known answer → Sees r listing.cands (seen_by answer listing.end)
+    by : ((answer ≡ None) × (listing.end ≢ Candidates)) ⊎ IsAsked r now stored b at known answer → Sees r listing.cands (seen_by answer listing.end)
     by (inl none) = subst (λ (o : Option SearchAnswer). Sees r listing.cands (seen_by o listing.end)) (sym none.0) tt
     by (inr asked) =
         subst (λ (o : Option SearchAnswer). Sees r listing.cands (seen_by o listing.end)) (sym asked.is)
@@ -374,7 +376,7 @@ seen r now stored at known answer old new k b listing circuits choices l answere
 
 pub sees : (r : Recording) (now : Dump) (stored : List Bool) (at : Option Moment) (known : Option Cand) (answer : Option SearchAnswer)
     (old new : PreimageState) (k b : ℕ) (listing : Listing) → old.circuit ≡ r.circuit → old.choice ≡ r.choice →
-    HasListed old new now.state stored now.older known k b listing → IsAnswered r now stored at listing.end known answer →
+    HasListed old new now.state stored now.older known k b listing → IsAnswered r now stored b at listing.end known answer →
     Sees r listing.cands (sight_by at answer listing.end)
 sees r now stored None known answer old new k b listing circuits choices l answered = tt
 sees r now stored (Some m) known answer old new k b listing circuits choices l answered =

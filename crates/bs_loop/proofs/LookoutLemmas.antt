@@ -1,5 +1,5 @@
 -- What a list asks, and what it was answered.
-use Rattle.std.proofs.Common.{◌≡◌, inl, inr, ◌+◌, length, ap, subst, sym, ◌∙◌, None}
+use Rattle.std.proofs.Common.{◌≡◌, inl, inr, ℕ, ◌+◌, length, ap, subst, sym, ◌∙◌, None}
 use Rattle.std.specs.Prelude.{IfSome}
 use Rattle.bs_net.specs.Circuit.{Circuit}
 use Rattle.bs_scan.specs.Choice.{Chosen}
@@ -27,23 +27,24 @@ knows_right l c choice circuits choices =
 
 -- a list that asked, or did not
 pub listed_from : (r : Recording) (budgets : Budgets) (old new : PreimageState) (l after : Lookout) (listing : Listing) → l.chip.now.recording ≡ r →
-    l.answer ≡ None → new.calls ≡ old.calls + 1 →
+    l.b ≡ budgets.conflicts → l.answer ≡ None → new.calls ≡ old.calls + 1 →
     HasAsked Knows l after (λ known. HasListed old new l.now.now.state l.stored.now l.now.now.older known budgets.candidates budgets.conflicts listing)
     budgets.candidates (length listing.cands) listing.end →
     HasListedFrom r budgets old new l.now.now l.stored.now l.at listing after.answer
-listed_from r budgets old new l after listing is unasked calls (inl sooner) =
+listed_from r budgets old new l after listing is budget unasked calls (inl sooner) =
     record {
       known = None;
       listed = sooner.made;
       calls = calls;
       answered = record { either = inl (ap (λ (x : Lookout). x.answer) sooner.same ∙ unasked, sooner.sooner) };
     }
-listed_from r budgets old new l after listing is unasked calls (inr asked) =
+listed_from r budgets old new l after listing is budget unasked calls (inr asked) =
     record {
       known = asked.known;
       listed = asked.made;
       calls = calls;
       answered = record {
-        either = inr (subst (λ (r : Recording). IsAsked r l.now.now l.stored.now l.at asked.known after.answer) is asked.answer.answered);
+        either = inr (subst (λ (r : Recording). IsAsked r l.now.now l.stored.now budgets.conflicts l.at asked.known after.answer) is
+            (subst (λ (b : ℕ). IsAsked l.chip.now.recording l.now.now l.stored.now b l.at asked.known after.answer) budget asked.answer.answered));
       };
     }

@@ -76,18 +76,19 @@ problem_more crash steps step =
     ∙ ap (steps_from e 1) (sym (map-append present_of steps (step ∷ [])))
 
 -- where a list ended by its count, something was asked
-known_there : (r : Recording) (now : Dump) (stored : List Bool) (at : Option Moment) (known : Option Cand) (answer : Option SearchAnswer) (listing : Listing) →
-    IsAnswered r now stored at listing.end known answer → listing.end ≡ Candidates → (m : Moment) → at ≡ Some m → 1 ≤ m.cycle → HasSooner r known m
-known_there r now stored at known answer listing answered ended m here low = by answered.either
+known_there : (r : Recording) (now : Dump) (stored : List Bool) (b : ℕ) (at : Option Moment) (known : Option Cand) (answer : Option SearchAnswer)
+    (listing : Listing) → IsAnswered r now stored b at listing.end known answer → listing.end ≡ Candidates → (m : Moment) → at ≡ Some m →
+    1 ≤ m.cycle → HasSooner r known m
+known_there r now stored b at known answer listing answered ended m here low = by answered.either
   where
-    by : ((answer ≡ None) × (listing.end ≢ Candidates)) ⊎ IsAsked r now stored at known answer → HasSooner r known m
+    by : ((answer ≡ None) × (listing.end ≢ Candidates)) ⊎ IsAsked r now stored b at known answer → HasSooner r known m
     by (inl none) = absurd (none.1 ended)
     by (inr asked) = asked.known_is.sooner m here low
 
 -- where the last hit is above cycle 0, a candidate of an earlier moment is known, and so a list that ends by its count has it
 lists_before : (r : Recording) (dump : Dump) (steps : List Step) (old new : PreimageState) (now : Dump) (at : Option Moment) (stored : List Bool)
     (known : Option Cand) (answer : Option SearchAnswer) (k b : ℕ) (listing : Listing) (hit : Option Hit) → at ≡ last_moment steps →
-    IsAnswered r now stored at listing.end known answer →
+    IsAnswered r now stored b at listing.end known answer →
     HasListed old new now.state stored now.older known k b listing → (earlier : Step) → last_or None steps ≡ Some earlier →
     listing.end ≡ Candidates → ListsBefore (crash_of r dump) earlier (step_of now stored listing hit)
 lists_before r dump steps old new now at stored known answer k b listing hit last answered l earlier there ended =
@@ -97,7 +98,7 @@ lists_before r dump steps old new now at stored known answer k b listing hit las
           last ∙ (ap (option_and_then (λ (s : Step). option_map (λ (x : HitLine). moment x.run x.cycle) s.hit)) there
           ∙ ap (option_map (λ (x : HitLine). moment x.run x.cycle)) is) in
           let s : HasSooner r known (moment h.run h.cycle) =
-          known_there r now stored at known answer listing answered ended (moment h.run h.cycle) here low in
+          known_there r now stored b at known answer listing answered ended (moment h.run h.cycle) here low in
           record {
             there = s.there;
             recorded = s.recorded;

@@ -41,7 +41,7 @@ unasked_met r now stored known old new k b listing circuits choices l Conflicts 
 
 -- one that a whole search answered
 asked_met : (r : Recording) (now : Dump) (stored : List Bool) (known : Option Cand) (first : Option Moment) (old new : PreimageState) (k b : ℕ)
-    (listing : Listing) → old.circuit ≡ r.circuit → old.choice ≡ r.choice → Reaches r (asked_in r now.state stored now.older) stored known first Whole →
+    (listing : Listing) → old.circuit ≡ r.circuit → old.choice ≡ r.choice → Reaches r now.state stored now.older b known first Whole →
     HasListed old new now.state stored now.older known k b listing → (end : ListEnd) → listing.end ≡ end → end ≢ Conflicts →
     first_moment r.circuit r.runs (listed listing.cands) ≡ first_moment r.circuit r.runs (asked_in r now.state stored now.older)
 asked_met r now stored known first old new k b listing circuits choices h l (Finished id) e spent =
@@ -53,7 +53,8 @@ asked_met r now stored known first old new k b listing circuits choices h l Conf
 given_hits : (r : Recording) (budgets : Budgets) (old new : PreimageState) (now : Dump) (stored : List Bool) (at : Option Moment) (listing : Listing)
     (hit : Option Hit) (reach : Reach) (answer : SearchAnswer) (given_reach : Reach) → old.circuit ≡ r.circuit → old.choice ≡ r.choice →
     (from : HasLookedFrom r budgets old new now stored at listing hit reach) →
-    Reaches r (asked_in r now.state stored now.older) stored from.known answer.first given_reach → HitsBy r (step_of now stored listing hit) given_reach
+    Reaches r now.state stored now.older budgets.conflicts from.known answer.first given_reach →
+    HitsBy r budgets.conflicts (step_of now stored listing hit) given_reach
 given_hits r budgets old new now stored at listing hit reach answer Whole circuits choices from h =
     λ spent.
     from.back.line
@@ -65,14 +66,14 @@ given_hits r budgets old new now stored at listing hit reach answer (Unanswered 
 
 looked_hits : (r : Recording) (budgets : Budgets) (old new : PreimageState) (now : Dump) (stored : List Bool) (at : Option Moment) (listing : Listing)
     (hit : Option Hit) (reach : Reach) → old.circuit ≡ r.circuit → old.choice ≡ r.choice →
-    HasLookedFrom r budgets old new now stored at listing hit reach → HitsBy r (step_of now stored listing hit) reach
+    HasLookedFrom r budgets old new now stored at listing hit reach → HitsBy r budgets.conflicts (step_of now stored listing hit) reach
 looked_hits r budgets old new now stored at listing hit reach circuits choices from = by from.answered.either
   where
-    by : ((from.answer ≡ None) × (listing.end ≢ Candidates)) ⊎ IsAsked r now stored at from.known from.answer →
-        HitsBy r (step_of now stored listing hit) reach
+    by : ((from.answer ≡ None) × (listing.end ≢ Candidates)) ⊎ IsAsked r now stored budgets.conflicts at from.known from.answer →
+        HitsBy r budgets.conflicts (step_of now stored listing hit) reach
     by (inl none) =
         let is : reach ≡ Whole = from.reach_is ∙ ap reach_by none.0 in
-        subst (HitsBy r (step_of now stored listing hit)) (sym is)
+        subst (HitsBy r budgets.conflicts (step_of now stored listing hit)) (sym is)
         (λ spent.
         from.back.line
         ∙ ap (line_at r)
@@ -80,26 +81,26 @@ looked_hits r budgets old new now stored at listing hit reach circuits choices f
         none.1 spent))
     by (inr asked) =
         let is : reach ≡ asked.given.reach = from.reach_is ∙ ap reach_by asked.is in
-        subst (HitsBy r (step_of now stored listing hit)) (sym is)
+        subst (HitsBy r budgets.conflicts (step_of now stored listing hit)) (sym is)
         (given_hits r budgets old new now stored at listing hit reach asked.given asked.given.reach circuits choices from asked.known_is.reach)
 
 -- the step of a list
 pub step_hits : (r : Recording) (budgets : Budgets) (old new : PreimageState) (now : Dump) (stored : List Bool) (at : Option Moment) (listing : Listing)
     (hit : Option Hit) (reach : Reach) (step : Step) → old.circuit ≡ r.circuit → old.choice ≡ r.choice →
-    HasLookedFrom r budgets old new now stored at listing hit reach → step ≡ step_of now stored listing hit → HitsFirst r step reach
+    HasLookedFrom r budgets old new now stored at listing hit reach → step ≡ step_of now stored listing hit → HitsFirst r budgets.conflicts step reach
 step_hits r budgets old new now stored at listing hit reach step circuits choices from is =
-    subst (λ (s : Step). HitsFirst r s reach) (sym is)
+    subst (λ (s : Step). HitsFirst r budgets.conflicts s reach) (sym is)
     (record { hit = looked_hits r budgets old new now stored at listing hit reach circuits choices from })
 
-pub turn_searched : {A E : Type 0} (r : Recording) (steps more : List Step) (reaches longer : List Reach) (step : Step) (reach : Reach) (result : Result A E) →
-    IfOk result (λ _. more ≡ steps ++ step ∷ []) → IfOk result (λ _. longer ≡ reaches ++ reach ∷ []) → HitsFirst r step reach →
-    IfOk result (λ _. IsTurnSearched r steps more reaches longer)
-turn_searched r steps more reaches longer step reach (Ok done) made noted hits =
+pub turn_searched : {A E : Type 0} (r : Recording) (b : ℕ) (steps more : List Step) (reaches longer : List Reach) (step : Step) (reach : Reach)
+    (result : Result A E) → IfOk result (λ _. more ≡ steps ++ step ∷ []) → IfOk result (λ _. longer ≡ reaches ++ reach ∷ []) →
+    HitsFirst r b step reach → IfOk result (λ _. IsTurnSearched r b steps more reaches longer)
+turn_searched r b steps more reaches longer step reach (Ok done) made noted hits =
     record { either = inr (record { step = step; reach = reach; made = made; noted = noted; hits = hits }) }
-turn_searched r steps more reaches longer step reach (Err want) made noted hits = tt
+turn_searched r b steps more reaches longer step reach (Err want) made noted hits = tt
 
-pub none_searched : (r : Recording) (reaches : List Reach) → reaches ≡ [] → AreSearched r [] reaches
-none_searched r reaches is = subst (AreSearched r []) (sym is) (record { count = refl; each = λ i step reach e f. cc })
+pub none_searched : (r : Recording) (b : ℕ) (reaches : List Reach) → reaches ≡ [] → AreSearched r b [] reaches
+none_searched r b reaches is = subst (AreSearched r b []) (sym is) (record { count = refl; each = λ i step reach e f. cc })
 
 each_more : (P : Reach → Step → Type 0) (steps : List Step) (step : Step) (reaches : List Reach) (reach : Reach) → length reaches ≡ length steps →
     ((i : ℕ) (s : Step) (x : Reach) → slice_get steps i ≡ Some s → slice_get reaches i ≡ Some x → P x s) → P reach step →
@@ -113,26 +114,26 @@ each_more P (t ∷ ts) step (b ∷ bs) reach e h p zero s x is at = h zero s x i
 each_more P (t ∷ ts) step (b ∷ bs) reach e h p (suc i) s x is at =
     each_more P ts step bs reach (omega (arith, e)) (λ j s x q a. h (suc j) s x q a) p i s x is at
 
-one_more : (r : Recording) (steps more : List Step) (reaches longer : List Reach) → AreSearched r steps reaches →
-    IsOneSearched r steps more reaches longer → AreSearched r more longer
-one_more r steps more reaches longer all one =
-    subst (λ (l : List Step). AreSearched r l longer) (sym one.made)
-    (subst (AreSearched r (steps ++ one.step ∷ [])) (sym one.noted)
+one_more : (r : Recording) (b : ℕ) (steps more : List Step) (reaches longer : List Reach) → AreSearched r b steps reaches →
+    IsOneSearched r b steps more reaches longer → AreSearched r b more longer
+one_more r b steps more reaches longer all one =
+    subst (λ (l : List Step). AreSearched r b l longer) (sym one.made)
+    (subst (AreSearched r b (steps ++ one.step ∷ [])) (sym one.noted)
     (record {
       count = length-append reaches (one.reach ∷ []) ∙ (ap (λ (n : ℕ). n + 1) all.count ∙ sym (length-append steps (one.step ∷ [])));
-      each = each_more (λ x s. HitsFirst r s x) steps one.step reaches one.reach all.count all.each one.hits;
+      each = each_more (λ x s. HitsFirst r b s x) steps one.step reaches one.reach all.count all.each one.hits;
     }))
 
-pub searched_more : (r : Recording) (steps more : List Step) (reaches longer : List Reach) → AreSearched r steps reaches →
-    IsTurnSearched r steps more reaches longer → AreSearched r more longer
-searched_more r steps more reaches longer all turn = by turn.either
+pub searched_more : (r : Recording) (b : ℕ) (steps more : List Step) (reaches longer : List Reach) → AreSearched r b steps reaches →
+    IsTurnSearched r b steps more reaches longer → AreSearched r b more longer
+searched_more r b steps more reaches longer all turn = by turn.either
   where
-    by : ((more ≡ steps) × (longer ≡ reaches)) ⊎ IsOneSearched r steps more reaches longer → AreSearched r more longer
-    by (inl same) = subst (λ (l : List Step). AreSearched r l longer) (sym same.0) (subst (AreSearched r steps) (sym same.1) all)
-    by (inr one) = one_more r steps more reaches longer all one
+    by : ((more ≡ steps) × (longer ≡ reaches)) ⊎ IsOneSearched r b steps more reaches longer → AreSearched r b more longer
+    by (inl same) = subst (λ (l : List Step). AreSearched r b l longer) (sym same.0) (subst (AreSearched r b steps) (sym same.1) all)
+    by (inr one) = one_more r b steps more reaches longer all one
 
 -- what was searched for the steps of a result
-pub were_searched : {A E : Type 0} (r : Recording) (steps : A → List Step) (reaches : List Reach) (result : Result A E) →
-    IfOk result (λ way. AreSearched r (steps way) reaches) → IfOk result (λ way. WereSearched r (steps way))
-were_searched r steps reaches (Ok way) are = record { reaches = reaches; are = are }
-were_searched r steps reaches (Err want) are = tt
+pub were_searched : {A E : Type 0} (r : Recording) (b : ℕ) (steps : A → List Step) (reaches : List Reach) (result : Result A E) →
+    IfOk result (λ way. AreSearched r b (steps way) reaches) → IfOk result (λ way. WereSearched r b (steps way))
+were_searched r b steps reaches (Ok way) are = record { reaches = reaches; are = are }
+were_searched r b steps reaches (Err want) are = tt

@@ -1,5 +1,5 @@
 -- What is known of the states before a present.
-use Rattle.std.specs.Prelude.{◌≡◌, ◌≢◌, ◌⊎◌, ◌-◌, ◌==◌, ◌<◌, ◌≤◌, Bool, if◌then◌else◌, List, Option, Some, None, IfSome, MatchOption}
+use Rattle.std.specs.Prelude.{◌≡◌, ◌≢◌, ◌⊎◌, ℕ, ◌-◌, ◌==◌, ◌<◌, ◌≤◌, Bool, if◌then◌else◌, List, Option, Some, None, IfSome, MatchOption}
 use Rattle.bs_scan.specs.declared.dump.Dump.{Dump}
 use Rattle.bs_scan.specs.Crash.{Recording}
 use Rattle.bs_scan.specs.Moments.{Moment, moment, IsMoment, state_of, first_moment}
@@ -12,7 +12,7 @@ use Rattle.bs_preimage.specs.Listed.{IsRightCand}
 use Rattle.bs_preimage_recorded.specs.declared.search.Sought.{Sought}
 use Rattle.bs_preimage_recorded.specs.declared.search.Sought.TheVariants.{Found, NoMoment, Cut, Unsaid}
 use Rattle.bs_preimage_recorded.specs.declared.search.TheConstants.{MAX_ASKS}
-use Rattle.bs_preimage_recorded.specs.Search.{asked_in, alike_before, StaysOpen}
+use Rattle.bs_preimage_recorded.specs.Search.{asked_in, alike_before, IsUnknownAt, StaysOpen}
 use Rattle.bs_loop.specs.declared.known.SearchAnswer.{SearchAnswer}
 use Rattle.bs_loop.specs.declared.known.KnownCand.{KnownCand}
 use Rattle.bs_loop.specs.declared.known.Reach.{Reach}
@@ -50,12 +50,19 @@ pub record IsCutFar (r : Recording) (states : List (List Bool)) (stored : List B
   pub stays : StaysOpen r states stored m
   pub far : MAX_ASKS ≤ alike_before r stored m
 
--- How far the recorded moments were searched for one of these states, which have this stored signature: the known candidate is of the first
--- of all, or no moment is in one; or the search was cut.
-abbrev pub Reaches : Recording → List (List Bool) → List Bool → Option Cand → Option Moment → Reach → Type 0
-Reaches r states stored known first Whole = MatchOption known (IsOfNone r states first) (IsOfFirst r states first)
-Reaches r states stored known first (Limited m) = IsCutFar r states stored m
-Reaches r states stored known first (Unanswered m) = StaysOpen r states stored m
+-- No moment before one is in a predecessor of the present with these stored signatures. Whether this one is stays unknown: the solve of that
+-- question spent its budget, which is b, or it cannot be asked. The moment's signature has the hash of the stored one.
+pub record IsLeftOpen (r : Recording) (present stored : List Bool) (older : Option (List Bool)) (b : ℕ) (m : Moment) : Type 0 where
+  pub stays : StaysOpen r (asked_in r present stored older) stored m
+  pub unknown : IsUnknownAt r present stored older b m
+
+-- How far the recorded moments were searched for a predecessor of the present with these stored signatures, where b is the budget of a solve:
+-- the known candidate is of the first of all, or no moment is in one; or the search was cut.
+abbrev pub Reaches : Recording → List Bool → List Bool → Option (List Bool) → ℕ → Option Cand → Option Moment → Reach → Type 0
+Reaches r present stored older b known first Whole =
+    MatchOption known (IsOfNone r (asked_in r present stored older) first) (IsOfFirst r (asked_in r present stored older) first)
+Reaches r present stored older b known first (Limited m) = IsCutFar r (asked_in r present stored older) stored m
+Reaches r present stored older b known first (Unanswered m) = IsLeftOpen r present stored older b m
 
 -- a candidate is known that has the state of a moment before the cycle of another
 pub record HasSooner (r : Recording) (known : Option Cand) (m : Moment) : Type 0 where
@@ -66,24 +73,25 @@ pub record HasSooner (r : Recording) (known : Option Cand) (m : Moment) : Type 0
   pub sooner : there.cycle < m.cycle
   pub state : cand.state ≡ state_of r.circuit r.runs there
 
--- A known candidate is right, and is what the search has reached. Where the present is at a moment above cycle 0, one of an earlier cycle
--- is known.
-pub record IsKnown (r : Recording) (now : Dump) (stored : List Bool) (at : Option Moment) (known : Option Cand) (answer : SearchAnswer) : Type 0 where
+-- A known candidate is right, and is what the search has reached, where b is the budget of a solve. Where the present is at a moment above
+-- cycle 0, one of an earlier cycle is known.
+pub record IsKnown (r : Recording) (now : Dump) (stored : List Bool) (b : ℕ) (at : Option Moment) (known : Option Cand) (answer : SearchAnswer) :
+    Type 0 where
   pub right : IfSome known (IsRightCand r.circuit r.choice now.state stored now.older)
-  pub reach : Reaches r (asked_in r now.state stored now.older) stored known answer.first answer.reach
+  pub reach : Reaches r now.state stored now.older b known answer.first answer.reach
   pub sooner : (m : Moment) → at ≡ Some m → 1 ≤ m.cycle → HasSooner r known m
 
 -- an answer was given
-pub record IsAsked (r : Recording) (now : Dump) (stored : List Bool) (at : Option Moment) (known : Option Cand) (answer : Option SearchAnswer) :
-    Type 0 where
+pub record IsAsked (r : Recording) (now : Dump) (stored : List Bool) (b : ℕ) (at : Option Moment) (known : Option Cand)
+    (answer : Option SearchAnswer) : Type 0 where
   pub given : SearchAnswer
   pub is : answer ≡ Some given
-  pub known_is : IsKnown r now stored at known given
+  pub known_is : IsKnown r now stored b at known given
 
 -- A list ended before its last place was left, and nothing was asked; or what is known is so.
-pub record IsAnswered (r : Recording) (now : Dump) (stored : List Bool) (at : Option Moment) (end : ListEnd) (known : Option Cand)
+pub record IsAnswered (r : Recording) (now : Dump) (stored : List Bool) (b : ℕ) (at : Option Moment) (end : ListEnd) (known : Option Cand)
     (answer : Option SearchAnswer) : Type 0 where
-  pub either : ((answer ≡ None) × (end ≢ Candidates)) ⊎ IsAsked r now stored at known answer
+  pub either : ((answer ≡ None) × (end ≢ Candidates)) ⊎ IsAsked r now stored b at known answer
 
 -- how far the search came for a list that may have asked: what is not asked about is all in the list
 abbrev pub reach_by : Option SearchAnswer → Reach

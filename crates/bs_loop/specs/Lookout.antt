@@ -25,4 +25,4 @@ pub record IsSameLookout (old new : Lookout) : Type 0 where
 
 -- it has answered with a candidate, or with none
 pub record Knows (old : Lookout) (known : Option Cand) (new : Lookout) : Type 0 where
-  pub answered : IsAsked old.chip.now.recording old.now.now old.stored.now old.at known new.answer
+  pub answered : IsAsked old.chip.now.recording old.now.now old.stored.now old.b old.at known new.answer

@@ -7,8 +7,7 @@ use Rattle.bs_report.specs.declared.report.HitLine.{HitLine}
 use Rattle.bs_report.specs.declared.report.ListEnd.TheVariants.{Conflicts}
 use Rattle.bs_report.specs.declared.report.Step.{Step}
 use Rattle.bs_report_good.specs.Step.{stored_of}
-use Rattle.bs_preimage_recorded.specs.Search.{StaysOpen}
-use Rattle.bs_loop.specs.KnownCand.{IsCutFar}
+use Rattle.bs_loop.specs.KnownCand.{IsCutFar, IsLeftOpen}
 use Rattle.bs_loop.specs.declared.known.Reach.{Reach}
 use Rattle.bs_loop.specs.declared.known.Reach.TheVariants.{Whole, Limited, Unanswered}
 
@@ -24,33 +23,34 @@ sought_by r step = predecessors r.circuit r.choice step.present (stored_of step)
 -- A step whose search was whole, and whose list did not end with conflicts, hits the first moment of any run in a predecessor, of all
 -- predecessors and not only of the listed ones; and where it has no hit, no recorded moment is in one. Where the search was cut, no moment
 -- before one is, of which nothing is known. Its signature has the hash of the stored one. So have as many before it as a search may ask
--- about, or else the solver said nothing of it.
-abbrev pub HitsBy : Recording → Step → Reach → Type 0
-HitsBy r step Whole = step.end ≢ Conflicts → step.hit ≡ hit_among r (sought_by r step)
-HitsBy r step (Limited m) = IsCutFar r (sought_by r step) step.stored m
-HitsBy r step (Unanswered m) = StaysOpen r (sought_by r step) step.stored m
+-- about. Or else it stays unknown whether its state is a predecessor: the solve of that question spent its budget, which is b, or it cannot
+-- be asked.
+abbrev pub HitsBy : Recording → ℕ → Step → Reach → Type 0
+HitsBy r b step Whole = step.end ≢ Conflicts → step.hit ≡ hit_among r (sought_by r step)
+HitsBy r b step (Limited m) = IsCutFar r (sought_by r step) step.stored m
+HitsBy r b step (Unanswered m) = IsLeftOpen r step.present step.stored step.older b m
 
-pub record HitsFirst (r : Recording) (step : Step) (reach : Reach) : Type 0 where
-  pub hit : HitsBy r step reach
+pub record HitsFirst (r : Recording) (b : ℕ) (step : Step) (reach : Reach) : Type 0 where
+  pub hit : HitsBy r b step reach
 
 -- each step does, by how far was searched for it
-pub record AreSearched (r : Recording) (steps : List Step) (reaches : List Reach) : Type 0 where
+pub record AreSearched (r : Recording) (b : ℕ) (steps : List Step) (reaches : List Reach) : Type 0 where
   pub count : length reaches ≡ length steps
-  pub each : (i : ℕ) (step : Step) (reach : Reach) → slice_get steps i ≡ Some step → slice_get reaches i ≡ Some reach → HitsFirst r step reach
+  pub each : (i : ℕ) (step : Step) (reach : Reach) → slice_get steps i ≡ Some step → slice_get reaches i ≡ Some reach → HitsFirst r b step reach
 
 -- they do, by what was searched for each
-pub record WereSearched (r : Recording) (steps : List Step) : Type 0 where
+pub record WereSearched (r : Recording) (b : ℕ) (steps : List Step) : Type 0 where
   pub reaches : List Reach
-  pub are : AreSearched r steps reaches
+  pub are : AreSearched r b steps reaches
 
 -- one more step, and how far was searched for it
-pub record IsOneSearched (r : Recording) (steps more : List Step) (reaches longer : List Reach) : Type 0 where
+pub record IsOneSearched (r : Recording) (b : ℕ) (steps more : List Step) (reaches longer : List Reach) : Type 0 where
   pub step : Step
   pub reach : Reach
   pub made : more ≡ steps ++ step ∷ []
   pub noted : longer ≡ reaches ++ reach ∷ []
-  pub hits : HitsFirst r step reach
+  pub hits : HitsFirst r b step reach
 
 -- one more, or none
-pub record IsTurnSearched (r : Recording) (steps more : List Step) (reaches longer : List Reach) : Type 0 where
-  pub either : ((more ≡ steps) × (longer ≡ reaches)) ⊎ IsOneSearched r steps more reaches longer
+pub record IsTurnSearched (r : Recording) (b : ℕ) (steps more : List Step) (reaches longer : List Reach) : Type 0 where
+  pub either : ((more ≡ steps) × (longer ≡ reaches)) ⊎ IsOneSearched r b steps more reaches longer

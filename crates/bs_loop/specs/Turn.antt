@@ -48,14 +48,14 @@ pub record HasListedFrom (r : Recording) (budgets : Budgets) (old new : Preimage
   pub known : Option Cand
   pub listed : HasListed old new now.state stored now.older known budgets.candidates budgets.conflicts listing
   pub calls : new.calls ≡ old.calls + 1
-  pub answered : IsAnswered r now stored at listing.end known answer
+  pub answered : IsAnswered r now stored budgets.conflicts at listing.end known answer
 
 -- the same with the first moment of a run in a listed state, and how far the recorded moments were searched
 pub record HasLookedFrom (r : Recording) (budgets : Budgets) (old new : PreimageState) (now : Dump) (stored : List Bool) (at : Option Moment)
     (listing : Listing) (hit : Option Hit) (reach : Reach) : Type 0 where
   pub known : Option Cand
   pub answer : Option SearchAnswer
-  pub answered : IsAnswered r now stored at listing.end known answer
+  pub answered : IsAnswered r now stored budgets.conflicts at listing.end known answer
   pub reach_is : reach ≡ reach_by answer
   pub back : HasLookedBack r budgets old new now stored known listing hit
 

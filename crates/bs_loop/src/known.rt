@@ -29,7 +29,8 @@ pub enum Reach {
     /// As many states as the limit were asked about, each with the hash of the stored signature. No moment before this one is in a
     /// predecessor.
     Limited(Moment),
-    /// The solver did not say whether the state of this moment is a predecessor. No moment before it is in one.
+    /// It is not known whether the state of this moment is a predecessor: a solve about it spent its budget, or it cannot be asked about.
+    /// No moment before it is in one.
     Unanswered(Moment),
 }
 
@@ -97,7 +98,7 @@ fn seek<'a>(
     requires stored { signatures_of now.now ≡ stored.now ∷ option_to_list now.now.older }
     requires conflicts { 1 ≤ b }
     ensures sought { IfOk result (SoughtWithin chip.old.recording now.now.state stored.now now.now.older (floor_of at)) }
-    ensures cut { IfOk result (IsCutAt chip.old.recording stored.now MAX_ASKS) }
+    ensures cut { IfOk result (IsCutAt chip.old.recording now.now.state stored.now now.now.older b MAX_ASKS) }
     ensures chip { chip.new ≡ chip.old }
     ensures finder { finder.new.recording ≡ finder.old.recording }
 {
@@ -187,7 +188,7 @@ pub fn known_for<'a>(
     requires at { IfSome at (StandsIn chip.old.recording now.now) }
     requires stored { signatures_of now.now ≡ stored.now ∷ option_to_list now.now.older }
     requires conflicts { 1 ≤ b }
-    ensures known { IfOk result (λ known. IsKnown chip.old.recording now.now stored.now at known.cand known.answer) }
+    ensures known { IfOk result (λ known. IsKnown chip.old.recording now.now stored.now b at known.cand known.answer) }
     ensures chip { chip.new ≡ chip.old }
     ensures finder { finder.new.recording ≡ finder.old.recording }
 {

@@ -271,7 +271,7 @@ pub fn turn<'a>(
     requires budgets { IsBudget budgets.now }
     requires calls { preimage.old.calls < MAX_STEPS }
     ensures turn { IfOk result (λ stop. MatchOption stop (HasStepped chip.old.recording budgets.now steps.old steps.new preimage.old preimage.new now.old now.new at.old at.new) (HasStopped chip.old.recording budgets.now steps.old steps.new preimage.old preimage.new now.old at.old)) }
-    ensures searched { IfOk result (λ _. IsTurnSearched chip.old.recording steps.old steps.new searched.old searched.new) }
+    ensures searched { IfOk result (λ _. IsTurnSearched chip.old.recording budgets.now.conflicts steps.old steps.new searched.old searched.new) }
     ensures chip { chip.new.recording ≡ chip.old.recording }
     ensures finder { finder.new.recording ≡ finder.old.recording }
 {

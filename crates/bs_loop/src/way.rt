@@ -65,7 +65,7 @@ fn walk_turns<'a>(
     requires fresh { preimage.old ≡ fresh chip.old.recording.circuit chip.old.recording.choice }
     requires dump { DumpFits chip.old.recording.circuit chip.old.recording.choice dump.now }
     requires budgets { IsBudget budgets.now }
-    ensures searched { IfOk result (λ way. AreSearched chip.old.recording way.steps searched.new) }
+    ensures searched { IfOk result (λ way. AreSearched chip.old.recording budgets.now.conflicts way.steps searched.new) }
     ensures made { IfOk result (λ way. HasMade (crash_of chip.old.recording dump.now) budgets.now way.steps preimage.new) }
     ensures few { IfOk result (λ way. length way.steps ≤ budgets.now.steps) }
     ensures stop { IfOk result (λ way. StopsFor (crash_of chip.old.recording dump.now) budgets.now way.steps way.stop) }
@@ -113,7 +113,7 @@ fn walk(
     requires fresh { preimage.old ≡ fresh chip.old.recording.circuit chip.old.recording.choice }
     requires dump { DumpFits chip.old.recording.circuit chip.old.recording.choice dump.now }
     requires budgets { IsBudget budgets.now }
-    ensures searched { IfOk result (λ way. WereSearched chip.old.recording way.steps) }
+    ensures searched { IfOk result (λ way. WereSearched chip.old.recording budgets.now.conflicts way.steps) }
     ensures made { IfOk result (λ way. HasMade (crash_of chip.old.recording dump.now) budgets.now way.steps preimage.new) }
     ensures few { IfOk result (λ way. length way.steps ≤ budgets.now.steps) }
     ensures stop { IfOk result (λ way. StopsFor (crash_of chip.old.recording dump.now) budgets.now way.steps way.stop) }
@@ -195,7 +195,7 @@ fn unlogged(
     requires fresh { preimage.old ≡ fresh chip.old.recording.circuit chip.old.recording.choice }
     requires dump { DumpFits chip.old.recording.circuit chip.old.recording.choice dump.now }
     requires budgets { IsBudget budgets.now }
-    ensures searched { IfOk result (λ r. WereSearched chip.old.recording r.steps) }
+    ensures searched { IfOk result (λ r. WereSearched chip.old.recording budgets.now.conflicts r.steps) }
     ensures way { IfOk result (λ r. IsOfWay dump.now budgets.now r.steps r.stop r) }
     ensures ended { IfOk result (λ r. HasEnded (crash_of chip.old.recording dump.now) budgets.now r.steps preimage.new r.stop) }
     ensures chip { chip.new.recording ≡ chip.old.recording }
@@ -249,7 +249,8 @@ fn logged(report: Result<Report, NoMemory>, preimage: Preimage<'_>) -> Result<Re
 /// netlist and signature. The moment before a hit is among the candidates that follow, unless their list ends with conflicts. Where a
 /// list is about to be cut, the recorded moments are searched. Where the search was whole the step hits the first moment of any run whose
 /// state is a predecessor that agrees with the stored signatures, of all predecessors and not only of the listed ones, unless its list
-/// ends with conflicts; and where it was cut, no moment before the one that it came to is in a predecessor.
+/// ends with conflicts; and where it was cut, no moment before the one that it came to is in a predecessor. It was cut where it had asked
+/// about as many states as it may, or where a solve about that moment's state spent its budget, or the state cannot be asked about.
 pub fn backtrace(
     alloc: Global,
     chip: &mut Chip<'_>,
@@ -268,7 +269,7 @@ pub fn backtrace(
     ensures readable { IfOk result HasReportText }
     ensures trace { IfOk result (λ r. length r.states ≡ length r.inputs + 1) }
     ensures lean { IfOk result (λ r. IsLean (basis_of chip.old.recording.circuit chip.old.recording.choice (map present_of r.steps)).problem (history_of r.log)) }
-    ensures searched { IfOk result (λ r. WereSearched chip.old.recording r.steps) }
+    ensures searched { IfOk result (λ r. WereSearched chip.old.recording budgets.now.conflicts r.steps) }
     ensures chip { chip.new.recording ≡ chip.old.recording }
 {
     chip.is_recording();

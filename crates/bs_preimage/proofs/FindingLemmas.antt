@@ -357,7 +357,7 @@ open_lemmas a (Delete ids ∷ lines) all = absurd (false≢true all.0)
 pub each_reverse : {X : Type 0} (P : X → Type 0) (xs : List X) → Each P xs → Each P (reverse xs)
 each_reverse P xs all = recursion_from_All P (reverse xs) (All-permutation P xs (reverse xs) (IsPermutation-reverse xs) (All-from_recursion P xs all))
 
-spent_is : (a : Clause) (limit : ℕ) (lemmas before : List Line) → length lemmas ≡ limit → Each (λ line. is_open_lemma a line ≡ true) lemmas →
+pub spent_is : (a : Clause) (limit : ℕ) (lemmas before : List Line) → length lemmas ≡ limit → Each (λ line. is_open_lemma a line ≡ true) lemmas →
     is_spent limit a (last_solve (reverse (lemmas ++ Solve ∷ before))) ≡ true
 spent_is a limit lemmas before n all =
     let are : AreOpen a (reverse lemmas) = open_lemmas a (reverse lemmas) (each_reverse (λ line. is_open_lemma a line ≡ true) lemmas all) in

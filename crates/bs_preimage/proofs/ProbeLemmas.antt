@@ -1,7 +1,7 @@
 -- A search about one state.
 use Rattle.std.proofs.Common.{◌≡◌, ◌≢◌, ℕ, ◌+◌, ◌-◌, ◌*◌, ◌<◌, ◌≤◌, Bool, true, false, cond, List, [], ◌∷◌, ◌++◌, length, reverse, refl, ap, subst, sym}
-use Rattle.std.proofs.Common.{◌∙◌, inl, append_assoc, arith, Option, Some, None}
-use Rattle.std.specs.Prelude.{Contains, All, IfSome, ◌&&◌, ◌==◌, slice_get, unwrap_or, IsTrue}
+use Rattle.std.proofs.Common.{◌∙◌, inl, inr, append_assoc, arith, Option, Some, None}
+use Rattle.std.specs.Prelude.{◌^◌, Contains, All, IfSome, ◌&&◌, ◌==◌, slice_get, unwrap_or, IsTrue}
 use Rattle.std.specs.Option.{option_to_list}
 use Rattle.std.specs.Bool.{beq}
 use Rattle.std.specs.List.{AllByRecursion as Each}
@@ -11,13 +11,15 @@ use Rattle.std.proofs.lemmas.List.Elements.{All-from_recursion, recursion_from_A
 use Rattle.bs_bits.specs.Bits.{bits_eq}
 use Rattle.bs_clause.specs.Literal.{Literal, Clause, negation, literal_value, Satisfies}
 use Rattle.bs_clause.specs.Range.{IsWithin, HasVariables}
+use Rattle.bs_clause.specs.UnitRun.{IsUnitRun}
 use Rattle.bs_log.specs.declared.line.Line.{Line}
 use Rattle.bs_log.specs.declared.line.Line.TheVariants.{Solve, Lemma, Block, Finish, Retire, Delete}
 use Rattle.bs_log.specs.History.{Problem, History, step_of, activation_of}
-use Rattle.bs_log.specs.Refusal.{has_distinct_variables, assumptions_of, IsAccepted, NoneRefused}
+use Rattle.bs_log.specs.Lean.{IsLean, LemmasAreLean, StepsLeaveKept}
+use Rattle.bs_log.specs.Refusal.{has_distinct_variables, assumptions_of, history_of, IsAccepted, NoneRefused}
 use Rattle.bs_log.specs.Refutation.{Suits, blocks_of}
 use Rattle.bs_log.specs.Shown.{Shown}
-use Rattle.bs_log.specs.Steps.{is_lemma_line}
+use Rattle.bs_log.specs.Steps.{is_lemma_line, is_spent, last_solve}
 use Rattle.bs_log.proofs.Laws.{finished_steps_are_refuted}
 use Rattle.bs_net.specs.Circuit.{Circuit, next, reset_state, all_bits}
 use Rattle.bs_net.specs.Order.{IsChecked}
@@ -28,10 +30,10 @@ use Rattle.bs_scan.specs.Signature.{agrees, some_input_leads, predecessors}
 use Rattle.bs_scan.proofs.SignatureLemmas.{bits_same, bits_same_is, is_predecessor}
 use Rattle.bs_solve_analysis.proofs.Clauses.{contains_first}
 use Rattle.bs_solve_recording.specs.declared.stage.Stage.TheVariants.{Begun, Blocked, Ended}
-use Rattle.bs_solve_recording.specs.ProofLog.{ProofLog, next_id}
+use Rattle.bs_solve_recording.specs.ProofLog.{ProofLog, next_id, standing}
 use Rattle.bs_solve_recording.specs.Solver.{SolverState, HasEnded, finished, retired, leaving}
 use Rattle.bs_solve_recording.specs.Stages.{is_begun, is_solved}
-use Rattle.bs_solve_recording.proofs.CallerLemmas.{axioms_stand_still, axioms_stand}
+use Rattle.bs_solve_recording.proofs.CallerLemmas.{activations_stay_retired, axioms_stand_still, axioms_stand, bound_is}
 use Rattle.bs_encode.specs.Encoded.{Encoded, encoding_of}
 use Rattle.bs_encode.specs.Transition.{first_next, first_item, variables}
 use Rattle.bs_encode.specs.Depth.{encoding_by, linked, link_of}
@@ -54,10 +56,12 @@ use Rattle.bs_preimage.specs.declared.turn.TurnEnd.TheVariants.{Listed, Refuted,
 use Rattle.bs_preimage.specs.Preimage.{next_activation}
 use Rattle.bs_preimage.specs.Listed.{IsRightCand}
 use Rattle.bs_preimage.specs.Rest.{IsAbout, made}
-use Rattle.bs_preimage.specs.Turn.{IsReadable, MayTurn, TurnsTo, IsShownIn, HasSearched, HasListedOne, HasRefutedAll, activation_in}
+use Rattle.bs_preimage.specs.Turn.{IsReadable, MayTurn, TurnsTo, IsShownIn, HasSearched, HasListedOne, HasRefutedAll, HasSpent, activation_in}
 use Rattle.bs_preimage.specs.Finding.{is_inner}
 use Rattle.bs_preimage.specs.Step.{begun}
-use Rattle.bs_preimage.specs.Probe.{IsProbed, MayProbe, probing_for, probing_at, IsPaused, last_of, probed_of, HasAnswered, HasProbed, IsReadyFor}
+use Rattle.bs_preimage.specs.Probe.{IsProbed, IsUnknown, MayProbe, HasSpentBudget, probing_for, probing_at, IsPaused, last_of, probed_of}
+use Rattle.bs_preimage.specs.Probe.{HasAnswered, HasProbed, IsReadyFor}
+use Rattle.bs_preimage.proofs.FindingLemmas.{spent_is}
 use Rattle.bs_preimage.proofs.InnerLemmas.{inner_step, lemmas_inner}
 use Rattle.bs_preimage.proofs.StepLinesLemmas.{finish_lines, delete_lines, without_history, without_problem, step_deleted, slice_get_last}
 use Rattle.bs_preimage.proofs.TurnLemmas.{shown_is_open}
@@ -340,6 +344,7 @@ pub record Probing : Type 0 where
   pub kept : IsDepth (depth_of choice)
   pub done : HasProbed e old new (probing_at e old.proof present stored older state) b end
   pub accepted : IsAccepted new.proof.problem (reverse new.proof.history)
+  pub lean : IsLean new.proof.problem new.proof.history
   pub shown : PredecessorsAreShown c choice e
   pub solutions : SolutionsArePredecessors c choice e
   pub states_wide : length e.states ≡ length c.flops
@@ -415,6 +420,7 @@ pauses t =
       activations = omega (arith, t.done.ended.vars, (lines_by t).activations, t.rest.activations, vars_are t, one_longer t);
       number = number_now t;
       stand = λ c there. axioms_stand_still t.new.proof.problem t.new.proof.history c (right_by t) there;
+      retired = λ n low high. activations_stay_retired t.new.proof.problem t.new.proof.history n (right_by t) low (omega (arith, high, number_now t));
       clear = clear_now t;
     }
 
@@ -426,10 +432,34 @@ ready_again t n is =
       steps = one_longer t ∙ sym is;
     }
 
--- ---- a state that is found
+-- ---- what the step assumed
 
 activation_now : (t : Probing) → activation_of t.new.proof.problem (length t.old.proof.problem.steps + 1) ≡ next_activation t.old.proof.problem
 activation_now t = λ i. record { variable = vars_are t i + (length t.old.proof.problem.steps + 1); positive = true }
+
+assumptions_are : (t : Probing) → assumptions_of t.new.proof.problem (length t.old.proof.problem.steps + 1) ≡ assumed_by t
+assumptions_are t =
+    let i : ℕ = length t.old.proof.problem.steps in
+    let place : i + 1 - 1 ≡ i = omega arith in
+    ap (λ (j : ℕ). unwrap_or (slice_get t.new.proof.problem.steps j) []) place
+    ∙ (ap (λ (cs : List Clause). unwrap_or (slice_get cs i) []) (steps_are t)
+    ∙ ap (λ (o : Option Clause). unwrap_or o []) (slice_get_last t.old.proof.problem.steps (assumed_by t) i refl))
+
+assumptions_now : (t : Probing) →
+    assumptions_of t.new.proof.problem (length t.old.proof.problem.steps + 1)
+    ≡ probing_for t.e (activation_of t.new.proof.problem (length t.old.proof.problem.steps + 1)) (asked t) t.state
+assumptions_now t = assumptions_are t ∙ ap (λ (g : Literal). probing_for t.e g (asked t) t.state) (sym (activation_now t))
+
+-- no block is in a step that was searched once
+searched_clear : (t : Probing) (lemmas : List Line) → HasSearched (begun t.old) t.done.middle (assumed_by t) lemmas →
+    blocks_of t.done.middle.proof.history (length t.old.proof.problem.steps + 1) ≡ []
+searched_clear t lemmas h =
+    let n : ℕ = length t.old.proof.problem.steps + 1 in
+    ap (λ (k : History). blocks_of k n) h.history
+    ∙ (lemmas_block_nothing lemmas (Solve ∷ t.old.proof.history) n h.are_lemmas
+    ∙ (ap (blocks_of t.old.proof.history) (sym t.rest.number) ∙ t.rest.clear))
+
+-- ---- a state that is found
 
 both_wide : (t : Probing) → All (λ u. length u ≡ length t.choice.items) (t.stored ∷ option_to_list t.older)
 both_wide t =
@@ -509,21 +539,14 @@ refuted t id fin x lx ag nx =
     let place : n - 1 ≡ i = omega arith in
     let plain_is : assumptions_of one n ≡ plain =
     ap (λ (j : ℕ). unwrap_or (slice_get one.steps j) []) place ∙ ap (λ (o : Option Clause). unwrap_or o []) (slice_get_last t.old.proof.problem.steps plain i refl) in
-    let assumed_is : assumptions_of p n ≡ plain ++ own =
-    ap (λ (j : ℕ). unwrap_or (slice_get p.steps j) []) place
-    ∙ (ap (λ (cs : List Clause). unwrap_or (slice_get cs i) []) (steps_are t)
-    ∙ (ap (λ (o : Option Clause). unwrap_or o []) (slice_get_last t.old.proof.problem.steps (assumed_by t) i refl)
-    ∙ ap (λ (g : Literal). probing_for t.e g (asked t) t.state) (sym (activation_now t)))) in
+    let assumed_is : assumptions_of p n ≡ plain ++ own = assumptions_now t in
     let plain_true : AllTrue v plain = recursion_from_All T plain (subst (λ (c : Clause). All T c) plain_is sh.assumptions) in
     let own_true : AllTrue v own = signs_true v t.e.states t.state (shows_state t one n sh) in
     let holds : All T (assumptions_of p n) =
     subst (λ (c : Clause). All T c) (sym assumed_is) (All-from_recursion T (plain ++ own) (join T plain own plain_true own_true)) in
     let turn : HasRefutedAll (assumed_by t) t.b (begun t.old) t.done.middle id =
     subst (TurnsTo t.e (assumed_by t) t.b (begun t.old) t.done.middle) fin t.done.turn in
-    let clear : blocks_of h n ≡ [] =
-    ap (λ (k : History). blocks_of k n) turn.searched.history
-    ∙ (lemmas_block_nothing turn.lemmas (Solve ∷ t.old.proof.history) n turn.searched.are_lemmas
-    ∙ (ap (blocks_of t.old.proof.history) (sym t.rest.number) ∙ t.rest.clear)) in
+    let clear : blocks_of h n ≡ [] = searched_clear t turn.lemmas turn.searched in
     let suits : Suits p h n v = record {
       in_range = omega (arith, one_longer t);
       clauses = sh.clauses;
@@ -561,18 +584,79 @@ none t id fin = by (is_listed (predecessors t.c t.choice t.present (t.stored ∷
         let x = passing (λ (x : List Bool). bits_eq (next t.c t.state x) t.present) (all_bits (length t.c.inputs)) tests.1 in
         absurd (refuted t id fin x.item (all_bits_length (length t.c.inputs) x.item x.member) tests.0 (bits_same_is (next t.c t.state x.item) t.present x.passes))
 
-answered : (t : Probing) → IsProbed t.c t.choice t.present t.stored t.older t.state (probed_of t.end)
+-- ---- a search that spent its budget
+
+-- a step's lines without its end
+inside_right : (p : Problem) (ids : List ℕ) (id : ℕ) (h : History) → NoneRefused p (delete_lines ids ++ Retire id ∷ h) → NoneRefused p h
+inside_right p [] id h all = all.1
+inside_right p (i ∷ ids) id h all = all.1.1
+
+inside_lean : (p : Problem) (ids : List ℕ) (id : ℕ) (h : History) → IsLean p (delete_lines ids ++ Retire id ∷ h) → IsLean p h
+inside_lean p [] id h lean = record { steps = lean.steps.1; lemmas = lean.lemmas }
+inside_lean p (i ∷ ids) id h lean = record { steps = lean.steps.1; lemmas = lean.lemmas }
+
+bounded : (t : Probing) → HasSpent (assumed_by t) t.b (begun t.old) t.done.middle → (run : List Literal) → HasVariables t.e.variables run →
+    IsUnitRun t.e.clauses (assumed_by t) run → t.b < 2 ^ (t.e.variables - length run)
+bounded t turn run range unit =
+    let p : Problem = t.old.proof.problem in
+    subst (λ (n : ℕ). t.b < 2 ^ (n - length run)) t.about.vars
+    (bound_is p t.e.clauses (standing t.old.proof) (assumed_by t) t.b (length p.steps) (t.old.vars + 1)
+    (λ c there. t.rest.stand c (subst (λ (cs : List Clause). Contains cs c) (sym t.about.clauses) there)) t.rest.retired (contains_first (next_activation p) _)
+    (omega (arith, t.rest.activations)) turn.bound run (subst (λ (n : ℕ). HasVariables n run) (sym t.about.vars) range) unit)
+
+spends : (t : Probing) → t.end ≡ Spent → HasSpentBudget t.e (asked t) t.state t.b
+spends t fin =
+    let p : Problem = t.new.proof.problem in
+    let n : ℕ = length t.old.proof.problem.steps + 1 in
+    let h : History = t.done.middle.proof.history in
+    let gone : List ℕ = leaving (finished_by t) in
+    let r : ℕ = next_id (finished_by t) in
+    let turn : HasSpent (assumed_by t) t.b (begun t.old) t.done.middle = subst (TurnsTo t.e (assumed_by t) t.b (begun t.old) t.done.middle) fin t.done.turn in
+    let number : n ≡ step_of h = sym (middle_step t) in
+    let lines : t.new.proof.history ≡ delete_lines gone ++ Retire r ∷ h =
+    history_is t ∙ ap (λ (end : TurnEnd). delete_lines gone ++ Retire r ∷ (finish_lines (last_of end) ++ h)) fin in
+    let all : is_spent t.b (assumptions_of p n) (last_solve (reverse h)) ≡ true =
+    ap (λ (a : Clause). is_spent t.b a (last_solve (reverse h))) (assumptions_are t)
+    ∙ (ap (λ (k : History). is_spent t.b (assumed_by t) (last_solve (reverse k))) turn.searched.history
+    ∙ spent_is (assumed_by t) t.b turn.lemmas t.old.proof.history turn.all turn.open_yet) in
+    record {
+      problem = p;
+      history = h;
+      vars = vars_are t ∙ t.about.vars;
+      clauses = clauses_are t ∙ t.about.clauses;
+      assumed = subst (λ (m : ℕ). assumptions_of p m ≡ probing_for t.e (activation_of p m) (asked t) t.state) number (assumptions_now t);
+      right = inside_right p gone r h (subst (NoneRefused p) lines (right_by t));
+      lean = inside_lean p gone r h (subst (IsLean p) lines t.lean);
+      clear = subst (λ (m : ℕ). blocks_of h m ≡ []) number (searched_clear t turn.lemmas turn.searched);
+      spent = subst (λ (m : ℕ). is_spent t.b (assumptions_of p m) (last_solve (reverse h)) ≡ true) number all;
+      bound = λ run range unit.
+          bounded t turn run range (subst (λ (a : Clause). IsUnitRun t.e.clauses a run) (ap (assumptions_of p) (sym number) ∙ assumptions_are t) unit);
+    }
+
+-- the lemmas of a log are lean, and each of its steps has left what is kept
+pub lean_by : (p : Problem) (h : History) (log : List Line) → history_of log ≡ h → StepsLeaveKept p (history_of log) → LemmasAreLean p (history_of log) →
+    IsLean p h
+lean_by p h log e steps lemmas = subst (IsLean p) e (record { steps = steps; lemmas = lemmas })
+
+-- a question that cannot be asked
+pub unaskable : (c : Circuit) (choice : Chosen) (present stored : List Bool) (older : Option (List Bool)) (state : List Bool) (b : ℕ) →
+    (¬ MayProbe choice older) → IsUnknown c choice present stored older state b
+unaskable c choice present stored older state b not_asked = record { why = inl not_asked }
+
+-- ---- what is said
+
+answered : (t : Probing) → IsProbed t.c t.choice t.present t.stored t.older t.state t.b (probed_of t.end)
 answered t = by t.end refl
   where
-    by : (end : TurnEnd) → t.end ≡ end → IsProbed t.c t.choice t.present t.stored t.older t.state (probed_of end)
+    by : (end : TurnEnd) → t.end ≡ end → IsProbed t.c t.choice t.present t.stored t.older t.state t.b (probed_of end)
     by (Listed cand) is =
         let turn : HasListedOne t.e (assumed_by t) t.b (begun t.old) t.done.middle cand =
         subst (TurnsTo t.e (assumed_by t) t.b (begun t.old) t.done.middle) is t.done.turn in
         right_cand t cand turn.shown
     by (Refuted id) is = none t id is
-    by Spent is = tt
+    by Spent is = record { why = inr (subst (λ (e : Encoded). HasSpentBudget e (asked t) t.state t.b) t.about.encoding (spends t is)) }
 
-pub has_answered : (t : Probing) → HasAnswered t.c t.choice t.e t.old t.new t.present t.stored t.older t.state (probed_of t.end)
+pub has_answered : (t : Probing) → HasAnswered t.c t.choice t.e t.old t.new t.present t.stored t.older t.state t.b (probed_of t.end)
 has_answered t = record { ready = ready_again t (length t.old.proof.problem.steps + 1) refl; probed = answered t }
 
 -- ---- a new solver
@@ -587,6 +671,7 @@ made_ready c choice e s width encoded is = subst (λ (x : SolverState). IsReadyF
     activations = omega arith;
     number = refl;
     stand = λ x there. subst (λ (cs : List Clause). Contains cs x) (sym (axioms_stand (made e).proof.problem)) there;
+    retired = λ n low high. absurd (omega (arith, low, high));
     clear = refl;
   };
   steps = refl;

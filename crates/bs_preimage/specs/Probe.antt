@@ -1,9 +1,14 @@
 -- A private search: whether one state is a predecessor.
-use Rattle.std.specs.Prelude.{◌≡◌, ℕ, ◌+◌, ◌≤◌, false, List, [], ◌∷◌, ◌++◌, length, Bool, Option, Some, None, IfSome}
+use Rattle.std.specs.Prelude.{◌≡◌, ◌⊎◌, ℕ, ◌+◌, ◌-◌, ◌^◌, ◌<◌, ◌≤◌, true, false, List, [], ◌∷◌, ◌++◌, length, reverse, Bool, Option, Some, None, IfSome}
 use Rattle.std.specs.Option.{option_to_list}
 use Rattle.bs_clause.specs.Literal.{Literal, Clause}
-use Rattle.bs_log.specs.History.{step_of}
+use Rattle.bs_clause.specs.Range.{HasVariables}
+use Rattle.bs_clause.specs.UnitRun.{IsUnitRun}
+use Rattle.bs_log.specs.History.{Problem, History, step_of, activation_of}
+use Rattle.bs_log.specs.Lean.{IsLean}
+use Rattle.bs_log.specs.Refusal.{assumptions_of, NoneRefused}
 use Rattle.bs_log.specs.Refutation.{blocks_of}
+use Rattle.bs_log.specs.Steps.{is_spent, last_solve}
 use Rattle.bs_net.specs.Circuit.{Circuit}
 use Rattle.bs_scan.specs.Choice.{Chosen, depth_of}
 use Rattle.bs_scan.specs.Moments.{is_listed}
@@ -11,6 +16,7 @@ use Rattle.bs_scan.specs.Present.{Present}
 use Rattle.bs_scan.specs.Signature.{predecessors}
 use Rattle.bs_encode.specs.Encoded.{Encoded}
 use Rattle.bs_encode.specs.Assuming.{signed, assumptions_for, asking, AreWide}
+use Rattle.bs_encode.specs.Depth.{encoding_by}
 use Rattle.bs_solve_recording.specs.declared.stage.Stage.TheVariants.{Idle}
 use Rattle.bs_solve_recording.specs.ProofLog.{ProofLog}
 use Rattle.bs_solve_recording.specs.Solver.{SolverState, HasEnded}
@@ -21,7 +27,7 @@ use Rattle.bs_preimage.specs.declared.turn.TurnEnd.{TurnEnd}
 use Rattle.bs_preimage.specs.declared.turn.TurnEnd.TheVariants.{Listed, Refuted, Spent}
 use Rattle.bs_preimage.specs.Preimage.{next_activation}
 use Rattle.bs_preimage.specs.Listed.{IsRightCand}
-use Rattle.bs_preimage.specs.Rest.{IsAbout, AxiomsStand}
+use Rattle.bs_preimage.specs.Rest.{IsAbout, ActivationsAreRetired, AxiomsStand}
 use Rattle.bs_preimage.specs.Turn.{TurnsTo}
 use Rattle.bs_preimage.specs.Step.{begun}
 
@@ -29,12 +35,6 @@ use Rattle.bs_preimage.specs.Step.{begun}
 pub record Prober : Type 0 where
   pub circuit : Circuit
   pub choice : Chosen
-
--- A state that is a predecessor comes as a candidate; of one that is none the answer says so; and a search that was cut says nothing.
-abbrev pub IsProbed : Circuit → Chosen → List Bool → List Bool → Option (List Bool) → List Bool → Probed → Type 0
-IsProbed c choice present stored older state (Predecessor cand) = IsRightCand c choice present stored older cand × (cand.state ≡ state)
-IsProbed c choice present stored older state NoPredecessor = is_listed (predecessors c choice present (stored ∷ option_to_list older)) state ≡ false
-IsProbed c choice present stored older state Unknown = Unit {0}
 
 -- one signature is kept, or both are there
 abbrev pub MayProbe : Chosen → Option (List Bool) → Type 0
@@ -44,6 +44,36 @@ MayProbe choice (Some older) = depth_of choice ≡ 2
 -- what a step assumes that is about one state
 abbrev pub probing_for : Encoded → Literal → Present → List Bool → Clause
 probing_for e activation q state = assumptions_for e activation q ++ signed e.states state
+
+-- A solve whether a state is a predecessor spent its budget of b lemmas. There are the lines of a log over the encoding's clauses: none is
+-- refused, and they are lean. The step under way assumes the present, what is stored and the state, and has no block. Its last solve, which
+-- ends the lines, has exactly b lemmas, none of which ends the step. And b is less than the number of values of the variables that a unit
+-- run over the encoding and what the step assumes leaves open.
+pub record HasSpentBudget (e : Encoded) (q : Present) (state : List Bool) (b : ℕ) : Type 0 where
+  pub problem : Problem
+  pub history : History
+  pub vars : problem.vars ≡ e.variables
+  pub clauses : problem.clauses ≡ e.clauses
+  pub assumed : assumptions_of problem (step_of history) ≡ probing_for e (activation_of problem (step_of history)) q state
+  pub right : NoneRefused problem history
+  pub lean : IsLean problem history
+  pub clear : blocks_of history (step_of history) ≡ []
+  pub spent : is_spent b (assumptions_of problem (step_of history)) (last_solve (reverse history)) ≡ true
+  pub bound : (run : List Literal) → HasVariables e.variables run → IsUnitRun e.clauses (assumptions_of problem (step_of history)) run →
+      b < 2 ^ (e.variables - length run)
+
+-- It stays unknown whether the state is a predecessor, where b is the budget of a solve: this cannot be asked, or a solve of the question
+-- spent its budget.
+pub record IsUnknown (c : Circuit) (choice : Chosen) (present stored : List Bool) (older : Option (List Bool)) (state : List Bool) (b : ℕ) :
+    Type 0 where
+  pub why : (¬ MayProbe choice older) ⊎ HasSpentBudget (encoding_by c choice) (asking present stored older) state b
+
+-- A state that is a predecessor comes as a candidate; of one that is none the answer says so; and it says nothing where that stays unknown.
+abbrev pub IsProbed : Circuit → Chosen → List Bool → List Bool → Option (List Bool) → List Bool → ℕ → Probed → Type 0
+IsProbed c choice present stored older state b (Predecessor cand) = IsRightCand c choice present stored older cand × (cand.state ≡ state)
+IsProbed c choice present stored older state b NoPredecessor =
+    is_listed (predecessors c choice present (stored ∷ option_to_list older)) state ≡ false
+IsProbed c choice present stored older state b Unknown = IsUnknown c choice present stored older state b
 
 -- the same of the next step
 abbrev pub probing_at : Encoded → ProofLog → List Bool → List Bool → Option (List Bool) → List Bool → Clause
@@ -56,6 +86,7 @@ pub record IsPaused (s : SolverState) : Type 0 where
   pub activations : s.vars ≡ s.proof.problem.vars + length s.proof.problem.steps
   pub number : step_of s.proof.history ≡ length s.proof.problem.steps + 1
   pub stand : AxiomsStand s.proof
+  pub retired : ActivationsAreRetired s.proof
   pub clear : blocks_of s.proof.history (step_of s.proof.history) ≡ []
 
 -- the lemma that ends a step, if there is one
@@ -101,6 +132,6 @@ pub record IsQuestion (c : Circuit) (choice : Chosen) (present stored : List Boo
 
 -- a question was answered in a step of its own
 pub record HasAnswered (c : Circuit) (choice : Chosen) (e : Encoded) (old new : SolverState) (present stored : List Bool)
-    (older : Option (List Bool)) (state : List Bool) (answer : Probed) : Type 0 where
+    (older : Option (List Bool)) (state : List Bool) (b : ℕ) (answer : Probed) : Type 0 where
   pub ready : IsReadyFor c choice e new (length old.proof.problem.steps + 1)
-  pub probed : IsProbed c choice present stored older state answer
+  pub probed : IsProbed c choice present stored older state b answer

@@ -1,5 +1,5 @@
 //! A private search, whose log is not written: whether one state is a predecessor.
-ghost use Rattle.std.specs.Prelude.{◌≡◌, ◌+◌, ◌<◌, ◌≤◌, true, length, IfOk, IfSome, option_map};
+ghost use Rattle.std.specs.Prelude.{◌≡◌, ◌+◌, ◌<◌, ◌≤◌, true, false, length, IfOk, IfSome, option_map};
 ghost use Rattle.std.specs.Bool.{OnTrue};
 ghost use Rattle.bs_net.specs.Netlist.{circuit};
 ghost use Rattle.bs_log.specs.Refusal.{has_distinct_variables};
@@ -35,7 +35,7 @@ pub enum Probed {
     Predecessor(Cand),
     /// It is no predecessor.
     NoPredecessor,
-    /// The search was cut.
+    /// It is not known: the solve spent its budget, or the register keeps two signatures and holds one.
     Unknown,
 }
 
@@ -162,7 +162,7 @@ fn probe_step(
     requires state { length asked.now.state.now ≡ length (circuit net.now).flops }
     requires may { MayProbe choice.now (option_map (λ bits. bits.now) asked.now.older) }
     requires limit { 1 ≤ asked.now.b }
-    ensures ok { IfOk result (HasAnswered (circuit net.now) choice.now encoding.now solver.old solver.new asked.now.present.now asked.now.stored.now (option_map (λ bits. bits.now) asked.now.older) asked.now.state.now) }
+    ensures ok { IfOk result (HasAnswered (circuit net.now) choice.now encoding.now solver.old solver.new asked.now.present.now asked.now.stored.now (option_map (λ bits. bits.now) asked.now.older) asked.now.state.now asked.now.b) }
 {
     encodings_are_tidy(net, choice);
     predecessors_are_shown(net, choice);
@@ -198,7 +198,8 @@ fn renew(
 
 /// Whether one signature is kept, or both are there.
 fn may_ask(choice: &Choice, older: Option<&Bits>) -> bool
-    ensures { OnTrue result (MayProbe choice.now (option_map (λ bits. bits.now) older.entry)) }
+    ensures may { OnTrue result (MayProbe choice.now (option_map (λ bits. bits.now) older.entry)) }
+    ensures may_not { result ≡ false → ¬ MayProbe choice.now (option_map (λ bits. bits.now) older.entry) }
 {
     match older {
         None => choice.depth() == 1,
@@ -266,7 +267,7 @@ fn answer_by(
     requires ready { IsReadyEngine (circuit net.now) choice.now engine.old }
     requires question { IsQuestion (circuit net.now) choice.now asked.now.present.now asked.now.stored.now (option_map (λ bits. bits.now) asked.now.older) asked.now.state.now asked.now.b }
     ensures ready { IfOk result (λ _. IsReadyEngine (circuit net.now) choice.now engine.new) }
-    ensures probed { IfOk result (IsProbed (circuit net.now) choice.now asked.now.present.now asked.now.stored.now (option_map (λ bits. bits.now) asked.now.older) asked.now.state.now) }
+    ensures probed { IfOk result (IsProbed (circuit net.now) choice.now asked.now.present.now asked.now.stored.now (option_map (λ bits. bits.now) asked.now.older) asked.now.state.now asked.now.b) }
 {
     renew(
         alloc,
@@ -299,7 +300,7 @@ fn answer_first(
     requires width { choice.now.width ≡ length (circuit net.now).flops }
     requires question { IsQuestion (circuit net.now) choice.now asked.now.present.now asked.now.stored.now (option_map (λ bits. bits.now) asked.now.older) asked.now.state.now asked.now.b }
     ensures ready { IfOk result (λ _. IfSome place.new (IsReadyEngine (circuit net.now) choice.now)) }
-    ensures probed { IfOk result (IsProbed (circuit net.now) choice.now asked.now.present.now asked.now.stored.now (option_map (λ bits. bits.now) asked.now.older) asked.now.state.now) }
+    ensures probed { IfOk result (IsProbed (circuit net.now) choice.now asked.now.present.now asked.now.stored.now (option_map (λ bits. bits.now) asked.now.older) asked.now.state.now asked.now.b) }
 {
     let mut engine = engine_of(alloc, net, choice)?;
     let answer = answer_by(alloc, net, choice, &mut engine, asked)?;
@@ -319,7 +320,7 @@ fn answer_in(
     requires ready { IfSome place.old (IsReadyEngine (circuit net.now) choice.now) }
     requires question { IsQuestion (circuit net.now) choice.now asked.now.present.now asked.now.stored.now (option_map (λ bits. bits.now) asked.now.older) asked.now.state.now asked.now.b }
     ensures ready { IfOk result (λ _. IfSome place.new (IsReadyEngine (circuit net.now) choice.now)) }
-    ensures probed { IfOk result (IsProbed (circuit net.now) choice.now asked.now.present.now asked.now.stored.now (option_map (λ bits. bits.now) asked.now.older) asked.now.state.now) }
+    ensures probed { IfOk result (IsProbed (circuit net.now) choice.now asked.now.present.now asked.now.stored.now (option_map (λ bits. bits.now) asked.now.older) asked.now.state.now asked.now.b) }
 {
     match place {
         None => answer_first(alloc, net, choice, place, asked),
@@ -363,8 +364,8 @@ impl<'a> Probe<'a> {
     }
 
     /// Whether a state agrees with the stored signature and the older one, which is none where the register keeps one, and
-    /// leads to the present state. A solve logs at most `b` lemmas. Where the register keeps two signatures and holds one, nothing
-    /// is said: only the reset state may be before. Once memory ran out, every later question answers it.
+    /// leads to the present state. Nothing is said where a solve of this question has logged `b` lemmas, and where the register keeps two
+    /// signatures and holds one: only the reset state may be before. Once memory ran out, every later question answers it.
     pub fn ask(
         &mut self,
         alloc: Global,
@@ -379,7 +380,7 @@ impl<'a> Probe<'a> {
         requires older { AreWide (length self.old.choice.items) (option_map (λ bits. bits.now) older) }
         requires state { length state.now ≡ length self.old.circuit.flops }
         requires conflicts { 1 ≤ b }
-        ensures probed { IfOk result (IsProbed self.old.circuit self.old.choice present.now stored.now (option_map (λ bits. bits.now) older.entry) state.now) }
+        ensures probed { IfOk result (IsProbed self.old.circuit self.old.choice present.now stored.now (option_map (λ bits. bits.now) older.entry) state.now b) }
         ensures kept { self.new ≡ self.old }
     {
         if !may_ask(self.choice, older) {
@@ -398,7 +399,7 @@ impl<'a> Probe<'a> {
     /// Answers a question, where one signature is kept or both are there.
     fn answer(&mut self, alloc: Global, asked: &ProbeRequest<'_>) -> Result<Probed, NoMemory>
         requires { IsQuestion self.old.circuit self.old.choice asked.now.present.now asked.now.stored.now (option_map (λ bits. bits.now) asked.now.older) asked.now.state.now asked.now.b }
-        ensures probed { IfOk result (IsProbed self.old.circuit self.old.choice asked.now.present.now asked.now.stored.now (option_map (λ bits. bits.now) asked.now.older) asked.now.state.now) }
+        ensures probed { IfOk result (IsProbed self.old.circuit self.old.choice asked.now.present.now asked.now.stored.now (option_map (λ bits. bits.now) asked.now.older) asked.now.state.now asked.now.b) }
         ensures kept { self.new ≡ self.old }
     {
         if self.failed {

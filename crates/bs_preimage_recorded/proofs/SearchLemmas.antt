@@ -30,7 +30,7 @@ use Rattle.bs_preimage_recorded.specs.declared.search.Recorded.{Recorded}
 use Rattle.bs_preimage_recorded.specs.declared.search.Sought.{Sought}
 use Rattle.bs_preimage_recorded.specs.declared.search.Sought.TheVariants.{Found, NoMoment, Cut, Unsaid}
 use Rattle.bs_preimage_recorded.specs.declared.search.Turn.TheVariants.{GoOn}
-use Rattle.bs_preimage_recorded.specs.Search.{asked_in, is_recorded, alike_at, alike_below, alike_before, turn_by, HasTried, HasTurned, IsCutAt}
+use Rattle.bs_preimage_recorded.specs.Search.{asked_in, is_recorded, alike_at, alike_below, alike_before, turn_by, HasTried, HasTurned, IsCutAt, IsUnknownAt}
 use Rattle.bs_preimage_recorded.specs.Search.{IsOpenAt, SoughtAt, SoughtBefore, SoughtSooner, SoughtOfAll, TurnsTo, IsFirstRecorded, StaysOpen}
 
 -- ---- a state with another signature
@@ -153,11 +153,11 @@ open_at r present stored older cycle from run next =
       before = none_among r present stored older cycle from (run - 1) next.before;
     }
 
-pub turned : (r : Recording) (present stored : List Bool) (older : Option (List Bool)) (cycle from below run : ℕ) (said : Probed) →
+pub turned : (r : Recording) (present stored : List Bool) (older : Option (List Bool)) (b cycle from below run : ℕ) (said : Probed) →
     IsNextAlike r stored cycle from run → run ≤ below →
-    IsProbed r.circuit r.choice present stored older (state_at r.circuit (run_of r.runs run) cycle) said →
+    IsProbed r.circuit r.choice present stored older (state_at r.circuit (run_of r.runs run) cycle) b said →
     TurnsTo r present stored older cycle from below (turn_by said run cycle)
-turned r present stored older cycle from below run (Predecessor cand) next within h = (
+turned r present stored older b cycle from below run (Predecessor cand) next within h = (
   refl,
   record {
     behind = next.behind;
@@ -168,13 +168,13 @@ turned r present stored older cycle from below run (Predecessor cand) next withi
   },
   record { cand = h.0; state = h.1 },
 )
-turned r present stored older cycle from below run NoPredecessor next within h = (
+turned r present stored older b cycle from below run NoPredecessor next within h = (
   next.behind,
   within,
   one_more_run r (asked_in r present stored older) cycle from run (omega (arith, next.behind))
       (none_among r present stored older cycle from (run - 1) next.before) h,
 )
-turned r present stored older cycle from below run Unknown next within h = open_at r present stored older cycle from run next
+turned r present stored older b cycle from below run Unknown next within h = open_at r present stored older cycle from run next
 
 -- ---- how many are alike
 
@@ -234,11 +234,14 @@ alike_more r stored cycle from run next =
     omega (arith, so_far, one)
 
 -- one try is taken
-pub tried_one : (r : Recording) (stored : List Bool) (old new cycle from below run : ℕ) (said : Probed) → old ≡ new + 1 → IsNextAlike r stored cycle from run →
-    HasTurned old new (alike_at r stored cycle) from below (turn_by said run cycle)
-tried_one r stored old new cycle from below run (Predecessor cand) one next = tt
-tried_one r stored old new cycle from below run NoPredecessor one next = let more = alike_more r stored cycle from run next in omega (arith, one, more)
-tried_one r stored old new cycle from below run Unknown one next = tt
+pub tried_one : (r : Recording) (present stored : List Bool) (older : Option (List Bool)) (b old new cycle from below run : ℕ) (said : Probed) →
+    old ≡ new + 1 → IsNextAlike r stored cycle from run →
+    IsProbed r.circuit r.choice present stored older (state_at r.circuit (run_of r.runs run) cycle) b said →
+    HasTurned old new (alike_at r stored cycle) (IsUnknownAt r present stored older b) from below (turn_by said run cycle)
+tried_one r present stored older b old new cycle from below run (Predecessor cand) one next h = tt
+tried_one r present stored older b old new cycle from below run NoPredecessor one next h =
+    let more = alike_more r stored cycle from run next in omega (arith, one, more)
+tried_one r present stored older b old new cycle from below run Unknown one next h = h
 
 -- no try is left
 pub tried_all : (r : Recording) (stored : List Bool) (old cycle from run : ℕ) → old ≡ 0 → from < run →
@@ -304,12 +307,12 @@ sought_at r present stored older cycle from below (Cut m) none h = open_further 
 sought_at r present stored older cycle from below (Unsaid m) none h = open_further r (asked_in r present stored older) stored cycle from m none h
 
 -- the tries of the runs so far and of what is left
-pub tried_at : (first old new passed alike : ℕ) (before : Moment → ℕ) (sought : Sought) → first ≤ old + passed →
-    HasTried (old + passed) new alike before sought → HasTried first new alike before sought
-tried_at first old new passed alike before (Found f) so_far h = tt
-tried_at first old new passed alike before NoMoment so_far h = omega (arith, so_far, h)
-tried_at first old new passed alike before (Cut m) so_far h = omega (arith, so_far, h)
-tried_at first old new passed alike before (Unsaid m) so_far h = tt
+pub tried_at : (first old new passed alike : ℕ) (before : Moment → ℕ) (unknown : Moment → Type 0) (sought : Sought) → first ≤ old + passed →
+    HasTried (old + passed) new alike before unknown sought → HasTried first new alike before unknown sought
+tried_at first old new passed alike before unknown (Found f) so_far h = tt
+tried_at first old new passed alike before unknown NoMoment so_far h = omega (arith, so_far, h)
+tried_at first old new passed alike before unknown (Cut m) so_far h = omega (arith, so_far, h)
+tried_at first old new passed alike before unknown (Unsaid m) so_far h = h
 
 -- ---- the cycles
 
@@ -376,27 +379,29 @@ pub cut_in_cycle : (r : Recording) (states : List (List Bool)) (stored : List Bo
 cut_in_cycle r states stored cycle first old m so_far h here =
     subst (λ (n : ℕ). first ≤ alike_below r stored n + alike_at r stored n (m.run - 1)) (sym h.cycle_is) (omega (arith, so_far, here))
 
-pub cut_sooner : (r : Recording) (present stored : List Bool) (older : Option (List Bool)) (m : Moment) (first old new : ℕ) (sought : Sought) →
+pub cut_sooner : (r : Recording) (present stored : List Bool) (older : Option (List Bool)) (b : ℕ) (m : Moment) (first old new : ℕ) (sought : Sought) →
     first ≤ old + alike_below r stored m.cycle → SoughtAt r present stored older m.cycle 0 (m.run - 1) sought →
-    HasTried old new (alike_at r stored m.cycle (m.run - 1)) (λ o. alike_at r stored m.cycle (o.run - 1)) sought → IsCutAt r stored first sought
-cut_sooner r present stored older m first old new (Found f) so_far h tried = tt
-cut_sooner r present stored older m first old new NoMoment so_far h tried = tt
-cut_sooner r present stored older m first old new (Cut o) so_far h tried =
+    HasTried old new (alike_at r stored m.cycle (m.run - 1)) (λ o. alike_at r stored m.cycle (o.run - 1)) (IsUnknownAt r present stored older b) sought →
+    IsCutAt r present stored older b first sought
+cut_sooner r present stored older b m first old new (Found f) so_far h tried = tt
+cut_sooner r present stored older b m first old new NoMoment so_far h tried = tt
+cut_sooner r present stored older b m first old new (Cut o) so_far h tried =
     cut_in_cycle r (asked_in r present stored older) stored m.cycle first old o so_far h tried
-cut_sooner r present stored older m first old new (Unsaid o) so_far h tried = tt
+cut_sooner r present stored older b m first old new (Unsaid o) so_far h tried = tried
 
 -- the runs of a moment's cycle were searched behind the cycles before it
-pub cut_behind : {E : Type 0} (r : Recording) (present stored : List Bool) (older : Option (List Bool)) (m : Moment) (first old new : ℕ)
+pub cut_behind : {E : Type 0} (r : Recording) (present stored : List Bool) (older : Option (List Bool)) (b : ℕ) (m : Moment) (first old new : ℕ)
     (result : Result Sought E) → first ≤ old + alike_below r stored m.cycle →
     IfOk result (SoughtAt r present stored older m.cycle 0 (m.run - 1)) →
-    IfOk result (HasTried old new (alike_at r stored m.cycle (m.run - 1)) (λ o. alike_at r stored m.cycle (o.run - 1))) →
-    IfOk result (IsCutAt r stored first)
-cut_behind r present stored older m first old new (Ok sought) so_far h tried = cut_sooner r present stored older m first old new sought so_far h tried
-cut_behind r present stored older m first old new (Err want) so_far h tried = tt
+    IfOk result (HasTried old new (alike_at r stored m.cycle (m.run - 1)) (λ o. alike_at r stored m.cycle (o.run - 1))
+    (IsUnknownAt r present stored older b)) →
+    IfOk result (IsCutAt r present stored older b first)
+cut_behind r present stored older b m first old new (Ok sought) so_far h tried = cut_sooner r present stored older b m first old new sought so_far h tried
+cut_behind r present stored older b m first old new (Err want) so_far h tried = tt
 
-pub cut_of_tried : (r : Recording) (stored : List Bool) (old new alike : ℕ) (sought : Sought) → HasTried old new alike (alike_before r stored) sought →
-    IsCutAt r stored old sought
-cut_of_tried r stored old new alike (Found f) h = tt
-cut_of_tried r stored old new alike NoMoment h = tt
-cut_of_tried r stored old new alike (Cut m) h = h
-cut_of_tried r stored old new alike (Unsaid m) h = tt
+pub cut_of_tried : (r : Recording) (present stored : List Bool) (older : Option (List Bool)) (b old new alike : ℕ) (sought : Sought) →
+    HasTried old new alike (alike_before r stored) (IsUnknownAt r present stored older b) sought → IsCutAt r present stored older b old sought
+cut_of_tried r present stored older b old new alike (Found f) h = tt
+cut_of_tried r present stored older b old new alike NoMoment h = tt
+cut_of_tried r present stored older b old new alike (Cut m) h = h
+cut_of_tried r present stored older b old new alike (Unsaid m) h = h

@@ -3,11 +3,12 @@ use Rattle.std.specs.Prelude.{◌≡◌, ℕ, ◌≤◌, ◌<◌, ◌+◌, ◌-�
 use Rattle.std.specs.List.{range_with_len}
 use Rattle.std.specs.Option.{option_to_list}
 use Rattle.bs_scan.specs.Crash.{Recording}
-use Rattle.bs_scan.specs.Moments.{Run, Moment, moment, IsMoment, run_of, state_at}
+use Rattle.bs_scan.specs.Moments.{Run, Moment, moment, IsMoment, run_of, state_at, state_of}
 use Rattle.bs_scan.specs.Signature.{predecessors}
 use Rattle.bs_chip.specs.Lockstep.{IsFirstIn, IsLowest, NoneAmong, NoneBefore, NoneReached}
 use Rattle.bs_chip.specs.SignatureHashes.{is_alike}
 use Rattle.bs_preimage.specs.Listed.{IsRightCand}
+use Rattle.bs_preimage.specs.Probe.{IsUnknown}
 use Rattle.bs_preimage.specs.declared.probe.Probed.{Probed}
 use Rattle.bs_preimage.specs.declared.probe.Probed.TheVariants.{Predecessor, NoPredecessor, Unknown}
 use Rattle.bs_preimage_recorded.specs.declared.search.Recorded.{Recorded}
@@ -51,7 +52,7 @@ pub record IsOpenAt (r : Recording) (states : List (List Bool)) (stored : List B
   pub before : NoneAmong r.circuit r.runs states cycle from (m.run - 1)
 
 -- What comes of the runs behind a number, up to another, at a cycle: the lowest one that is in a predecessor there, or that none is; or
--- a moment of which nothing is known, and before which none is.
+-- a moment at which the search ends, and before which none is.
 abbrev pub SoughtAt : Recording → List Bool → List Bool → Option (List Bool) → ℕ → ℕ → ℕ → Sought → Type 0
 SoughtAt r present stored older cycle from below (Found f) =
     (f.cycle ≡ cycle) × IsLowest r.circuit r.runs (asked_in r present stored older) cycle from f.run × IsRecorded r present stored older f
@@ -73,18 +74,23 @@ turn_by Unknown run cycle = End (Unsaid (moment run cycle))
 
 -- ---- what was asked
 
+-- it stays unknown whether the state of a moment is a predecessor, where b is the budget of a solve
+abbrev pub IsUnknownAt : Recording → List Bool → List Bool → Option (List Bool) → ℕ → Moment → Type 0
+IsUnknownAt r present stored older b m = IsUnknown r.circuit r.choice present stored older (state_of r.circuit r.runs m) b
+
 -- Of so many tries these are left. No more were taken than there are moments alike up to the end; and where they were all taken, there are
--- as many moments alike before the one at which the search was cut.
-abbrev pub HasTried : ℕ → ℕ → ℕ → (Moment → ℕ) → Sought → Type 0
-HasTried old new alike before (Found f) = Unit {0}
-HasTried old new alike before NoMoment = old ≤ new + alike
-HasTried old new alike before (Cut m) = old ≤ before m
-HasTried old new alike before (Unsaid m) = Unit {0}
+-- as many moments alike before the one at which the search was cut. A moment that is unsaid stays unknown.
+abbrev pub HasTried : ℕ → ℕ → ℕ → (Moment → ℕ) → (Moment → Type 0) → Sought → Type 0
+HasTried old new alike before unknown (Found f) = Unit {0}
+HasTried old new alike before unknown NoMoment = old ≤ new + alike
+HasTried old new alike before unknown (Cut m) = old ≤ before m
+HasTried old new alike before unknown (Unsaid m) = unknown m
 
 -- the same of one run behind another, where so many are alike up to a run
-abbrev pub HasTurned : ℕ → ℕ → (ℕ → ℕ) → ℕ → ℕ → Turn → Type 0
-HasTurned old new alike from below (GoOn run) = old + alike from ≤ new + alike run
-HasTurned old new alike from below (End sought) = HasTried (old + alike from) new (alike below) (λ m. alike (m.run - 1)) sought
+abbrev pub HasTurned : ℕ → ℕ → (ℕ → ℕ) → (Moment → Type 0) → ℕ → ℕ → Turn → Type 0
+HasTurned old new alike unknown from below (GoOn run) = old + alike from ≤ new + alike run
+HasTurned old new alike unknown from below (End sought) =
+    HasTried (old + alike from) new (alike below) (λ m. alike (m.run - 1)) unknown sought
 
 -- ---- in the order of moments
 
@@ -129,9 +135,10 @@ abbrev pub SoughtWithin : Recording → List Bool → List Bool → Option (List
 SoughtWithin r present stored older None sought = SoughtOfAll r present stored older sought
 SoughtWithin r present stored older (Some m) sought = SoughtSooner r present stored older m sought
 
--- before the moment at which a search was cut there are so many whose signature has the hash of the stored one
-abbrev pub IsCutAt : Recording → List Bool → ℕ → Sought → Type 0
-IsCutAt r stored limit (Found f) = Unit {0}
-IsCutAt r stored limit NoMoment = Unit {0}
-IsCutAt r stored limit (Cut m) = limit ≤ alike_before r stored m
-IsCutAt r stored limit (Unsaid m) = Unit {0}
+-- Before the moment at which a search was cut there are so many whose signature has the hash of the stored one. A moment that is unsaid
+-- stays unknown, where b is the budget of a solve.
+abbrev pub IsCutAt : Recording → List Bool → List Bool → Option (List Bool) → ℕ → ℕ → Sought → Type 0
+IsCutAt r present stored older b limit (Found f) = Unit {0}
+IsCutAt r present stored older b limit NoMoment = Unit {0}
+IsCutAt r present stored older b limit (Cut m) = limit ≤ alike_before r stored m
+IsCutAt r present stored older b limit (Unsaid m) = IsUnknownAt r present stored older b m

@@ -37,7 +37,7 @@ fn ask_moment(
     requires there { IsMoment chip.old.recording.runs (moment run cycle) }
     requires prober { probe.old ≡ record { circuit = chip.old.recording.circuit; choice = chip.old.recording.choice } }
     requires asking { IsAsking chip.old.recording query.now.present.now query.now.stored.now (option_map (λ bits. bits.now) query.now.older) query.now.b }
-    ensures said { IfOk result (IsProbed chip.old.recording.circuit chip.old.recording.choice query.now.present.now query.now.stored.now (option_map (λ bits. bits.now) query.now.older) (state_at chip.old.recording.circuit (run_of chip.old.recording.runs run) cycle)) }
+    ensures said { IfOk result (IsProbed chip.old.recording.circuit chip.old.recording.choice query.now.present.now query.now.stored.now (option_map (λ bits. bits.now) query.now.older) (state_at chip.old.recording.circuit (run_of chip.old.recording.runs run) cycle) query.now.b) }
     ensures chip { chip.new ≡ chip.old }
     ensures probe { probe.new ≡ probe.old }
 {
@@ -311,7 +311,7 @@ impl<'a, 'p> Finder<'a, 'p> {
         requires there { IsMoment chip.old.recording.runs (moment run cycle) }
         requires recording { self.old.recording ≡ chip.old.recording }
         requires asking { IsAsking chip.old.recording query.now.present.now query.now.stored.now (option_map (λ bits. bits.now) query.now.older) query.now.b }
-        ensures said { IfOk result (IsProbed chip.old.recording.circuit chip.old.recording.choice query.now.present.now query.now.stored.now (option_map (λ bits. bits.now) query.now.older) (state_at chip.old.recording.circuit (run_of chip.old.recording.runs run) cycle)) }
+        ensures said { IfOk result (IsProbed chip.old.recording.circuit chip.old.recording.choice query.now.present.now query.now.stored.now (option_map (λ bits. bits.now) query.now.older) (state_at chip.old.recording.circuit (run_of chip.old.recording.runs run) cycle) query.now.b) }
         ensures chip { chip.new ≡ chip.old }
         ensures kept { self.new ≡ self.old }
     {

@@ -6,7 +6,7 @@ ghost use Rattle.bs_stim.specs.declared.limits.TheConstants.{MAX_CYCLES};
 ghost use Rattle.bs_chip.specs.Lockstep.{NoneBefore};
 ghost use Rattle.bs_chip.specs.SignatureHashes.{IsNextAlike};
 ghost use Rattle.bs_preimage_recorded.specs.Finder.{IsAsking};
-ghost use Rattle.bs_preimage_recorded.specs.Search.{alike_at, alike_before, alike_below, asked_in, turn_by, HasTried, HasTurned, IsCutAt, SoughtAt, SoughtBefore, SoughtOfAll, SoughtSooner, SoughtWithin, TurnsTo};
+ghost use Rattle.bs_preimage_recorded.specs.Search.{alike_at, alike_before, alike_below, asked_in, turn_by, HasTried, HasTurned, IsCutAt, IsUnknownAt, SoughtAt, SoughtBefore, SoughtOfAll, SoughtSooner, SoughtWithin, TurnsTo};
 
 use crate::finder::{Finder, Query};
 use bs_bits::NoMemory;
@@ -41,7 +41,8 @@ pub enum Sought {
     /// As many states as the limit were asked about, each with the hash of the stored signature. No moment before this one is in a
     /// predecessor.
     Cut(Moment),
-    /// The solver did not say whether the state of this moment is a predecessor. No moment before it is in one.
+    /// It is not known whether the state of this moment is a predecessor: a solve about it spent its budget, or it cannot be asked about.
+    /// No moment before it is in one.
     Unsaid(Moment),
 }
 
@@ -88,7 +89,7 @@ fn ask_run(
     requires aimed { finder.old ≡ record { recording = chip.old.recording; present = query.now.present.now; stored = query.now.stored.now } }
     requires asking { IsAsking chip.old.recording query.now.present.now query.now.stored.now (option_map (λ bits. bits.now) query.now.older) query.now.b }
     ensures turn { IfOk result (TurnsTo chip.old.recording query.now.present.now query.now.stored.now (option_map (λ bits. bits.now) query.now.older) span.cycle span.from span.below) }
-    ensures tried { IfOk result (HasTurned tries.old tries.new (alike_at chip.old.recording query.now.stored.now span.cycle) span.from span.below) }
+    ensures tried { IfOk result (HasTurned tries.old tries.new (alike_at chip.old.recording query.now.stored.now span.cycle) (IsUnknownAt chip.old.recording query.now.present.now query.now.stored.now (option_map (λ bits. bits.now) query.now.older) query.now.b) span.from span.below) }
     ensures chip { chip.new ≡ chip.old }
     ensures finder { finder.new ≡ finder.old }
 {
@@ -117,7 +118,7 @@ fn try_run(
     requires aimed { finder.old ≡ record { recording = chip.old.recording; present = query.now.present.now; stored = query.now.stored.now } }
     requires asking { IsAsking chip.old.recording query.now.present.now query.now.stored.now (option_map (λ bits. bits.now) query.now.older) query.now.b }
     ensures turn { IfOk result (TurnsTo chip.old.recording query.now.present.now query.now.stored.now (option_map (λ bits. bits.now) query.now.older) span.cycle span.from span.below) }
-    ensures tried { IfOk result (HasTurned tries.old tries.new (alike_at chip.old.recording query.now.stored.now span.cycle) span.from span.below) }
+    ensures tried { IfOk result (HasTurned tries.old tries.new (alike_at chip.old.recording query.now.stored.now span.cycle) (IsUnknownAt chip.old.recording query.now.present.now query.now.stored.now (option_map (λ bits. bits.now) query.now.older) query.now.b) span.from span.below) }
     ensures chip { chip.new ≡ chip.old }
     ensures finder { finder.new ≡ finder.old }
 {
@@ -144,7 +145,7 @@ fn next_turn(
     requires aimed { finder.old ≡ record { recording = chip.old.recording; present = query.now.present.now; stored = query.now.stored.now } }
     requires asking { IsAsking chip.old.recording query.now.present.now query.now.stored.now (option_map (λ bits. bits.now) query.now.older) query.now.b }
     ensures turn { IfOk result (TurnsTo chip.old.recording query.now.present.now query.now.stored.now (option_map (λ bits. bits.now) query.now.older) span.cycle span.from span.below) }
-    ensures tried { IfOk result (HasTurned tries.old tries.new (alike_at chip.old.recording query.now.stored.now span.cycle) span.from span.below) }
+    ensures tried { IfOk result (HasTurned tries.old tries.new (alike_at chip.old.recording query.now.stored.now span.cycle) (IsUnknownAt chip.old.recording query.now.present.now query.now.stored.now (option_map (λ bits. bits.now) query.now.older) query.now.b) span.from span.below) }
     ensures chip { chip.new ≡ chip.old }
     ensures finder { finder.new ≡ finder.old }
 {
@@ -168,7 +169,7 @@ fn lowest_at(
     requires aimed { finder.old ≡ record { recording = chip.old.recording; present = query.now.present.now; stored = query.now.stored.now } }
     requires asking { IsAsking chip.old.recording query.now.present.now query.now.stored.now (option_map (λ bits. bits.now) query.now.older) query.now.b }
     ensures sought { IfOk result (SoughtAt chip.old.recording query.now.present.now query.now.stored.now (option_map (λ bits. bits.now) query.now.older) cycle 0 below) }
-    ensures tried { IfOk result (HasTried tries.old tries.new (alike_at chip.old.recording query.now.stored.now cycle below) (λ m. alike_at chip.old.recording query.now.stored.now cycle (m.run - 1))) }
+    ensures tried { IfOk result (HasTried tries.old tries.new (alike_at chip.old.recording query.now.stored.now cycle below) (λ m. alike_at chip.old.recording query.now.stored.now cycle (m.run - 1)) (IsUnknownAt chip.old.recording query.now.present.now query.now.stored.now (option_map (λ bits. bits.now) query.now.older) query.now.b)) }
     ensures chip { chip.new ≡ chip.old }
     ensures finder { finder.new ≡ finder.old }
 {
@@ -216,7 +217,7 @@ fn first_before(
     requires aimed { finder.old ≡ record { recording = chip.old.recording; present = query.now.present.now; stored = query.now.stored.now } }
     requires asking { IsAsking chip.old.recording query.now.present.now query.now.stored.now (option_map (λ bits. bits.now) query.now.older) query.now.b }
     ensures sought { IfOk result (SoughtBefore chip.old.recording query.now.present.now query.now.stored.now (option_map (λ bits. bits.now) query.now.older) limit) }
-    ensures tried { IfOk result (HasTried tries.old tries.new (alike_below chip.old.recording query.now.stored.now limit) (alike_before chip.old.recording query.now.stored.now)) }
+    ensures tried { IfOk result (HasTried tries.old tries.new (alike_below chip.old.recording query.now.stored.now limit) (alike_before chip.old.recording query.now.stored.now) (IsUnknownAt chip.old.recording query.now.present.now query.now.stored.now (option_map (λ bits. bits.now) query.now.older) query.now.b)) }
     ensures chip { chip.new ≡ chip.old }
     ensures finder { finder.new ≡ finder.old }
 {
@@ -247,7 +248,7 @@ fn first_sooner(
     requires aimed { finder.old ≡ record { recording = chip.old.recording; present = query.now.present.now; stored = query.now.stored.now } }
     requires asking { IsAsking chip.old.recording query.now.present.now query.now.stored.now (option_map (λ bits. bits.now) query.now.older) query.now.b }
     ensures sought { IfOk result (SoughtSooner chip.old.recording query.now.present.now query.now.stored.now (option_map (λ bits. bits.now) query.now.older) moment) }
-    ensures tried { IfOk result (IsCutAt chip.old.recording query.now.stored.now tries.old) }
+    ensures tried { IfOk result (IsCutAt chip.old.recording query.now.present.now query.now.stored.now (option_map (λ bits. bits.now) query.now.older) query.now.b tries.old) }
     ensures chip { chip.new ≡ chip.old }
     ensures finder { finder.new ≡ finder.old }
 {
@@ -271,7 +272,7 @@ fn first_of_all(
     requires aimed { finder.old ≡ record { recording = chip.old.recording; present = query.now.present.now; stored = query.now.stored.now } }
     requires asking { IsAsking chip.old.recording query.now.present.now query.now.stored.now (option_map (λ bits. bits.now) query.now.older) query.now.b }
     ensures sought { IfOk result (SoughtOfAll chip.old.recording query.now.present.now query.now.stored.now (option_map (λ bits. bits.now) query.now.older)) }
-    ensures tried { IfOk result (IsCutAt chip.old.recording query.now.stored.now tries.old) }
+    ensures tried { IfOk result (IsCutAt chip.old.recording query.now.present.now query.now.stored.now (option_map (λ bits. bits.now) query.now.older) query.now.b tries.old) }
     ensures chip { chip.new ≡ chip.old }
     ensures finder { finder.new ≡ finder.old }
 {
@@ -293,7 +294,7 @@ fn first_within(
     requires aimed { finder.old ≡ record { recording = chip.old.recording; present = query.now.present.now; stored = query.now.stored.now } }
     requires asking { IsAsking chip.old.recording query.now.present.now query.now.stored.now (option_map (λ bits. bits.now) query.now.older) query.now.b }
     ensures sought { IfOk result (SoughtWithin chip.old.recording query.now.present.now query.now.stored.now (option_map (λ bits. bits.now) query.now.older) before) }
-    ensures tried { IfOk result (IsCutAt chip.old.recording query.now.stored.now most) }
+    ensures tried { IfOk result (IsCutAt chip.old.recording query.now.present.now query.now.stored.now (option_map (λ bits. bits.now) query.now.older) query.now.b most) }
     ensures chip { chip.new ≡ chip.old }
     ensures finder { finder.new ≡ finder.old }
 {
@@ -316,7 +317,7 @@ fn first_ahead<'a>(
     requires aimed { finder.old ≡ record { recording = chip.old.recording; present = query.now.present.now; stored = query.now.stored.now } }
     requires asking { IsAsking chip.old.recording query.now.present.now query.now.stored.now (option_map (λ bits. bits.now) query.now.older) query.now.b }
     ensures sought { IfOk result (SoughtWithin chip.old.recording query.now.present.now query.now.stored.now (option_map (λ bits. bits.now) query.now.older) before) }
-    ensures cut { IfOk result (IsCutAt chip.old.recording query.now.stored.now MAX_ASKS) }
+    ensures cut { IfOk result (IsCutAt chip.old.recording query.now.present.now query.now.stored.now (option_map (λ bits. bits.now) query.now.older) query.now.b MAX_ASKS) }
     ensures chip { chip.new ≡ chip.old }
     ensures finder { finder.new.recording ≡ finder.old.recording }
 {
@@ -337,7 +338,7 @@ fn first_unseen<'a>(
     requires aimed { finder.old ≡ record { recording = chip.old.recording; present = query.now.present.now; stored = query.now.stored.now } }
     requires asking { IsAsking chip.old.recording query.now.present.now query.now.stored.now (option_map (λ bits. bits.now) query.now.older) query.now.b }
     ensures sought { IfOk result (SoughtWithin chip.old.recording query.now.present.now query.now.stored.now (option_map (λ bits. bits.now) query.now.older) before) }
-    ensures cut { IfOk result (IsCutAt chip.old.recording query.now.stored.now MAX_ASKS) }
+    ensures cut { IfOk result (IsCutAt chip.old.recording query.now.present.now query.now.stored.now (option_map (λ bits. bits.now) query.now.older) query.now.b MAX_ASKS) }
     ensures chip { chip.new ≡ chip.old }
     ensures finder { finder.new.recording ≡ finder.old.recording }
 {
@@ -350,7 +351,8 @@ fn first_unseen<'a>(
 }
 
 /// The first moment in a predecessor: of those before a moment, if one is given, or of all. The search is cut where it has asked
-/// about `MAX_ASKS` states: as many moments before the one that it stands at have a signature with the hash of the stored one.
+/// about `MAX_ASKS` states: as many moments before the one that it stands at have a signature with the hash of the stored one. It ends
+/// at a moment that is unsaid only where a solve about its state spent its budget, or the state cannot be asked about.
 pub fn first_recorded<'a>(
     alloc: Global,
     chip: &mut Chip<'a>,
@@ -362,7 +364,7 @@ pub fn first_recorded<'a>(
     requires recording { finder.old.recording ≡ chip.old.recording }
     requires asking { IsAsking chip.old.recording query.now.present.now query.now.stored.now (option_map (λ bits. bits.now) query.now.older) query.now.b }
     ensures sought { IfOk result (SoughtWithin chip.old.recording query.now.present.now query.now.stored.now (option_map (λ bits. bits.now) query.now.older) before) }
-    ensures cut { IfOk result (IsCutAt chip.old.recording query.now.stored.now MAX_ASKS) }
+    ensures cut { IfOk result (IsCutAt chip.old.recording query.now.present.now query.now.stored.now (option_map (λ bits. bits.now) query.now.older) query.now.b MAX_ASKS) }
     ensures chip { chip.new ≡ chip.old }
     ensures finder { finder.new.recording ≡ finder.old.recording }
 {

@@ -1,31 +1,95 @@
-//! Calls on files in memory.
+//! Calls on files in memory, each of which is given once. Each value that is made has a function of its own, which lends it to the
+//! next one.
 
-use crate::files::Texts;
-use bs_outside::{MemShelf, MemSink, NoMemory};
-use bs_top::{Status, backspace};
+use bs_outside::{MemSink, NoMemory, OnceShelf};
+use bs_top::{Status, backspace_noted};
 use std::alloc::Global;
 
-/// A call's faults: the number of the fetch that fails, that of the put that fails and after how many bytes, and the room
-/// of the sink. The number 0 is that of no call.
-pub type Faults = (u64, (u64, usize), usize);
+/// How an output fails: the number of the put that fails, after how many bytes it does, and the room. The number 0 is that of no put.
+pub type Fails = ((u64, usize), usize);
 
-/// No faults.
-pub const SOUND: Faults = (0, (0, 0), 65536);
+/// It does not fail.
+pub const SOUND: Fails = ((0, 0), 65536);
 
-/// The words of a line, the files, the faults, and the answer: the status and what is written.
-pub type Row<'a> = (&'a str, Texts<'a>, Faults, Status, &'a str);
+/// The texts of the files `n`, `s`, `t`, `d` and `r`: netlist, signature, stimulus, dump and report.
+pub type Texts<'a> = [&'a str; 5];
 
-/// Puts the words of a line behind others.
-pub fn push_words(alloc: Global, words: &mut Vec<String>, line: &str) -> Result<(), NoMemory> {
-    for word in line.split(' ') {
-        let word = String::from_str(alloc, word)?;
-        words.push(word)?;
-    }
-    Ok(())
+/// The answer to a call: its status, what is written, and the note.
+#[derive(Drop)]
+pub struct Answer {
+    pub status: Status,
+    pub out: Vec<u8>,
+    pub note: Vec<u8>,
 }
 
+/// The call.
+fn call(
+    alloc: Global,
+    words: &[String],
+    shelf: &mut OnceShelf,
+    out: &mut MemSink,
+    notes: &mut MemSink,
+) -> Result<Status, NoMemory> {
+    backspace_noted(alloc, words, shelf, out, notes)
+}
+
+/// An answer of these bytes.
+fn answer_with(alloc: Global, status: Status, out: &[u8], note: &[u8]) -> Result<Answer, NoMemory> {
+    let out = Vec::from_slice(alloc, out)?;
+    let note = Vec::from_slice(alloc, note)?;
+    Ok(Answer { status, out, note })
+}
+
+/// The answer to a call with these sinks.
+fn answer_on(
+    alloc: Global,
+    words: &[String],
+    shelf: &mut OnceShelf,
+    out: &mut MemSink,
+    notes: &mut MemSink,
+) -> Result<Answer, NoMemory> {
+    match call(alloc, words, shelf, out, notes) {
+        Ok(status) => answer_with(alloc, status, out.bytes(), notes.bytes()),
+        Err(fault) => Err(fault),
+    }
+}
+
+/// The same with an output of which one put fails.
+fn answer_within(
+    alloc: Global,
+    words: &[String],
+    shelf: &mut OnceShelf,
+    out: &mut MemSink,
+) -> Result<Answer, NoMemory> {
+    match MemSink::new(alloc, 1000, Vec::new(alloc)) {
+        Ok(mut notes) => answer_on(alloc, words, shelf, out, &mut notes),
+        Err(fault) => Err(fault),
+    }
+}
+
+/// An output with a room, of which one put fails.
+fn output(alloc: Global, put: (u64, usize), room: usize) -> Result<MemSink, NoMemory> {
+    MemSink::new(alloc, room, vec![in alloc; put]?)
+}
+
+/// The same with a room.
+fn answer_of(
+    alloc: Global,
+    words: &[String],
+    shelf: &mut OnceShelf,
+    fails: Fails,
+) -> Result<Answer, NoMemory> {
+    match output(alloc, fails.0, fails.1) {
+        Ok(mut out) => answer_within(alloc, words, shelf, &mut out),
+        Err(fault) => Err(fault),
+    }
+}
+
+/// The names of the files.
+static NAMES: [&str; 5] = ["n", "s", "t", "d", "r"];
+
 /// Puts a file behind others.
-pub fn push_file(
+fn push_file(
     alloc: Global,
     files: &mut Vec<(String, Vec<u8>)>,
     name: &str,
@@ -36,9 +100,6 @@ pub fn push_file(
     Ok(files.push((name, bytes))?)
 }
 
-/// The names of the files.
-static NAMES: [&str; 5] = ["n", "s", "t", "d", "r"];
-
 /// The five files.
 fn files(alloc: Global, texts: &Texts<'_>) -> Result<Vec<(String, Vec<u8>)>, NoMemory> {
     let mut files = Vec::new(alloc);
@@ -48,88 +109,49 @@ fn files(alloc: Global, texts: &Texts<'_>) -> Result<Vec<(String, Vec<u8>)>, NoM
     Ok(files)
 }
 
-/// The shelf of the five files, of which one fetch fails.
-fn shelf(alloc: Global, texts: &Texts<'_>, fetch: u64) -> Result<MemShelf, NoMemory> {
-    let fails = vec![in alloc; fetch]?;
-    let files = files(alloc, texts)?;
-    MemShelf::new(alloc, files, fails)
-}
-
-/// A sink with a room, of which one put fails.
-fn sink(alloc: Global, put: (u64, usize), room: usize) -> Result<MemSink, NoMemory> {
-    MemSink::new(alloc, room, vec![in alloc; put]?)
-}
-
-/// The status of a call, and the sink that it has written to.
-fn answered(
+/// The answer to words on files.
+fn answer_once(
     alloc: Global,
     words: &[String],
-    shelf: &mut MemShelf,
-    mut out: MemSink,
-) -> Result<(Status, MemSink), NoMemory> {
-    match backspace(alloc, words, shelf, &mut out) {
-        Ok(status) => Ok((status, out)),
+    files: Vec<(String, Vec<u8>)>,
+    fails: Fails,
+) -> Result<Answer, NoMemory> {
+    let mut shelf = OnceShelf::new(files);
+    answer_of(alloc, words, &mut shelf, fails)
+}
+
+/// The same on files of these texts.
+fn answer_over(
+    alloc: Global,
+    words: &[String],
+    texts: &Texts<'_>,
+    fails: Fails,
+) -> Result<Answer, NoMemory> {
+    match files(alloc, texts) {
+        Ok(files) => answer_once(alloc, words, files, fails),
         Err(fault) => Err(fault),
     }
 }
 
-/// The same on these files.
-fn answered_on(
-    alloc: Global,
-    words: &[String],
-    texts: &Texts<'_>,
-    (fetch, put, room): Faults,
-) -> Result<(Status, MemSink), NoMemory> {
-    let mut shelf = shelf(alloc, texts, fetch)?;
-    match sink(alloc, put, room) {
-        Ok(out) => answered(alloc, words, &mut shelf, out),
-        Err(fault) => Err(fault),
+/// The words of a line.
+fn words_of(alloc: Global, line: &str) -> Result<Vec<String>, NoMemory> {
+    let mut words = Vec::new(alloc);
+    for word in line.split(' ') {
+        let word = String::from_str(alloc, word)?;
+        words.push(word)?;
     }
+    Ok(words)
 }
 
-/// The same of the words of a line, which are put behind no others.
-fn called_with(
-    alloc: Global,
-    words: &mut Vec<String>,
-    line: &str,
-    texts: &Texts<'_>,
-    faults: Faults,
-) -> Result<(Status, MemSink), NoMemory> {
-    push_words(alloc, words, line)?;
-    answered_on(alloc, words, texts, faults)
-}
-
-/// The status of the words of a line on these files, and the sink that is written to.
+/// The answer to the words of a line on these files.
 pub fn called(
     alloc: Global,
     line: &str,
     texts: &Texts<'_>,
-    faults: Faults,
-) -> Result<(Status, MemSink), NoMemory> {
-    let mut words = Vec::new(alloc);
-    called_with(alloc, &mut words, line, texts, faults)
-}
-
-/// Whether a call has its answer.
-pub fn is_answered(
-    alloc: Global,
-    (line, texts, faults, status, want): &Row<'_>,
-) -> Result<bool, NoMemory> {
-    match called(alloc, line, texts, *faults) {
-        Ok((got, out)) => Ok(got == *status && out.bytes() == want.as_bytes()),
+    fails: Fails,
+) -> Result<Answer, NoMemory> {
+    match words_of(alloc, line) {
+        Ok(words) => answer_over(alloc, &words, texts, fails),
         Err(fault) => Err(fault),
     }
-}
-
-/// The first of these calls that has another answer, by its words and what was wanted.
-pub fn first_other<'a>(
-    alloc: Global,
-    rows: &[Row<'a>],
-) -> Result<Option<(&'a str, &'a str)>, NoMemory> {
-    for row in rows {
-        if !is_answered(alloc, row)? {
-            return Ok(Some((row.0, row.4)));
-        }
-    }
-    Ok(None)
 }

@@ -1,7 +1,6 @@
-//! The generated job.
+//! The generated job: run 1's dump at cycle 256 is traced back by two steps.
 
-use crate::calls::{Row, SOUND, called, first_other};
-use crate::files::NOTHING;
+use crate::calls::{Answer, SOUND, called};
 use bs_gen::{GeneratedJob, make};
 use bs_outside::NoMemory;
 use bs_top::Status;
@@ -38,33 +37,38 @@ fn is_traced(report: &[u8]) -> bool {
     }
 }
 
-/// Whether a run from this dump makes two such steps.
-fn is_run(alloc: Global, texts: [&str; 3], dump: &[u8]) -> Result<bool, NoMemory> {
+/// Whether an answer is done, with a report of two such steps.
+fn is_done(answer: &Answer) -> bool {
+    answer.status == Status::Done && is_traced(&answer.out)
+}
+
+/// Whether a run on these files is.
+fn is_run(alloc: Global, texts: &[&str; 5]) -> Result<bool, NoMemory> {
+    let line = "run n s t d --steps 2 --candidates 64 --conflicts 10000";
+    match called(alloc, line, texts, SOUND) {
+        Ok(answer) => Ok(is_done(&answer)),
+        Err(fault) => Err(fault),
+    }
+}
+
+/// The same from this dump.
+fn is_run_from(alloc: Global, texts: &[&str; 3], dump: &[u8]) -> Result<bool, NoMemory> {
     match str::from_utf8(dump) {
-        Ok(dump) => is_run_from(alloc, &[texts[0], texts[1], texts[2], dump, ""]),
+        Ok(dump) => is_run(alloc, &[texts[0], texts[1], texts[2], dump, ""]),
         Err(_) => Ok(false),
     }
 }
 
-/// The same from the files.
-fn is_run_from(alloc: Global, texts: &[&str; 5]) -> Result<bool, NoMemory> {
-    let line = "run n s t d --steps 2 --candidates 64 --conflicts 10000";
-    match called(alloc, line, texts, SOUND) {
-        Ok((status, out)) => Ok(status == Status::Done && is_traced(out.bytes())),
-        Err(fault) => Err(fault),
-    }
-}
-
-/// Whether the dump of run 1 at cycle 256 is traced back so.
-fn is_dumped_and_run(alloc: Global, texts: [&str; 3]) -> Result<bool, NoMemory> {
+/// The same from the dump of run 1 at cycle 256.
+fn is_dumped_and_run(alloc: Global, texts: &[&str; 3]) -> Result<bool, NoMemory> {
     let files = [texts[0], texts[1], texts[2], "", ""];
     match called(alloc, "dump n s t 1 256", &files, SOUND) {
-        Ok((_, out)) => is_run(alloc, texts, out.bytes()),
+        Ok(answer) => is_run_from(alloc, texts, &answer.out),
         Err(fault) => Err(fault),
     }
 }
 
-/// Whether the texts of a job are traced back so.
+/// The same of the texts of a job.
 fn is_job(alloc: Global, job: &GeneratedJob) -> Result<bool, NoMemory> {
     match (
         str::from_utf8(job.netlist.slice()),
@@ -72,7 +76,7 @@ fn is_job(alloc: Global, job: &GeneratedJob) -> Result<bool, NoMemory> {
         str::from_utf8(job.stimulus.slice()),
     ) {
         (Ok(netlist), Ok(signature), Ok(stimulus)) => {
-            is_dumped_and_run(alloc, [netlist, signature, stimulus])
+            is_dumped_and_run(alloc, &[netlist, signature, stimulus])
         }
         _ => Ok(false),
     }
@@ -86,27 +90,8 @@ fn is_traced_back(alloc: Global, number: u64) -> Result<bool, NoMemory> {
     }
 }
 
-/// The lines of two jobs.
-static DEMOS: [Row<'static>; 2] = [
-    (
-        "demo 7",
-        NOTHING,
-        SOUND,
-        Status::Done,
-        "demo 7 steps 64 finished 64 listed 512 stop length\n",
-    ),
-    (
-        "demo 8",
-        NOTHING,
-        SOUND,
-        Status::Done,
-        "demo 8 steps 64 finished 64 listed 512 stop length\n",
-    ),
-];
-
 #[test]
 fn a_generated_job_is_traced_back(rt: HostRuntime) -> Result<(), Fail> {
     assert!(rt; is_traced_back(rt.alloc(), 7)?);
-    assert_eq!(rt; first_other(rt.alloc(), &DEMOS)?, None);
     Ok(())
 }

@@ -1,8 +1,7 @@
-//! Worked rows of the program: words, files and faults in memory, and the wanted answers.
+//! Worked rows of the program's call that no run of the program shows: outputs in memory of which a given put fails, faults that tell
+//! no reason, and the generated job. All other rows are whole runs (tools/rows/).
 #![tactic(auto)]
 
-#[cfg(test)]
-mod audit_rows;
 #[cfg(test)]
 mod calls;
 #[cfg(test)]
@@ -10,30 +9,4 @@ mod demo_rows;
 #[cfg(test)]
 mod fault_rows;
 #[cfg(test)]
-mod files;
-#[cfg(test)]
-mod floor_rows;
-#[cfg(test)]
 mod gen_rows;
-#[cfg(test)]
-mod limit_rows;
-#[cfg(test)]
-mod mode_rows;
-#[cfg(test)]
-mod older_rows;
-#[cfg(test)]
-mod output_rows;
-#[cfg(test)]
-mod reach_rows;
-#[cfg(test)]
-mod refusal_rows;
-#[cfg(test)]
-mod reports;
-#[cfg(test)]
-mod run_rows;
-#[cfg(test)]
-mod said_rows;
-#[cfg(test)]
-mod wave_rows;
-#[cfg(test)]
-mod word_rows;

@@ -42,7 +42,7 @@ pub record IsMade (chip : Recording) (dump : Dump) (budgets : Budgets) (r : Repo
   pub progress : GoesBack r
   pub lean : IsLean (basis_of chip.circuit chip.choice (map present_of r.steps)).problem (history_of r.log)
   pub bound : HasBound (basis_of chip.circuit chip.choice (map present_of r.steps)).problem r
-  pub searched : WereSearched chip r.steps
+  pub searched : WereSearched chip budgets.conflicts r.steps
   pub readable : HasReportText r
 
 made_alike : (chip : Recording) (dump : Dump) (budgets : Budgets) (r : Report) → IsCrash (crash_of chip dump) → IsMade chip dump budgets r →
@@ -64,7 +64,7 @@ pub backtrace_ok : {E : Type 0} (recorded chip : Recording) (dump : Dump) (budge
     IfOk r (λ report. IsValid (crash_of chip dump) (basis_of chip.circuit chip.choice (map present_of report.steps)) report) → IfOk r GoesBack →
     IfOk r (λ report. IsLean (basis_of chip.circuit chip.choice (map present_of report.steps)).problem (history_of report.log)) →
     IfOk r (λ report. HasBound (basis_of chip.circuit chip.choice (map present_of report.steps)).problem report) →
-    IfOk r (λ report. WereSearched chip report.steps) → IfOk r HasReportText →
+    IfOk r (λ report. WereSearched chip budgets.conflicts report.steps) → IfOk r HasReportText →
     IfOk r (IsBacktrace (crash_of recorded dump) budgets)
 backtrace_ok recorded chip dump budgets (Ok report) is crash_files asked good valid back lean bound searched readable =
     made_alike recorded dump budgets report crash_files

@@ -52,15 +52,15 @@ recording_for crash = record { circuit = crash.circuit; choice = crash.choice; r
 -- hits at a cycle within the budget of steps, and no list with a hit ended with conflicts, it comes to reset or stops with conflicts.
 -- Each step of its log leaves the lemmas that are kept and no block, and each lemma is a new resolvent; a list ends in conflicts only
 -- as the budget of lemmas allows. Each step whose list did not end with conflicts hits the first moment of any run in a predecessor, listed
--- or not, and where it has no hit no recorded moment is in one; or else the search for that moment was cut, and far enough. And the report
--- is read back from its text.
+-- or not, and where it has no hit no recorded moment is in one; or else the search for that moment was cut, far enough, or where a solve
+-- spent its budget. And the report is read back from its text.
 pub record IsBacktrace (crash : Crash) (budgets : Budgets) (report : Report) : Type 0 where
   pub asked : report.budgets ≡ budgets
   pub sound : IsSoundReport crash report
   pub progress : GoesBack report
   pub lean : IsLean (basis_for crash report).problem (history_of report.log)
   pub bound : HasBound (basis_for crash report).problem report
-  pub searched : WereSearched (recording_for crash) report.steps
+  pub searched : WereSearched (recording_for crash) budgets.conflicts report.steps
   pub readable : HasReportText report
 
 -- ---- what is answered and written

@@ -4,5 +4,6 @@ use Rattle.bs_inspect_cells.proofs.rows.push_name_cell.Goals as goal
 
 pub returns : goal.returns
 returns c =
-    name_put (signal_in c.args.signal.now) c.args.text.now.items c.push_piece.new.text.items c.push_shown_name.new.text.items
-    c.push_piece-2.new.text.items c.in_ok-push_piece.ensures.ok c.in_ok-push_shown_name.ensures c.in_ok-push_piece-2.ensures.ok
+    name_put c.args.signed.now (signal_in c.args.signal.now) c.slice.result.now c.is_signed-marked.result c.args.text.now.items
+    c.push_name_front.new.text.items c.push_shown_name.new.text.items c.push_name_end.new.text.items c.slice.ensures c.is_signed-marked.ensures
+    c.in_ok-push_name_front.ensures c.in_ok-push_shown_name.ensures c.in_ok-push_name_end.ensures

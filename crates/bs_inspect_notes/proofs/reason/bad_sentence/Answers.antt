@@ -6,4 +6,4 @@ pub returns : goal.returns
 returns c =
     c.in_ok-said.ensures
     ∙ λ i. bound_text c.args.number (c.word_or-word.ensures i)
-    ((c.bounds_or-bounds.ensures ∙ ap bounds_or (c.option_name.ensures ∙ ap option_name c.word_or-word.ensures)) i)
+    ((c.bounds_or-bounds.ensures ∙ ap (bounds_or c.args.command.now) (c.option_name.ensures ∙ ap option_name c.word_or-word.ensures)) i)

@@ -1,8 +1,16 @@
+use Rattle.std.proofs.Common.{◌≡◌, ◌∙◌, map}
+use Rattle.std.specs.Prelude.{string_bytes}
+use Rattle.std.proofs.lemmas.Result.{IfOk-weaker}
+use Rattle.bs_inspect_notes.specs.Usages.{stand_of}
 use Rattle.bs_inspect_notes.proofs.ReasonLemmas.{number_found, number_none}
 use Rattle.bs_inspect_notes.proofs.reason.number_sentence.Goals as goal
 
 pub returns-in-Some : goal.returns-in-Some
-returns-in-Some c = number_found _ _ _ _ c.in-Some.ensures.is c.bad_sentence.ensures
+returns-in-Some c =
+    number_found c.args.command.now (map string_bytes c.args.words.now) _ _ _ c.in-Some.ensures.is c.bad_sentence.ensures
 
 pub returns-in-None : goal.returns-in-None
-returns-in-None c = number_none _ _ _ c.in-None.ensures.is c.copy_of.ensures
+returns-in-None c =
+    number_none c.args.command.now (map string_bytes c.args.words.now) _ _ c.in-None.ensures.is
+    (IfOk-weaker c.copy_of.result (λ n. n.items ≡ c.stand_sentence.result.now) (λ n. n.items ≡ stand_of c.args.command.now (map string_bytes c.args.words.now))
+    (λ n e. e ∙ c.stand_sentence.ensures) c.copy_of.ensures)

@@ -1,5 +1,5 @@
 use Rattle.std.proofs.Common.{◌∙◌, codes}
-use Rattle.bs_inspect_notes.specs.Usages.{word_text}
+use Rattle.bs_inspect_notes.specs.Usages.{options, word_text}
 use Rattle.bs_inspect_notes.proofs.WordLemmas.{paired}
 use Rattle.bs_inspect_notes.proofs.usage.option_note.Goals as goal
 
@@ -7,5 +7,5 @@ pub returns : goal.returns
 returns c =
     paired _ _ _ _ _
     (c.deref.ensures.value ∙ (c.in_ok-said.ensures
-    ∙ (λ i. word_text c.args.number c.args.word.now (c.option_name.ensures i) (codes "option") (c.option_names.ensures i))))
+    ∙ (λ i. word_text c.args.number c.args.word.now (c.option_name.ensures i) (codes "option") options)))
     c.as_bytes.ensures.value c.pair_note.ensures

@@ -4,6 +4,6 @@ use Rattle.bs_inspect_page.proofs.last_list.push_row.Goals as goal
 
 pub returns : goal.returns
 returns c =
-    row_put c.args.cands.now (signal_in c.args.signal.now) c.slice.result.now c.args.text.now.items c.push_name_cell.new.text.items
+    row_put c.args.signed.now c.args.cands.now (signal_in c.args.signal.now) c.slice.result.now c.args.text.now.items c.push_name_cell.new.text.items
     c.push_cells.new.text.items c.push_piece.new.text.items c.slice.ensures c.in_ok-push_name_cell.ensures c.in_ok-push_cells.ensures
     c.in_ok-push_piece.ensures.ok

@@ -20,3 +20,6 @@ pub returns-clause-sought : goal.returns-clause-sought
 returns-clause-sought c =
     subst (λ (o : Option Moment). SoughtWithin c.args.chip.now.recording c.args.now.now.state c.args.stored.now c.args.now.now.older o c.in_ok-sought.sought)
     c.floor_of.ensures (rw c.lent.ensures at c.in_ok-sought.ensures.sought)
+
+pub returns-clause-cut : goal.returns-clause-cut
+returns-clause-cut c = rw c.lent.ensures at c.in_ok-sought.ensures.cut

@@ -32,5 +32,5 @@ list_asking-requires c =
 
 pub returns-clause-listed : goal.returns-clause-listed
 returns-clause-listed c =
-    listed_from c.args.chip.now.recording c.args.budgets.now c.args.preimage.now c.list_asking.new.self _ _ c.in_ok-listing.listing refl refl
+    listed_from c.args.chip.now.recording c.args.budgets.now c.args.preimage.now c.list_asking.new.self _ _ c.in_ok-listing.listing refl refl refl
     c.list_asking.ensures.calls (rw c.lent.ensures at c.in_ok-listing.ensures.ok)

@@ -15,7 +15,7 @@ returns-clause-turn c =
 
 pub returns-clause-searched : goal.returns-clause-searched
 returns-clause-searched c =
-    turn_searched c.args.chip.now.recording c.args.steps.now c.advance.new.steps c.args.searched.now c.advance.new.searched c.in_ok-step.step
+    turn_searched c.args.chip.now.recording c.args.budgets.now.conflicts c.args.steps.now c.advance.new.steps c.args.searched.now c.advance.new.searched c.in_ok-step.step
     c.in_ok-listing.field-0.reach c.advance.result c.advance.ensures.steps c.advance.ensures.searched
     (step_hits c.args.chip.now.recording c.args.budgets.now c.args.preimage.now c.look_from.new.preimage c.args.now.now c.in_ok-stored-in-Some.stored
     c.args.at.now c.in_ok-listing.field-0.listing c.in_ok-listing.field-0.hit c.in_ok-listing.field-0.reach c.in_ok-step.step c.requires.circuit

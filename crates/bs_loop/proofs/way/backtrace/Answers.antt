@@ -84,8 +84,8 @@ returns c =
       trace = parts c.logged.result (IsTold chip dump budgets) _ all (λ r t. t.trace);
       lean = parts c.logged.result (IsTold chip dump budgets) _ all (λ r t. t.lean);
       searched =
-          with_its_log c.unlogged-report.result c.logged.result _ _ (IsWithLog c.unlogged-report.new.preimage) (λ r. WereSearched chip r.steps)
+          with_its_log c.unlogged-report.result c.logged.result _ _ (IsWithLog c.unlogged-report.new.preimage) (λ r. WereSearched chip budgets.conflicts r.steps)
           c.logged.ensures c.unlogged-report.ensures.searched c.unlogged-report.ensures.searched
-          (λ report r searched _ with_log. subst (WereSearched chip) (sym with_log.alike.steps_are) searched);
+          (λ report r searched _ with_log. subst (WereSearched chip budgets.conflicts) (sym with_log.alike.steps_are) searched);
       chip = c.unlogged-report.ensures.chip;
     }

@@ -8,9 +8,9 @@ use Rattle.bs_loop.proofs.way.walk_turns.Goals as goal
 
 pub returns-in-Some : goal.returns-in-Some
 returns-in-Some c =
-    let reaches : AreSearched c.args.chip.now.recording c.turn.new.steps c.turn.new.searched =
-    searched_more c.args.chip.now.recording c.turns.steps c.turn.new.steps c.turns.searched c.turn.new.searched c.turns.invariant.searched
-    (subst (λ (k : Recording). IsTurnSearched k c.turns.steps c.turn.new.steps c.turns.searched c.turn.new.searched) c.turns.invariant.chip
+    let reaches : AreSearched c.args.chip.now.recording c.args.budgets.now.conflicts c.turn.new.steps c.turn.new.searched =
+    searched_more c.args.chip.now.recording c.args.budgets.now.conflicts c.turns.steps c.turn.new.steps c.turns.searched c.turn.new.searched c.turns.invariant.searched
+    (subst (λ (k : Recording). IsTurnSearched k c.args.budgets.now.conflicts c.turns.steps c.turn.new.steps c.turns.searched c.turn.new.searched) c.turns.invariant.chip
     c.in_ok-stop.ensures.searched) in
     let made =
     stopped c.args.chip.now.recording c.args.dump.now c.args.budgets.now c.turns.steps c.turn.new.steps c.turns.preimage c.turn.new.preimage c.turns.now
@@ -23,9 +23,9 @@ returns-in-Some c =
 
 pub turns-preserved : goal.turns-preserved
 turns-preserved c =
-    let reaches : AreSearched c.args.chip.now.recording c.turn.new.steps c.turn.new.searched =
-    searched_more c.args.chip.now.recording c.turns.steps c.turn.new.steps c.turns.searched c.turn.new.searched c.turns.invariant.searched
-    (subst (λ (k : Recording). IsTurnSearched k c.turns.steps c.turn.new.steps c.turns.searched c.turn.new.searched) c.turns.invariant.chip
+    let reaches : AreSearched c.args.chip.now.recording c.args.budgets.now.conflicts c.turn.new.steps c.turn.new.searched =
+    searched_more c.args.chip.now.recording c.args.budgets.now.conflicts c.turns.steps c.turn.new.steps c.turns.searched c.turn.new.searched c.turns.invariant.searched
+    (subst (λ (k : Recording). IsTurnSearched k c.args.budgets.now.conflicts c.turns.steps c.turn.new.steps c.turns.searched c.turn.new.searched) c.turns.invariant.chip
     c.in_ok-stop.ensures.searched) in
     record {
       searched = reaches;

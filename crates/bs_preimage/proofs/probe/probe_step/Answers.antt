@@ -6,7 +6,7 @@ use Rattle.bs_encode.proofs.LawLemmas.{parts_placed}
 use Rattle.bs_encode.specs.Encoded.{Encoded}
 use Rattle.bs_preimage.specs.Probe.{HasAnswered}
 use Rattle.bs_preimage.proofs.ListedLemmas.{readable_by, next_width, signature_width, older_width, shown_by, solutions_by, accepted_by}
-use Rattle.bs_preimage.proofs.ProbeLemmas.{alone_by, probing_distinct, state_width, has_answered}
+use Rattle.bs_preimage.proofs.ProbeLemmas.{alone_by, probing_distinct, state_width, lean_by, has_answered}
 use Rattle.bs_preimage.proofs.probe.probe_step.Goals as goal
 
 pub probe_once-requires-clause-readable : goal.probe_once-requires-clause-readable
@@ -47,7 +47,8 @@ returns c =
     record {
       ok =
           subst (HasAnswered (circuit c.args.net.now) c.args.choice.now c.args.encoding.now c.args.solver.now c.probe_once.new.solver
-          c.args.asked.now.present.now c.args.asked.now.stored.now (option_map (λ bits. bits.now) c.args.asked.now.older) c.args.asked.now.state.now)
+          c.args.asked.now.present.now c.args.asked.now.stored.now (option_map (λ bits. bits.now) c.args.asked.now.older) c.args.asked.now.state.now
+          c.args.asked.now.b)
           (sym c.said_by.ensures)
           (has_answered (record {
             c = circuit c.args.net.now;
@@ -72,6 +73,8 @@ returns c =
             done = c.in_ok-end.ensures.ok;
             accepted = accepted_by c.probe_once.new.solver.proof.problem c.probe_once.new.solver.proof.history c.log-log.result.now c.log-log.ensures.lines
                 (c.log-log.ensures.accepted c.in_ok-end.ensures.ok.ended.well c.in_ok-end.ensures.ok.ended.stage);
+            lean = lean_by c.probe_once.new.solver.proof.problem c.probe_once.new.solver.proof.history c.log-log.result.now c.log-log.ensures.lines
+                (c.log-log.ensures.steps c.in_ok-end.ensures.ok.ended.well) c.log-log.ensures.lean;
             shown = shown_by (circuit c.args.net.now) c.args.choice.now c.args.encoding.now c.requires.about.encoding c.predecessors_are_shown.ensures;
             solutions = solutions_by (circuit c.args.net.now) c.args.choice.now c.args.encoding.now c.requires.about.encoding c.solutions_are_predecessors.ensures;
             states_wide = ap (λ (x : Encoded). length x.states) c.requires.about.encoding ∙ c.encodings_are_tidy.ensures.states_width;

@@ -16,6 +16,6 @@ pub returns-clause-said : goal.returns-clause-said
 returns-clause-said c =
     subst (λ (p : Prober). IsProbed p.circuit p.choice c.args.query.now.present.now c.args.query.now.stored.now (option_map (λ bits. bits.now)
     c.args.query.now.older) (state_at c.args.chip.now.recording.circuit (run_of c.args.chip.now.recording.runs c.args.run) c.args.cycle)
-    c.in_ok-said.said) c.requires.prober
+    c.args.query.now.b c.in_ok-said.said) c.requires.prober
     (subst (λ (s : List Bool). IsProbed c.args.probe.now.circuit c.args.probe.now.choice c.args.query.now.present.now c.args.query.now.stored.now (option_map
-    (λ bits. bits.now) c.args.query.now.older) s c.in_ok-said.said) (ap (λ (d : Dump). d.state) c.in_ok-dump.ensures.dump) c.in_ok-said.ensures.probed)
+    (λ bits. bits.now) c.args.query.now.older) s c.args.query.now.b c.in_ok-said.said) (ap (λ (d : Dump). d.state) c.in_ok-dump.ensures.dump) c.in_ok-said.ensures.probed)

@@ -5,7 +5,7 @@ use Rattle.bs_chip.specs.Stepped.{Stepped}
 use Rattle.bs_chip.proofs.LookLemmas.{one_more_cycle}
 use Rattle.bs_preimage_recorded.specs.declared.search.Sought.TheVariants.{NoMoment}
 use Rattle.bs_preimage_recorded.specs.Finder.{Seeker}
-use Rattle.bs_preimage_recorded.specs.Search.{alike_at, asked_in, HasTried, SoughtAt}
+use Rattle.bs_preimage_recorded.specs.Search.{alike_at, asked_in, HasTried, IsUnknownAt, SoughtAt}
 use Rattle.bs_preimage_recorded.proofs.SearchLemmas.{tried_cycle}
 use Rattle.bs_preimage_recorded.proofs.search.first_before.Goals as goal
 
@@ -21,9 +21,11 @@ cycles-preserved c =
     let sought : SoughtAt r present stored older at 0 runs NoMoment =
     subst (λ (k : Stepped). SoughtAt k.recording present stored older at 0 runs NoMoment) c.cycles.invariant.chip
     (rw c.in-NoMoment.is at c.in_ok-lowest_at.ensures.sought) in
-    let tried : HasTried c.cycles.tries c.lowest_at.new.tries (alike_at r stored at runs) (λ m. alike_at r stored at (m.run - 1)) NoMoment =
+    let tried : HasTried c.cycles.tries c.lowest_at.new.tries (alike_at r stored at runs) (λ m. alike_at r stored at (m.run - 1))
+    (IsUnknownAt r present stored older c.args.query.now.b) NoMoment =
     subst (λ (k : Stepped). HasTried c.cycles.tries c.lowest_at.new.tries (alike_at k.recording stored at runs)
-    (λ m. alike_at k.recording stored at (m.run - 1)) NoMoment) c.cycles.invariant.chip (rw c.in-NoMoment.is at c.in_ok-lowest_at.ensures.tried) in
+    (λ m. alike_at k.recording stored at (m.run - 1)) (IsUnknownAt k.recording present stored older c.args.query.now.b) NoMoment) c.cycles.invariant.chip
+    (rw c.in-NoMoment.is at c.in_ok-lowest_at.ensures.tried) in
     record {
       chip = c.in_ok-lowest_at.ensures.chip ∙ c.cycles.invariant.chip;
       finder = c.in_ok-lowest_at.ensures.finder ∙ c.cycles.invariant.finder;

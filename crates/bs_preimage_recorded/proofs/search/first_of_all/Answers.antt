@@ -13,5 +13,6 @@ returns-clause-sought c =
 
 pub returns-clause-tried : goal.returns-clause-tried
 returns-clause-tried c =
-    cut_of_tried c.args.chip.now.recording c.args.query.now.stored.now c.args.tries.now c.first_before.new.tries _
+    cut_of_tried c.args.chip.now.recording c.args.query.now.present.now c.args.query.now.stored.now (option_map (λ bits. bits.now) c.args.query.now.older)
+    c.args.query.now.b c.args.tries.now c.first_before.new.tries _
     c.in_ok-sought.sought c.in_ok-sought.ensures.tried

@@ -1,8 +1,9 @@
-use Rattle.std.proofs.Common.{ℕ, ◌+◌, Option, arith, length, subst}
-use Rattle.std.specs.Prelude.{MatchOption, option_map}
+use Rattle.std.proofs.Common.{ℕ, ◌+◌, Bool, List, Option, arith, length, subst}
+use Rattle.std.specs.Prelude.{IfOk, MatchOption, option_map}
 use Rattle.bs_chip.specs.SignatureHashes.{NoneAlike, IsNextAlike}
+use Rattle.bs_chip.specs.Stepped.{Stepped}
 use Rattle.bs_preimage_recorded.specs.Finder.{Seeker}
-use Rattle.bs_preimage_recorded.specs.Search.{alike_at}
+use Rattle.bs_preimage_recorded.specs.Search.{alike_at, HasTurned, IsUnknownAt}
 use Rattle.bs_preimage_recorded.proofs.SearchLemmas.{none_behind, tried_none}
 use Rattle.bs_preimage_recorded.proofs.search.next_turn.Goals as goal
 
@@ -22,3 +23,12 @@ returns-in-None-clause-tried c =
     (c.args.tries.now + alike_at c.args.chip.now.recording c.args.query.now.stored.now c.args.span.cycle c.args.span.from)
     c.args.tries.now c.args.span.cycle c.args.span.from c.args.span.below
     c.requires.order (omega arith)
+
+pub returns-in-Some-clause-tried : goal.returns-in-Some-clause-tried
+returns-in-Some-clause-tried c =
+    let stored = c.args.query.now.stored.now in
+    let present = c.args.query.now.present.now in
+    let older : Option (List Bool) = option_map (λ bits. bits.now) c.args.query.now.older in
+    subst (λ (k : Stepped). IfOk c.try_run.result (HasTurned c.args.tries.now c.try_run.new.tries (alike_at k.recording stored c.args.span.cycle)
+    (IsUnknownAt k.recording present stored older c.args.query.now.b) c.args.span.from c.args.span.below)) c.in_ok-next_alike.ensures.chip
+    c.try_run.ensures.tried

@@ -1,0 +1,4 @@
+pub mod PieceLemmas
+pub mod ReadLemmas
+pub mod MarkLemmas
+pub mod Examples

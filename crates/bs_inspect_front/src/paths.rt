@@ -1,0 +1,14 @@
+//! The names of files on the page.
+ghost use Rattle.std.specs.Prelude.{◌≡◌, ◌++◌, OnOk};
+ghost use Rattle.bs_inspect_front.specs.Paths.{shown_path};
+
+use bs_bits::NoMemory;
+use bs_inspect_cells::push_escaped;
+
+/// Appends the name of a file, as HTML shows it.
+#[tactic(auto, unfolding(crate::specs::Paths::shown_path))]
+pub(crate) fn push_path(text: &mut Vec<u8>, path: &str) -> Result<(), NoMemory>
+    ensures { OnOk result (text.new.items ≡ text.old.items ++ shown_path path.now) }
+{
+    push_escaped(text, path.as_bytes())
+}

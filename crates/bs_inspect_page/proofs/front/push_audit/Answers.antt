@@ -1,8 +1,0 @@
-use Rattle.bs_inspect_page.proofs.PieceLemmas.{audit_put}
-use Rattle.bs_inspect_page.proofs.front.push_audit.Goals as goal
-
-pub returns : goal.returns
-returns c =
-    audit_put c.args.netlist.now c.args.report.now c.args.text.now.items
-    c.push_piece.new.text.items c.push_path.new.text.items c.push_piece-2.new.text.items c.push_path-2.new.text.items c.push_piece-3.new.text.items
-    c.in_ok-push_piece.ensures.ok c.in_ok-push_path.ensures c.in_ok-push_piece-2.ensures.ok c.in_ok-push_path-2.ensures c.in_ok-push_piece-3.ensures.ok
