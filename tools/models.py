@@ -440,12 +440,10 @@ def view_text(chip, report, start=0, whole=False, only=None):
     for number, (name, high, low, places) in enumerate(drawn):
         *path, leaf = name.lstrip("\\").split(".")
         path = [part or "_" for part in path]
-        while scope != path[: len(scope)]:
-            scope.pop()
-            text.append("$upscope $end")
-        for part in path[len(scope) :]:
-            scope.append(part)
-            text.append(f"$scope module {part} $end")
+        if scope != path:
+            text += ["$upscope $end"] * len(scope)
+            text += [f"$scope module {part} $end" for part in path]
+            scope = path
         index = "" if high is None else f" [{high}]" if high == low else f" [{high}:{low}]"
         text.append(f"$var wire {len(places)} {identifier(number)} {leaf or '_'}{index} $end")
     text += ["$upscope $end"] * (len(scope) + 1) + ["$enddefinitions $end"]
@@ -532,3 +530,110 @@ def signature_text(chip, runs, items, predecessors):
         if width in (4 * items, len(flops), 256):
             return text
         width = min(2 * width, len(flops), 256)
+
+
+# ---- a simulator's values
+
+
+class Values:
+    """The variables and the value changes of a VCD, whose declared names hold no brackets."""
+
+    def __init__(self, text):
+        words, scopes, self.variables, self.moments = iter(text.split()), [], [], [(0, [])]
+        command = []
+        for word in words:
+            if word != "$end":
+                command.append(word)
+                continue
+            if command[0] == "$scope":
+                scopes.append(command[2])
+            elif command[0] == "$upscope":
+                scopes.pop()
+            elif command[0] == "$var":
+                width, code, name, *more = command[2:]
+                span = re.fullmatch(r"\[(\d+)(?::(\d+))?\]", more[0]) if more else None
+                high, low = (int(span[1]), int(span[2] or span[1])) if span else (int(width) - 1, 0)
+                self.variables.append((".".join(scopes), name.lstrip("\\"), code, high, low))
+            elif command[0] == "$enddefinitions":
+                break
+            command = []
+        for word in words:
+            if word[0] == "#":
+                if int(word[1:]) != self.moments[-1][0]:
+                    self.moments.append((int(word[1:]), []))
+            elif word[0] in "01xXzZ":
+                self.moments[-1][1].append((word[1:], word[0]))
+            elif word[0] in "bB":
+                self.moments[-1][1].append((next(words), word[1:]))
+
+    def source(self, scope, key):
+        """The code of a name in a scope and the place of its bit from the end of a value, or None."""
+        base, bit = split_key(key)
+        for path, name, code, high, low in self.variables:
+            if path == scope and name == base.lstrip("\\"):
+                if bit is None and high == low:
+                    return code, 0
+                if bit is not None and min(high, low) <= bit <= max(high, low):
+                    return code, abs(bit - low)
+        return None
+
+    def ends(self, scope, clock, keys):
+        """For the end of each cycle a character for each key: 0, 1, x, or - where no variable is it."""
+        clock, found, known = self.source(scope, clock), [self.source(scope, key) for key in keys], {}
+        for _, changes in self.moments:
+            later = {**known, **dict(changes)}
+            before, behind = level(known, clock), level(later, clock)
+            if clock[0] in known and (before == "0" != behind or before != "1" == behind):
+                yield "".join(level(known, source) for source in found)
+            known = later
+        yield "".join(level(known, source) for source in found)
+
+    def begin(self):
+        return next((time for time, changes in self.moments if changes), 0)
+
+
+def level(known, source):
+    if source is None:
+        return "-"
+    value = known.get(source[0], "x")
+    bit = value[-1 - source[1]] if source[1] < len(value) else "0" if value[0] == "1" else value[0]
+    return bit if bit in "01" else "x"
+
+
+def rtl_name(name, high, low):
+    return name.lstrip("\\") + ("" if high is None else f"[{high}]" if high == low else f"[{high}:{low}]")
+
+
+def first_lines(lines, most=16):
+    return "".join(line + "\n" for line in lines[:most]) + (f"and {len(lines) - most} more\n" if len(lines) > most else "")
+
+
+def check_text(chip, runs, vcds, clock, scope):
+    """What `check` writes of these runs, each beside the text of its VCD."""
+    keys, text, missing = chip.flop_keys(), "", set()
+    groups = signals(keys)
+    for number, (inputs, vcd) in enumerate(zip(runs, vcds), 1):
+        values, states = Values(vcd), states_of(chip, inputs)
+        ends = list(values.ends(scope, clock, keys))
+        missing.update(place for place, one in enumerate(ends[0]) if one == "-")
+        other = lambda state, end, place: end[place] in "01" and end[place] != state[place]
+        same = lambda state, end: not any(other(state, end, place) for place in range(len(keys)))
+        count = next((at for at, pair in enumerate(zip(states, ends)) if not same(*pair)), min(len(states), len(ends)))
+        differs = count < min(len(states), len(ends))
+        unknown = sum(end.count("x") for end in ends[:count])
+        text += f"run {number} " + (f"differ {count}" if differs else f"agree 0..{count - 1}")
+        text += f" flops {sum(one != '-' for one in ends[0])} unknown {unknown}\n"
+        if len(inputs) != len(ends) - 1:
+            text += f"run {number} cycles {len(inputs)} edges {len(ends) - 1}\n"
+        if values.begin():
+            text += f"run {number} begin {values.begin()}\n"
+        if differs:
+            state, end, lines = states[count], ends[count], []
+            for name, high, low, places in groups:
+                if any(other(state, end, place) for place in places):
+                    seen = "".join(end[place] for place in places)
+                    seen = signal_value(end, places) if set(seen) <= set("01") else "0b" + seen
+                    lines.append(f"{rtl_name(name, high, low)} netlist {signal_value(state, places)} vcd {seen}")
+            text += first_lines(lines)
+    lacking = [f"missing {rtl_name(*group[:3])}" for group in groups if missing & set(group[3])]
+    return text + first_lines(lacking)

@@ -257,6 +257,8 @@ def words(it):
         (["--help"], "word 1, `--help`, is no command", None),
         (["-h"], "word 1, `-h`, is no command", None),
         (["Run", *FOUR], "word 1, `Run`, is no command", None),
+        (["trace", "n.v", "r.txt"], "word 1, `trace`, is a command of the program `backspace_inspect`", None),
+        (["reach-cnf", "n.v", "11", "a"], "word 1, `reach-cnf`, is a command of the program `backspace_inspect`", None),
         (["run", "n.v", "s.txt", "t.txt"], "the number of words by position behind the command is 3; a file name with a space in it stands in quotes", "run"),
         ([*run, *"123456789"], "the number of words by position behind the command is 13; a file name with a space in it stands in quotes", "run"),
         ([*run, "e", "--steps", "5", "--candidates", "3"], "the number of words by position behind the command is 5; a file name with a space in it stands in quotes", "run"),
@@ -312,6 +314,9 @@ def codes(it):
     text = without_ids(out.decode()).replace("cand 10 ", "cand 1? ").replace("cand 11 ", "cand 1? ")
     wanted = "backspace 1\nasked 64 candidates 1 conflicts 100000\nstep 1\npresent 11\nstored .\ncand 1? input 1\nlist candidates\nnohit\nstop candidates\ntrace 0\nstate 11\n"
     same("a cut list", wanted, text)
+    whole = said("the list was cut, and no recorded moment with the stored signature leads to the state in one cycle, in step 1", record)
+    same("a cut list: note", whole + never, note)
+    same("a cut list: exit code", "5", str(code))
     it.tried("backspace", ["dump", "n.v", "s.txt", "t.txt", "1", "3"], 0, DUMP)
     it.tried("backspace", ["dump", "n.v", "s.txt", "t.txt", "1", "0"], 0, "state 00\nsig none\nend\n")
     moment = "there is no such moment: the stimulus has so many runs: 1"
@@ -651,7 +656,7 @@ def outputs(it):
     # a reader that has gone
     read, wrote = os.pipe()
     os.close(read)
-    it.tried("backspace", ["run", *FOUR], 13, "", output_note(0, "broken pipe"), stdout=wrote, restore_signals=False)
+    it.tried("backspace", ["run", *FOUR], 13, "", said("the reader closed standard output after 0 whole lines"), stdout=wrote, restore_signals=False)
     os.close(wrote)
     # a file that takes so many bytes and no more
     for room in (1, 15, 16, 17, len(whole) - 1):
@@ -1045,7 +1050,7 @@ def value_changes(it):
 
 def companion_usages():
     """How the words of each command of the companion stand, by the definition of what `help` writes."""
-    with open(f"{ROOT}/crates/bs_inspect_notes/specs/Usages.antt") as file:
+    with open(f"{ROOT}/crates/bs_inspect_usages/specs/Usages.antt") as file:
         return dict(re.findall(r'stands \(codes "([\w-]+)"\)\s*\(codes "usage: backspace_inspect ([^"]*)"\)', file.read()))
 
 
@@ -1057,6 +1062,16 @@ STAND = (
     "the words do not stand as this command takes them: its files in this order, and each option that it takes as often as it may stand; "
     "--only takes every word up to the next option"
 )
+
+
+def counted(count):
+    return f"the number of words by position behind the command is {count}; a file name with a space in it stands in quotes, and --only takes every word up to the next option"
+
+
+def foreign(number, word):
+    return f"word {number}, `{word}`, is no option of this command"
+
+
 # by hand: the lane's own flip-flop stands before those of its counter, whose nets are joined to those of the top
 # what forces bits in the trace of examples/yosys
 WHY_COUNT = """8 count[1:0] = 0x0, since 6, before 0x1 (dump)
@@ -1194,6 +1209,7 @@ def companion(it):
     for time_, cycle in ((4, 0), (5, 1), (444, 44), (445, 45)):
         wanted = models.dump_of(chip, text["ex/yosys/signature.txt"], inputs, cycle)
         tell(["dump", net, vcd, "--time", str(time_), "--scope", "tb.dut", *signature], 0, wanted)
+    beside(it, tell, text)
     # names that are others in the simulation
     it.write("renamed.vcd", text[vcd].replace(" line $end", " rxd $end").replace(" count [1:0]", " fill [1:0]"))
     it.write("map.txt", "line rxd\n")
@@ -1207,6 +1223,41 @@ def companion(it):
 
     data = said("the clock `line` is a data input of the netlist, and each of its rising edges was taken for a cycle", "the netlist's clock is `ck`")
     tell(["stimulus", net, vcd, "--clock", "line", "--scope", "tb.dut"], 0, "run sim 6\n" + "00\n" * 6 + "end\n", data)
+
+
+def beside(it, tell, text):
+    """Recorded runs beside a simulation: the example, and each mistake of docs/OWN_CHIP.md."""
+    net, stimulus, vcd = "ex/yosys/netlist.v", "ex/yosys/stimulus.txt", "ex/yosys/sim.vcd"
+    chip, runs = models.Netlist(text[net]), models.runs_of(text[stimulus])
+    scope = ["--scope", "tb.dut"]
+    tell(["check", net, stimulus, vcd, *scope], 0, "run 1 agree 0..89 flops 37 unknown 0\n")
+    tell(["check", net, stimulus, vcd, "--clock=ck", *scope], 0, "run 1 agree 0..89 flops 37 unknown 0\n")
+    # other values at reset, and one of them unknown
+    it.write("other.vcd", text[vcd].replace("\nb11 2\n", "\nb0 2\n", 1))
+    tell(["check", net, stimulus, "other.vcd", *scope], 11, "run 1 differ 0 flops 37 unknown 0\nseen[1:0] netlist 0x3 vcd 0x0\n")
+    it.write("other.vcd", text[vcd].replace("\nb11 2\n", "\nb0x 2\n", 1))
+    tell(["check", net, stimulus, "other.vcd", *scope], 11, "run 1 differ 0 flops 37 unknown 0\nseen[1:0] netlist 0x3 vcd 0b0x\n")
+    # values that begin late: what stood before time 400 is given there
+    head, changes = text[vcd].split("$enddefinitions $end\n")
+    early, late = changes.split("#400\n")
+    known = {words[-1]: line for line in early.splitlines() for words in [line.split() if line[0] in "bB" else [line[1:]]] if line[0] in "01xzbB"}
+    it.write("late.vcd", head + "$enddefinitions $end\n#400\n$dumpvars\n" + "".join(line + "\n" for line in known.values()) + "$end\n" + late)
+    moved = "phase[1:0] netlist 0x0 vcd 0x3\nshift[7:0] netlist 0x00 vcd 0x35\ntick[1:0] netlist 0x0 vcd 0x3\n"
+    tell(["check", net, stimulus, "late.vcd", *scope], 11, "run 1 differ 0 flops 37 unknown 0\nrun 1 cycles 89 edges 49\nrun 1 begin 400\n" + moved)
+    # inputs that are exchanged
+    it.write("crossed.txt", "run sim 89\n" + "".join(line[::-1] + "\n" for line in runs[0]) + "end\n")
+    tell(["check", net, "crossed.txt", vcd, *scope], 11, "run 1 differ 1 flops 37 unknown 0\nseen[1:0] netlist 0x2 vcd 0x3\n")
+    # another netlist, whose names a file gives
+    it.write("named.v", text[net].replace("count", "c0unt"))
+    tell(["check", "named.v", stimulus, vcd, *scope], 0, "run 1 agree 0..89 flops 35 unknown 0\nmissing c0unt[1:0]\n")
+    it.write("named.txt", "c0unt[0] count[0]\nc0unt[1] count[1]\n")
+    tell(["check", "named.v", stimulus, vcd, *scope, "--map", "named.txt"], 0, "run 1 agree 0..89 flops 37 unknown 0\n")
+    # several runs, and not as many VCDs
+    it.write("twice.txt", text[stimulus] * 2)
+    wanted = models.check_text(chip, runs * 2, [text[vcd], "".join(open(f"{it.room}/late.vcd"))], "ck", "tb.dut")
+    tell(["check", net, "twice.txt", vcd, "late.vcd", *scope], 11, wanted)
+    count = said("twice.txt: the stimulus has so many runs, each of which needs its VCD: 2; VCDs that are named: 1")
+    tell(["check", net, "twice.txt", vcd, *scope], 16, "refused vcd Runs 2\n", count)
 
 
 def answers(it, tell):
@@ -1235,10 +1286,20 @@ def companion_refusals(it):
     it.write("order.txt", "".join(key + "\n" for key in chip.flop_keys()))
     tell([], 2, "refused words\n", said("there are no words", HELP))
     tell(["flop", net], 2, "refused words\n", said("word 1, `flop`, is no command; the nearest: `flops`", HELP))
+    for command in ("run", "audit", "reach", "demo"):
+        tell([command, net], 2, "refused words\n", said(f"word 1, `{command}`, is a command of the program `backspace`", "`backspace help` tells how the words of its commands stand"))
     tell(["trace", net, report, "--onyl", "q"], 2, "refused words\n", said("word 4, `--onyl`, is no option; the nearest: `--only`", f"usage: backspace_inspect {COMPANION['trace']}"))
     for given, why in (
-        (["trace", net], STAND),
-        (["flops", *[net] * 12], STAND),
+        (["trace", net], counted(1)),
+        (["trace", "--only", "count", net, report], counted(0)),
+        (["flops", *[net] * 12], counted(12)),
+        (["keys", net], counted(1)),
+        (["check", net, "t"], counted(2)),
+        (["why", "--at", "3", net, report], counted(2)),
+        (["trace", net, report, "--clock", "ck"], foreign(4, "--clock")),
+        (["check", "--bits=3", net, "t", vcd], foreign(2, "--bits=3")),
+        (["novel", net, "t", "300"], "RUN, `300`, wants a number in digits from 1 to 256"),
+        (["novel", "--most", "5", net, "t", "01"], "RUN, `01`, wants a number in digits from 1 to 256"),
         (["stimulus", net, *[vcd] * 257, "--clock", "ck"], STAND),
         (["signature", net, "ex/yosys/stimulus.txt"], "`--bits N` is missing: how many bits the signature has"),
         (["stimulus", net, vcd], "`--clock NAME` is missing: the name that the clock has in the simulation"),
@@ -1251,7 +1312,7 @@ def companion_refusals(it):
         (["why", net, report, "count", "--at", "65537"], "word 5, `--at`, wants a number in digits from 0 to 65536"),
         (["why", net, report, "count", "--at", "x"], "word 5, `--at`, wants a number in digits from 0 to 65536"),
         (["why", net, report, "count", "--depth=257"], "word 5, `--depth=257`, wants a number in digits from 1 to 256"),
-        (["novel", net, "t", "1", "--at", "70000"], STAND),
+        (["novel", net, "t", "1", "--at", "70000"], foreign(5, "--at")),
         (["dump", net, vcd, "--cycle", "1", "--signature"], STAND),
         (["reach-cnf", "--length", "1", net, "0", "a"], "`--length J` stands behind the files, and J is a word of its own"),
         (["reach-lrat", net, "0", "a", "--length=1"], "`--length J` stands behind the files, and J is a word of its own"),
@@ -1273,8 +1334,8 @@ def companion_refusals(it):
     state = "state 1011011011100110001101011000000000001\ninput 10"
     it.write("changed.txt", text[report].replace(state, state.replace("01\n", "00\n"), 1))
     tell(["why", net, "changed.txt", "count"], 11, "rejected trace 0\n")
-    for given in (["why", net, report], ["why", net, report, "count", "--flops", "--flops"]):
-        tell(given, 2, "refused words\n", said(STAND, f"usage: backspace_inspect {COMPANION['why']}"))
+    for given, why in ((["why", net, report], counted(2)), (["why", net, report, "count", "--flops", "--flops"], STAND)):
+        tell(given, 2, "refused words\n", said(why, f"usage: backspace_inspect {COMPANION['why']}"))
     answers(it, tell)
     scopes = "the scopes: `tb` `tb.dut` `tb.send` `tb.take_after`"
     variables = "the variables there: `ck` `got` `line` `pop` `put` `take` `ready` `data` `at_middle` `count` `first` `head` `phase` `place` `second` `seen` .."
@@ -1478,6 +1539,39 @@ def evidence(it):
             refutes(it, ("reach-cnf", "reach-lrat"), words, clauses, texts)
 
 
+# searches: a netlist, a state, cycles and conflicts, the result, and whether a length is refuted
+SEARCHES = [
+    ("module sh(ck,a); input ck,a; dff f0(ck,q0,a); dff f1(ck,q1,q0); endmodule", "11", 5, 100_000, "reached 2", True),
+    ("module sh(ck,a); input ck,a; dff f0(ck,q0,a); dff f1(ck,q1,q0); endmodule", "11", 40, 100_000, "reached 2", True),
+    ("module z(ck); input ck; and g(d,q,1'b0); dff f(ck,q,d); endmodule", "1", 3, 100_000, "unreached", True),
+    # the inputs of the two cycles differ
+    ("module sh(ck,a); input ck,a; dff f0(ck,q0,a); dff f1(ck,q1,q0); endmodule", "01", 40, 100_000, "reached 2", True),
+    # the last length alone spends the budget
+    ("module h(ck,a,b,c); input ck,a,b,c; xor x(p,a,b); xor y(q,b,c); xor z(r,c,a); and g(d,p,q,r); dff f(ck,s,d); endmodule", "1", 1, 1, "unknown 1", False),
+    ("module h(ck,a,b,c); input ck,a,b,c; xor x(p,a,b); xor y(q,b,c); xor z(r,c,a); and g(d,p,q,r); dff f(ck,s,d); endmodule", "1", 3, 1, "unknown 1", False),
+]
+
+
+def executions(it):
+    """Searches: the checker takes the log of each, the strict checker the refutation, and the model goes through the execution."""
+    for text, state, cycles, budget, result, is_refuted in SEARCHES:
+        it.write("x.v", text)
+        _, out, _ = it.run("backspace", ["reach", "x.v", state, str(cycles), "--conflicts", str(budget)])
+        it.write("x.txt", out)
+        lines = out.decode().splitlines()
+        same(f"a search of {cycles} cycles", f"result {result}", lines[2])
+        proofs = [it.run("backspace_inspect", [command, "x.v", state, "x.txt"]) for command in ("reach-cnf", "reach-lrat")]
+        if is_refuted:
+            same("its clauses and their refutation", "0 0", " ".join(str(code) for code, _, _ in proofs))
+            lrat_check.refuted(*(iter(text_.decode().splitlines()) for _, text_, _ in proofs))
+        else:
+            same("a search that refutes no length", "11 rejected unfinished\n" * 2, "".join(f"{code} {text_.decode()}" for code, text_, _ in proofs))
+        states, inputs = ([line.split()[1] for line in lines if line.startswith(word)] for word in ("state ", "input "))
+        wanted = models.states_of(models.Netlist(text), inputs) if states else []
+        same("its execution", " ".join(wanted), " ".join(states))
+        same("its end", state if states else "", states[-1] if states else "")
+
+
 # a changed log of the first step of the shift register, or of the first length of the chain, and the line that refuses it
 LOGS = [
     ("r 10", "r 11", "6 Order"),
@@ -1626,8 +1720,15 @@ def unread(it, command, files, kinds, option, most):
         it.write("other.s", "bit q2\n")
         tell([files[0], "other.s", files[2]], 7, "refused signature UnknownFlop 1\n", at_place(
             "other.s", "bit q2\n", 4, "no flip-flop has the key `q2`, the name of its output net", nearest("q0", "q1")))
-    for given in (files[:2], [*files, "x"], [*files, option, "1", option, "1"], [*files, "--all"], [*files, {"--step": "--length", "--length": "--step"}[option], "1"]):
-        tell(given, 2, "refused words\n", said(STAND, usage))
+    other = {"--step": "--length", "--length": "--step"}[option]
+    for given, why in (
+        (files[:2], counted(2)),
+        ([*files, "x"], counted(4)),
+        ([*files, option, "1", option, "1"], STAND),
+        ([*files, "--all"], foreign(5, "--all")),
+        ([*files, other, "1"], foreign(5, other)),
+    ):
+        tell(given, 2, "refused words\n", said(why, usage))
     tell([*files, option, str(most)], 11, "rejected nostep\n")
     for number in ("0", str(most + 1), "01", "x"):
         tell([*files, option, number], 2, "refused words\n", said(f"word 5, `{option}`, wants a number in digits from 1 to {most}", usage))
@@ -1751,8 +1852,8 @@ def signed_pages(it):
         "other.s", "bit q2\n", 4, "no flip-flop has the key `q2`, the name of its output net", nearest("q0", "q1")))
     code, out, note = it.run("backspace_inspect", ["page", "n.v", "r.txt", "--signature", "s.txt", "--only", "q7"])
     same("page: a name behind a signature", "18 refused name Unknown q7\n", f"{code} {out.decode()}")
-    for given in (["--signature"], ["--signature", "s.txt", "--signature", "s.txt"], ["--signature", "s.txt", "x"]):
-        tell(["n.v", "r.txt", *given], 2, "refused words\n", said(STAND, usage))
+    for given, why in ((["--signature"], STAND), (["--signature", "s.txt", "--signature", "s.txt"], STAND), (["--signature", "s.txt", "x"], counted(3))):
+        tell(["n.v", "r.txt", *given], 2, "refused words\n", said(why, usage))
 
 
 # ---- stops, and notes that no part above has
@@ -1854,6 +1955,26 @@ def designs(it):
     ):
         it.write("x.v", text)
         it.tried("backspace_inspect", ["flops", "x.v"], 6, f"refused netlist {why}\n", said("x.v: " + sentence))
+    split, twice = said("x.v: there is no flip-flop: cells are dff, dffs, dffe and dffr (docs/FORMATS.md, Netlists)"), " u(ck),v(ck)"
+    great_count = said("x.v: at most 4096 flip-flops are taken, and there are 16384")
+    deep = said("x.v: instances stand in one another more than 256 deep: take levels out")
+    # 2^40 instances on all paths, in 41 modules with an output and a cell behind them
+    paths = "".join(f"module m{at}(ck,z);input ck;output z;m{at + 1} u(ck,z),v(.ck(ck));endmodule\n" for at in range(40))
+    paths += "module m40(ck,z);input ck;output z;dff f(ck,z,z);endmodule module dff(ck,q,d);reg q;endmodule"
+    many = said("x.v: on all paths there are more than 400000 gates, flip-flops and instances: give a part of the design")
+    for text, why, note in (
+        (tower(16, twice, "", ""), "NoFlop", split),
+        (tower(14, twice, "", flop), "TooMany Flops 16384", great_count),
+        (tower(300, twice, "", flop), "FlatDepth", deep),
+        (tower(1, " u(ck)", "", "wire [65535:0] w;wire [34462:0] v;"), "NoFlop", split),
+        (paths, "FlatParts", many),
+    ):
+        it.write("x.v", text)
+        it.tried("backspace_inspect", ["flops", "x.v"], 6, f"refused netlist {why}\n", note)
+    text = tower(1, " u(ck)", "", "wire [65535:0] w;wire [34463:0] v;")
+    it.write("x.v", text)
+    at = text.index("v;")
+    it.tried("backspace_inspect", ["flops", "x.v"], 6, f"refused netlist TooManyNets {at}\n", at_place("x.v", text, at, "there are more than 100000 nets", "split the netlist"))
     # each module has 65,537 nets
     text = tower(64, " u(ck)", "wire [65535:0] w;", flop)
     it.write("x.v", text)
@@ -2140,6 +2261,31 @@ def counts(it):
             at = text.index(note[0])
             out, note = out.format(at), at_place("x.v", text, at, *note[1:])
         it.tried("backspace_inspect", ["inputs", "x.v"], code, out, note)
+    # a chain of gates, of which each reads the output of the next one: an even number of them turns the bit
+    links = great(20_000, 200)
+    text = "module m(ck,a);input ck,a;dff f(ck,q,n0);" + "".join(f"not g(n{at},n{at + 1});" for at in range(links)) + f"buf g(n{links},a);endmodule"
+    it.write("x.v", text)
+    it.tried("backspace_inspect", ["stats", "x.v"], 0, models.stats_text(models.Netlist(text)))
+    it.write("x.txt", "run a 2\n1\n0\nend\n")
+    it.write("none.txt", "")
+    for cycle, state in ((1, 1), (2, 0)):
+        it.tried("backspace", ["dump", "x.v", "none.txt", "x.txt", "1", str(cycle)], 0, f"state {state}\nsig .\nend\n")
+    # a list of 300 states of 4,096 bits
+    state = "1" * great(4_096, 70)
+    text = asked(1, 65_536, 1) + f"step 1\npresent {state}\nstored 1\n" + f"cand {state} input .\n" * 300
+    it.write("x.txt", text + f"list conflicts\nnohit\nstop conflicts\ntrace 0\nstate {state}\nlog 0\nend\n")
+    it.tried("backspace_inspect", ["steps", "x.txt"], 0, "step 1 candidates 300 differ 0 list conflicts lemmas 0 nohit\n")
+    # a waveform of 10,000 nets more
+    text = "module m(ck,a); input ck,a; dff (ck,q,a);\n" + "".join(f"buf (b{at},a);\n" for at in range(great(10_000, 100))) + "endmodule"
+    it.write("x.v", text)
+    it.write("x.s", "bit q\n")
+    it.write("x.t", "run a 2\n1\n0\nend\n")
+    it.write("x.d", "state 0\nsig 1\nend\n")
+    code, report, _ = it.run("backspace", ["run", "x.v", "x.s", "x.t", "x.d"])
+    made = models.Report(report.decode())
+    same("a trace of 10,000 nets", "0 0 1 0 1 0", " ".join([str(code), *made.states, *made.inputs]))
+    it.write("x.r", report)
+    it.tried("backspace", ["wave", "x.v", "x.s", "x.t", "x.d", "x.r"], 0, models.wave_text(models.Netlist(text), made))
     # a waveform of 1,024 nets at 65,536 states, and of one net more
     for nets in (1_024, 1_025):
         if SMALL:
@@ -2176,8 +2322,11 @@ def searches(it):
             same("a search that asks about 1,000 states", f"0 {wanted}", f"{code} " + "|".join(lines[5:9]))
         else:
             same("a search that would ask about 1,001", "5 list candidates|nohit|stop candidates", f"{code} " + "|".join(lines[6:9]))
-            cut_search = "the list was cut, and no recorded moment leads to the state in one cycle, or the search for one was cut, in step 1"
-            same("a search that would ask about 1,001: note", said(cut_search), note.decode()[: 7 + len(cut_search)])
+            cut_search = said(
+                "the list was cut, and so was the search for a recorded moment that leads to the state in one cycle, in step 1",
+                "ask for more with --candidates K, up to 65536, or --conflicts B, up to 2^40, or choose a signature that tells more states apart",
+                "the dump's state itself was never recorded, nor that state read backwards; this alone is no fault: a crash need not be in a run")
+            same("a search that would ask about 1,001: note", cut_search, note)
     # ten bits are lost at each cycle: of one bit as signature 512 predecessors, of two 256
     lost = great(10, 3)
     text = f"module lost(ck, x);\n  input ck;\n  input [{lost - 1}:0] x;\n  wire [{lost - 1}:0] q;\n" + "".join(f"  dff (ck, q[{i}], x[{i}]);\n" for i in range(lost)) + "endmodule\n"
@@ -2192,7 +2341,7 @@ def searches(it):
         it.tried("backspace_inspect", ["signature", "lost.v", "lost.t", "--bits", str(bits)], 0, models.signature_text(chip, states, bits, predecessors))
 
 
-GROUPS = [examples, words, codes, refusals, files, names, outputs, long_netlist, long_report, many_runs, proposals, wide_chip, far_states, value_changes, companion, companion_refusals, evidence, evidence_refusals, pages, stops, designs, told, memory, limits, counts, searches]
+GROUPS = [examples, words, codes, refusals, files, names, outputs, long_netlist, long_report, many_runs, proposals, wide_chip, far_states, value_changes, companion, companion_refusals, evidence, executions, evidence_refusals, pages, stops, designs, told, memory, limits, counts, searches]
 
 
 def main():

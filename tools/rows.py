@@ -1,9 +1,9 @@
 #!/usr/bin/env python3
-"""Worked rows: whole runs of the built program `backspace` on the small files of tools/rows/. Part of the gate.
+"""Worked rows: whole runs of the two built programs on the small files of tools/rows/. Part of the gate.
 
-At the top of the repository: python3 tools/rows.py [--only NAME ..] [BACKSPACE]. NAME is a table, or a file of tools/rows/ without its ending. The
-program is the one that `rt ci` and `rt run` leave in out/, unless another is given. Each run has a new folder. The first row that comes out
-otherwise is shown as a diff, and ends the script with 1. tools/rows/README.md says how a row is written.
+At the top of the repository: python3 tools/rows.py [--only NAME ..] [BACKSPACE INSPECT]. NAME is a table, or a file of tools/rows/ without its
+ending. The programs are those that `rt ci` and `rt run` leave in out/, unless others are given. Each run has a new folder. The first row that
+comes out otherwise is shown as a diff, and ends the script with 1. tools/rows/README.md says how a row is written.
 """
 import difflib
 import glob
@@ -17,11 +17,12 @@ import tempfile
 import time
 
 HERE = os.path.dirname(os.path.abspath(__file__))
-PROGRAM = f"{os.path.dirname(HERE)}/crates/backspace/out/backspace"
+CRATES = f"{os.path.dirname(HERE)}/crates"
+PROGRAMS = {"call": f"{CRATES}/backspace/out/backspace", "ask": f"{CRATES}/backspace_inspect/out/backspace_inspect"}
 SECONDS = 120
 NAMED = {"text", "table", "file", "made", "gone", "fronts", "output"}
-PLAIN = {"every", "row", "call", "old", "new", "once", "exit", "out", "report", "fill", "note"}
-WORDS = {"made", "call", "exit", "output", "row"}
+PLAIN = {"every", "row", "call", "ask", "old", "new", "once", "exit", "out", "report", "fill", "note"}
+WORDS = {"made", "call", "ask", "exit", "output", "row"}
 
 
 class Different(Exception):
@@ -97,8 +98,8 @@ def all_rows():
     rows_of(f"{HERE}/rows/texts.txt", shared)
     rows = [row for path in sorted(glob.glob(f"{HERE}/rows/*.txt")) for row in rows_of(path, dict(shared))]
     for place, _, _, has in rows:
-        if not {("call", ""), ("exit", "")} <= has.keys() or not {("out", ""), ("report", ""), ("note", "")} & has.keys():
-            raise Different(f"{place}: a row has a call, an exit code, and an output, a report or a note")
+        if len({("call", ""), ("ask", "")} & has.keys()) != 1 or ("exit", "") not in has or not {("out", ""), ("report", ""), ("note", "")} & has.keys():
+            raise Different(f"{place}: a row has a call or an ask, an exit code, and an output, a report or a note")
     return rows
 
 
@@ -122,7 +123,7 @@ class Folder:
                 self.put(name, text.encode(), ("once", "") in has)
         for (word, name), words in has.items():
             if word == "made":
-                self.put(name, self.run(words)[1])
+                self.put(name, self.run("call", words)[1])
 
     def put(self, name, content, once=False):
         if once:
@@ -135,29 +136,29 @@ class Folder:
             with open(f"{self.at}/{name}", "wb") as file:
                 file.write(content)
 
-    def run(self, words, **how):
-        """The exit code, standard output and standard error of the program."""
+    def run(self, program, words, **how):
+        """The exit code, standard output and standard error of a program."""
         given = {"stdin": subprocess.DEVNULL, "stdout": subprocess.PIPE, "stderr": subprocess.PIPE, "pass_fds": self.pipes, **how}
         try:
-            done = subprocess.run([PROGRAM, *words.split(" ")], cwd=self.at, timeout=SECONDS, **given)
+            done = subprocess.run([PROGRAMS[program], *words.split(" ")], cwd=self.at, timeout=SECONDS, **given)
         except subprocess.TimeoutExpired:
             raise Different(f"`{words}` had not ended after {SECONDS} seconds") from None
         self.runs += 1
         return done.returncode, done.stdout or b"", done.stderr
 
-    def run_within(self, words, most):
+    def run_within(self, program, words, most):
         """The same with an output that takes so many bytes."""
         with tempfile.TemporaryFile() as file:
-            code, _, note = self.run(words, stdout=file, restore_signals=False, preexec_fn=lambda: resource.setrlimit(resource.RLIMIT_FSIZE, (most, most)))
+            code, _, note = self.run(program, words, stdout=file, restore_signals=False, preexec_fn=lambda: resource.setrlimit(resource.RLIMIT_FSIZE, (most, most)))
             file.seek(0)
             return code, file.read(), note
 
-    def run_unread(self, words):
+    def run_unread(self, program, words):
         """The same with an output that nobody reads."""
         read, wrote = os.pipe()
         os.close(read)
         try:
-            return self.run(words, stdout=wrote, restore_signals=False)
+            return self.run(program, words, stdout=wrote, restore_signals=False)
         finally:
             os.close(wrote)
 
@@ -168,11 +169,12 @@ class Folder:
 
 
 def answer(folder, has):
-    """The call of a row."""
-    words = has["call", ""]
+    """The run of a row."""
+    program = "ask" if ("ask", "") in has else "call"
+    words = has[program, ""]
     if ("output", "room") in has:
-        return folder.run_within(words, int(has["output", "room"]))
-    return folder.run_unread(words) if ("output", "unread") in has else folder.run(words)
+        return folder.run_within(program, words, int(has["output", "room"]))
+    return folder.run_unread(program, words) if ("output", "unread") in has else folder.run(program, words)
 
 
 # ---- comparing
@@ -223,7 +225,7 @@ def tried_once(has):
             same("standard error", has["note", ""], note)
         if ("report", "") in has:
             folder.put("r", out.encode())
-            code, out, _ = folder.run(" ".join(["audit", *has["call", ""].split(" ")[1:5], "r"]))
+            code, out, _ = folder.run("call", " ".join(["audit", *has["call", ""].split(" ")[1:5], "r"]))
             same("audit of the report", "accepted\n", out.decode(errors="backslashreplace"))
             same("exit code of the audit", "0\n", f"{code}\n")
         return folder.runs
@@ -243,17 +245,17 @@ def tried(row):
     try:
         return sum(tried_once(one) for one in fronts(has)), ""
     except (Different, KeyError) as wrong:
-        return 0, f"{os.path.relpath(place)}: {table}: {title or has.get(('call', ''))}\n{wrong}"
+        return 0, f"{os.path.relpath(place)}: {table}: {title or has.get(('call', '')) or has.get(('ask', ''))}\n{wrong}"
 
 
 def main():
-    global PROGRAM
     words, only = sys.argv[1:], []
     while words[:1] == ["--only"]:
         only, words = [*only, words[1]], words[2:]
-    PROGRAM = os.path.abspath(words[0]) if words else PROGRAM
-    if not os.path.exists(PROGRAM):
-        print(f"there is no {PROGRAM}: build it as README.md says")
+    PROGRAMS.update(zip(PROGRAMS, map(os.path.abspath, words)))
+    missing = next((path for path in PROGRAMS.values() if not os.path.exists(path)), None)
+    if missing:
+        print(f"there is no {missing}: build it as README.md says")
         return 1
     started, runs = time.monotonic(), 0
     try:

@@ -3,3 +3,7 @@ pub mod FitLemmas
 pub mod LogLemmas
 pub mod ListLemmas
 pub mod ProblemLemmas
+pub mod LengthLemmas
+pub mod FlawLemmas
+pub mod ShownLemmas
+pub mod Examples

@@ -10,9 +10,9 @@ use Rattle.bs_log.specs.Refutation.{blocks_of}
 use Rattle.bs_log.specs.Shown.{Basis, Shown}
 use Rattle.bs_log_dimacs.specs.Law.{BlocksOther}
 use Rattle.bs_log_dimacs.proofs.Laws.{unlisted_meets}
-use Rattle.bs_log_whole.specs.Law.{IsLed, AreLed}
-use Rattle.bs_log_whole.proofs.Right.{whole_proofs_are_right, accepted_is_unmet}
-use Rattle.bs_log_whole.proofs.Unlisted.{unlisted_meets_whole}
+use Rattle.bs_log_dimacs.specs.WholeLaw.{IsLed, AreLed}
+use Rattle.bs_log_dimacs.proofs.Right.{whole_proofs_are_right, accepted_is_unmet}
+use Rattle.bs_log_dimacs.proofs.Unlisted.{unlisted_meets_whole}
 use Rattle.bs_net.specs.Circuit.{Circuit, next}
 use Rattle.bs_scan.specs.Choice.{Chosen}
 use Rattle.bs_scan.specs.Present.{Present}

@@ -19,12 +19,16 @@ use Rattle.bs_evidence.specs.declared.flaw.Evidence.TheVariants.{Text, Flawed}
 use Rattle.bs_evidence.specs.declared.flaw.Flaw.{Flaw}
 use Rattle.bs_evidence.specs.declared.flaw.Flaw.TheVariants as flaws
 use Rattle.bs_evidence.specs.declared.evidence.Format.{Format}
-use Rattle.bs_evidence.specs.Encoded.{problem_with}
-use Rattle.bs_evidence.specs.Evidence.{problem_for, HasAsked, IsLogEvidence, IsLogFlaw, IsMisfit, IsUnfit, IsFitOr, IsFlawed, IsMissing, IsEvidence, is_fit, is_there, has_signatures, misfit_of}
+use Rattle.bs_evidence.specs.Evidence.{problem_for, HasAsked, IsLogEvidence, IsLogFlaw, IsMisfit, IsUnfit, IsFitOr, IsFlawed, IsMissing, IsNoStep, IsEvidence, is_fit, is_there, has_signatures, misfit_of}
 
-pub same_problem : (c : Circuit) (choice : Chosen) (presents : List Present) (e : Encoded) (assumptions : List Clause) → e ≡ encoding_by c choice →
-    assumptions ≡ steps_from e 1 presents → problem_with e assumptions ≡ (basis_of c choice presents).problem
-same_problem c choice presents e assumptions h a = ap (problem_with e) a ∙ ap (λ (e : Encoded). problem_with e (steps_from e 1 presents)) h
+abbrev pub problem_over : ℕ → List Clause → List Clause → Problem
+problem_over vars clauses steps = record { vars = vars; clauses = clauses; steps = steps }
+
+pub same_problem : (c : Circuit) (choice : Chosen) (presents : List Present) (e : Encoded) (vars : ℕ) (clauses assumptions : List Clause) →
+    e ≡ encoding_by c choice → vars ≡ e.variables → clauses ≡ e.clauses → assumptions ≡ steps_from e 1 presents →
+    problem_over vars clauses assumptions ≡ (basis_of c choice presents).problem
+same_problem c choice presents e vars clauses assumptions h n d a =
+    (λ i. problem_over (n i) (d i) (a i)) ∙ ap (λ (e : Encoded). problem_over e.variables e.clauses (steps_from e 1 presents)) h
 
 pub evidence_of : {E : Type 0} (kind : Format) (p q : Problem) (log : List Line) (asked : Option ℕ) (result : Result Evidence E) → p ≡ q →
     IfOk result (IsLogEvidence kind p log asked) → IfOk result (IsLogEvidence kind q log asked)
@@ -91,11 +95,21 @@ pub missing_some : (c : Circuit) (choice : Chosen) (r : Report) (asked : Option 
     IsMissing c choice r asked (Some flaw)
 missing_some c choice r asked o flaw is unfit = unfit_flawed c choice r asked flaw (subst (IsFitOr c choice r) is unfit)
 
-there_of : (count : ℕ) (asked : Option ℕ) → is_there count asked ≡ true → IfSome asked (IsOneOf count)
+-- what is asked for is there, or it is none of so many steps
+pub there_of : (count : ℕ) (asked : Option ℕ) → is_there count asked ≡ true → IfSome asked (IsOneOf count)
 there_of count None is = tt
 there_of count (Some step) is =
     let parts = and_parts (leb 1 step) (leb step count) is in
     (leb-true 1 step parts.0, leb-true step count parts.1)
+
+pub none_there : (count : ℕ) (asked : Option ℕ) → is_there count asked ≡ false → IsNoStep count asked
+none_there count None lost = absurd (true≢false lost)
+none_there count (Some step) none = by (leb 1 step) refl (leb step count) refl none
+  where
+    by : (a : Bool) → leb 1 step ≡ a → (b : Bool) → leb step count ≡ b → (a && b) ≡ false → (step ≡ 0) ⊎ (count < step)
+    by true _ true _ lost = absurd (true≢false lost)
+    by true _ false high _ = inr (let over = leb-false step count high in omega (arith, over))
+    by false low b _ _ = inl (let under = leb-false 1 step low in omega (arith, under))
 
 pub missing_none : (c : Circuit) (choice : Chosen) (r : Report) (asked : Option ℕ) (o : Option Flaw) (count : ℕ) → o ≡ None → IsFitOr c choice r o →
     count ≡ length r.steps → is_there count asked ≡ true → IsMissing c choice r asked None
@@ -107,10 +121,4 @@ missing_none c choice r asked o count is fits many there =
 
 pub no_step : (c : Circuit) (choice : Chosen) (r : Report) (asked : Option ℕ) (count : ℕ) → count ≡ length r.steps → is_there count asked ≡ false →
     IsMissing c choice r asked (Some flaws.NoStep)
-no_step c choice r None count many lost = absurd (true≢false lost)
-no_step c choice r (Some step) count many none = by (leb 1 step) refl (leb step count) refl none
-  where
-    by : (a : Bool) → leb 1 step ≡ a → (b : Bool) → leb step count ≡ b → (a && b) ≡ false → (step ≡ 0) ⊎ (length r.steps < step)
-    by true _ true _ lost = absurd (true≢false lost)
-    by true _ false high _ = inr (let over = leb-false step count high in omega (arith, over, many))
-    by false low b _ _ = inl (let under = leb-false 1 step low in omega (arith, under))
+no_step c choice r asked count many none = subst (λ n. IsNoStep n asked) many (none_there count asked none)

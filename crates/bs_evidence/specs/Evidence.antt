@@ -16,11 +16,11 @@ use Rattle.bs_log_dimacs.specs.Cnf.{cnf_of, cnf_text}
 use Rattle.bs_log_dimacs.specs.Law.{IsFinishAt, HasNoFinish}
 use Rattle.bs_log_dimacs.specs.Proof.{lrat_text, IsRefutation}
 use Rattle.bs_log_dimacs.specs.Walk.{IsOneOf}
-use Rattle.bs_log_dimacs.specs.declared.frame.TheConstants.{FEW}
-use Rattle.bs_log_whole.specs.Cnf.{finish_of, whole_cnf_of, whole_cnf_text}
-use Rattle.bs_log_whole.specs.Law.{OthersAreGuarded}
-use Rattle.bs_log_whole.specs.Proof.{whole_proof_of, whole_lrat_text}
-use Rattle.bs_log_whole.specs.Walk.{has_finish}
+use Rattle.bs_log_dimacs.specs.declared.asked.TheConstants.{FEW}
+use Rattle.bs_log_dimacs.specs.WholeCnf.{finish_of, whole_cnf_of, whole_cnf_text}
+use Rattle.bs_log_dimacs.specs.WholeLaw.{OthersAreGuarded}
+use Rattle.bs_log_dimacs.specs.WholeProof.{whole_proof_of, whole_lrat_text}
+use Rattle.bs_log_dimacs.specs.WholeWalk.{has_finish}
 use Rattle.bs_encode.specs.Assuming.{block_for, AreWide}
 use Rattle.bs_encode.specs.Depth.{basis_of, encoding_by}
 use Rattle.bs_encode.specs.Encoded.{Encoded}

@@ -1,22 +1,28 @@
-//! Evidence for other checkers: the clauses on which one list of a report stands, or all of them, and the proof, as texts.
+//! Evidence for other checkers, as texts: the clauses on which one list of a report stands, or all of them, and the proof that nothing
+//! meets them; and the same of an answer of `reach`, for a length or for all that it refutes.
 //!
-//! Modules: `flaw` (why there is none), `fits` (whether the steps fit), `assumed` (what each step
-//! assumes), `whole` (all lists at once), `evidence` (`evidence_of` a step, `evidence_for` all),
-//! `words` (`flaw_text`), `law`. The log is checked by bs_rup first. Used above: `IsEvidence`
-//! (`specs/Evidence`), `unlisted_states_are_shown` and `all_unlisted_states_are_shown`: an
-//! unlisted predecessor gives an assignment that meets the clauses; `report_proofs_are_right`.
-//! The clauses: bs_log_dimacs for one list, bs_log_whole for all.
+//! Modules: `flaw` (why there is none), `words` (`flaw_text`), `logged` (`log_evidence`: of any log, which bs_rup checks first). Of a
+//! report: `fits` (whether the steps fit), `assumed` (what each step assumes), `evidence` (`evidence_of` a step, `evidence_for` all),
+//! `law`. Of an answer: `lengths` (what the step of each length assumes), `answer` (`evidence_of`), `length_law`. Used above:
+//! `IsEvidence` of `specs/Evidence` and of `specs/Lengths`; `unlisted_states_are_shown` and `all_unlisted_states_are_shown`: an
+//! unlisted predecessor gives an assignment that meets the clauses; `report_proofs_are_right`; `lengths_are_shown`: the clauses of a
+//! length are met just where the state is reached in it. The clauses: bs_log_dimacs; those of all time frames: bs_reach_unrolled.
 #![tactic(auto)]
 
+mod answer;
 mod assumed;
 mod evidence;
 mod fits;
 mod flaw;
 mod law;
-mod whole;
+mod length_law;
+mod lengths;
+mod logged;
 mod words;
 
+pub use answer::evidence_of as length_evidence;
 pub use evidence::{Format, evidence_for, evidence_of};
 pub use flaw::{Evidence, Flaw};
 pub use law::{all_unlisted_states_are_shown, report_proofs_are_right, unlisted_states_are_shown};
+pub use length_law::{all_lengths_are_shown, lengths_are_shown};
 pub use words::flaw_text;

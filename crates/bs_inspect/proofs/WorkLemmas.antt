@@ -3,7 +3,7 @@ use Rattle.std.proofs.Common.{◌≡◌, ℕ, ◌<◌, ◌≤◌, ◌+◌, ◌*�
 use Rattle.std.specs.List.{flat_map}
 use Rattle.std.proofs.lemmas.Grind.{flat_map-append}
 use Rattle.std.proofs.lemmas.List.{append_assoc, length-map, map_more}
-use Rattle.std.specs.Prelude.{Bool, IfOk, option_map}
+use Rattle.std.specs.Prelude.{Bool, IfOk, option_map, if◌then◌else◌}
 use Rattle.bs_bits.specs.declared.memory.NoMemory.{NoMemory}
 use Rattle.bs_inspect_notes.specs.Simulations.{data_clock_text, late_text}
 use Rattle.bs_inspect_values.specs.Simulated.{Simulated, clock_key}
@@ -24,7 +24,7 @@ use Rattle.bs_top_plan.specs.declared.status.Status.{Status}
 use Rattle.bs_top_plan.specs.declared.diagnostic.WalkStop.{WalkStop}
 use Rattle.bs_top_plan.specs.declared.walk.JobFault.{JobFault}
 use Rattle.bs_top_plan.specs.Files.{is_work_status}
-use Rattle.bs_top_plan.specs.Plan.{Tells, Counts, Plan, end}
+use Rattle.bs_top_plan.specs.Plan.{Tells, Counts, Plan, ◌>>=◌, end}
 use Rattle.bs_top_plan.specs.Prepared.{AnswersStop, IsWork}
 use Rattle.bs_top_plan.specs.Telling.{WalksDiagnosed}
 use Rattle.bs_top_plan.specs.Diagnostic.{line_stop, note_stop}
@@ -35,22 +35,26 @@ use Rattle.bs_top_answer.specs.declared.note.Note.TheVariants.{Silent}
 use Rattle.bs_top_answer.specs.Note.{Due, DueText}
 use Rattle.bs_top_answer.specs.Prepared.{NoteAlong, PreparedNoted}
 use Rattle.bs_top_answer.specs.Stops.{StopNoted}
-use Rattle.bs_top_answer.proofs.AnswerLemmas.{diagnosed_stopped, diagnosed_work}
+use Rattle.bs_top_answer.proofs.AnswerLemmas.{diagnosed_as, diagnosed_stopped, diagnosed_work}
 use Rattle.bs_top_files.specs.NoteCases.{NoteCase, NoteSays}
 use Rattle.bs_top_files.specs.Refusals.{Case, CheckSays}
 use Rattle.bs_inspect_words.specs.Request.{Request}
 use Rattle.bs_inspect.specs.Said.{late_doubt, RequestSaid, runs_doubt, silent, WordsSaid, WorkSaid, work_note}
-use Rattle.bs_inspect.specs.Sources.{Sources, behind_piece, joined, named_values, source_of}
+use Rattle.bs_inspect.specs.Sources.{Sources, behind_piece, joined, named_runs, named_values, source_of}
 use Rattle.bs_evidence.specs.declared.flaw.Evidence.{Evidence}
 use Rattle.bs_evidence.specs.declared.flaw.Evidence.TheVariants.{Text, Flawed}
-use Rattle.bs_inspect.specs.Work.{to_table, to_steps_table, to_keys, to_state, to_evidence, to_lengths, to_page, to_novel, to_why}
+use Rattle.bs_inspect.specs.Work.{to_table, to_steps_table, to_keys, to_state, to_evidence, to_lengths, to_page, to_novel, to_why, to_check}
 use Rattle.bs_inspect.specs.Work.{Work, plan_of, to_help, to_version, to_flops, to_inputs, to_stats, to_steps, to_trace, to_runs, to_dump, to_wave, to_signature}
+use Rattle.bs_inspect_check.specs.declared.comparison.Comparison.{Comparison}
+use Rattle.bs_inspect_check.specs.Comparison.{all_agree}
+use Rattle.bs_inspect_check.specs.Text.{TellsCheck}
+use Rattle.bs_top_plan.specs.declared.status.Status.TheVariants.{Done, Rejected}
 use Rattle.bs_inspect_why.specs.Question.{Question}
 use Rattle.bs_inspect_why.specs.Why.{Answers}
 use Rattle.bs_inspect_files.specs.Taken.{TraceFiles}
 use Rattle.bs_inspect_why.specs.declared.denial.Why.{Why}
 use Rattle.bs_inspect_why.specs.declared.denial.Why.TheVariants as why
-use Rattle.bs_inspect.specs.Finishes.{TellsReasons, evidence_status, finishes, why_status, why_text}
+use Rattle.bs_inspect.specs.Finishes.{TellsReasons, check_status, evidence_status, finishes, why_status, why_text}
 
 work_status : (work : Work) (status : Status) (text : List ℕ) → finishes work status text → is_work_status status ≡ true
 work_status to_help status text done = ap is_work_status done.0 ∙ refl
@@ -85,6 +89,11 @@ work_status (to_why q trace_files) status text done = ap is_work_status done.ans
     by : (w : Why) → is_work_status (why_status w) ≡ true
     by (why.Text t) = refl
     by (why.Denied denial) = refl
+work_status (to_check checked) status text done = ap is_work_status done.0 ∙ by (all_agree checked.comparisons)
+  where
+    by : (b : Bool) → is_work_status (if b then Done else Rejected) ≡ true
+    by true = refl
+    by false = refl
 
 -- a question whose number of layers is this
 pub question_is : (q : Question) (depth : ℕ) → depth ≡ q.depth →
@@ -124,6 +133,12 @@ drawn_as asked raw given lines states inputs text e h = subst (λ (ls : List ℕ
 pub page_as : (asked : Option SignatureFile → PageOptions) (raw : Parts) (r : Report) (given own : Option SignatureFile) (text : List ℕ) → given ≡ own →
     ShowsReport raw r (asked given) text → ShowsReport raw r (asked own) text
 page_as asked raw r given own text e h = subst (λ (s : Option SignatureFile). ShowsReport raw r (asked s) text) e h
+
+-- what is told of runs beside their VCDs, where these are all of them
+pub check_told : (raw : Parts) (given own : List Comparison) (status : Status) (text : List ℕ) → given ≡ own → status ≡ check_status given →
+    TellsCheck raw given text → (status ≡ check_status own) × TellsCheck raw own text
+check_told raw given own status text e answered told =
+    subst (λ (ms : List Comparison). (status ≡ check_status ms) × TellsCheck raw ms text) e (answered, told)
 
 -- a reply with no note on it
 silent_done : (finish : Status → List ℕ → Type 0) (r : Result Reply NoMemory) → IfOk r (λ a. finish a.status a.text.items) →
@@ -174,6 +189,26 @@ diagnosed_stop_at {stop = stop} given sources r same walks line says =
     diagnosed_stopped finishes WorkSaid (source_of sources) r walks line
     (subst (λ (n : Sources). IfOk r (λ a. StopNoted (source_of n) (note_stop stop) a.note)) same says)
 
+-- The same by the plans of the walk alone. They are given, so that no proof of a request writes out what they unfold to.
+pub walked_done : {A S T : Type 0} {held : S → Tells} {faults : S → Counts} {leads : S → FetchCall → S → Type 0} {before now : S} {view : T → A} {t : T}
+    (plan : Plan Case A) (looked : Plan NoteCase A) (work : A → Work) (path_of : File → List ℕ) (r : Result Reply NoMemory)
+    (answer : Result Response NoMemory) → answer ≡ silent r → work_note (work (view t)) ≡ None →
+    WalksDiagnosed CheckSays NoteSays held faults leads before now plan looked view view (Ok t) →
+    IfOk r (λ a. finishes (work (view t)) a.status a.text.items) →
+    PreparedNoted CheckSays finishes (NoteAlong NoteSays WorkSaid path_of (looked >>= (λ v. end (work v)))) held faults leads before now
+    (Some (plan >>= (λ v. end (work v)))) answer
+walked_done {T = T} {view = view} {t = t} plan looked work path_of r answer same quiet walks done =
+    diagnosed_done {T = T} {view = λ x. work (view x)} {t = t} path_of r answer same quiet (diagnosed_as work walks) done
+
+pub walked_stop : {A S T : Type 0} {held : S → Tells} {faults : S → Counts} {leads : S → FetchCall → S → Type 0} {before now : S} {view : T → A}
+    {stop : WalkStop} (plan : Plan Case A) (looked : Plan NoteCase A) (work : A → Work) (given sources : Sources) (r : Result Response NoMemory) →
+    given ≡ sources → WalksDiagnosed CheckSays NoteSays held faults leads before now plan looked view view (Err stop) →
+    IfOk r (λ a. AnswersStop (line_stop stop) a.reply.status a.reply.text.items) → IfOk r (λ a. StopNoted (source_of given) (note_stop stop) a.note) →
+    PreparedNoted CheckSays finishes (NoteAlong NoteSays WorkSaid (source_of sources) (looked >>= (λ v. end (work v)))) held faults leads before now
+    (Some (plan >>= (λ v. end (work v)))) r
+walked_stop plan looked work given sources r same walks line says =
+    diagnosed_stop_at given sources r same (diagnosed_as work walks) line says
+
 piece_more : (names : List (Bor (List ℕ))) (i : ℕ) (d : Bor (List ℕ)) → i < length names →
     flat_map behind_piece (map (λ s. s.now) (take i names)) ++ behind_piece (get_or names i d).now
     ≡ flat_map behind_piece (map (λ s. s.now) (take (i + 1) names))
@@ -197,6 +232,13 @@ pub values_noted : (netlist : List ℕ) (names : Option (List ℕ)) (vcd : List 
     StopNoted (source_of (named_values netlist names (joined vcds))) fault note
 values_noted netlist names vcd vcds given fault note e is h =
     subst (λ (n : Sources). StopNoted (source_of n) fault note) (e ∙ ap (named_values netlist names) is) h
+
+-- a stop among runs and files of values, by all their names
+pub runs_noted : (netlist runs : List ℕ) (names : Option (List ℕ)) (vcd : List ℕ) (vcds : List (List ℕ)) (given : Sources) (fault : JobFault) (note : Note) →
+    given ≡ named_runs netlist runs names vcd → vcd ≡ joined vcds → StopNoted (source_of given) fault note →
+    StopNoted (source_of (named_runs netlist runs names (joined vcds))) fault note
+runs_noted netlist runs names vcd vcds given fault note e is h =
+    subst (λ (n : Sources). StopNoted (source_of n) fault note) (e ∙ ap (named_runs netlist runs names) is) h
 
 -- the answer to a request of no file
 pub diagnosed_alone : {S : Type 0} {held : S → Tells} {faults : S → Counts} {leads : S → FetchCall → S → Type 0} {before : S} (work : Work)

@@ -5,7 +5,8 @@ use Rattle.bs_scan.specs.Choice.{Chosen}
 use Rattle.bs_inspect_front.specs.Signed.{SignatureFile}
 use Rattle.bs_inspect_page.specs.Page.{PageOptions}
 use Rattle.bs_inspect_why.specs.Question.{Question}
-use Rattle.bs_inspect_words.specs.Request.{DumpRequest, PageRequest, StimulusRequest, WhyRequest}
+use Rattle.bs_inspect_words.specs.Request.{CheckRequest, DumpRequest, PageRequest, StimulusRequest, WhyRequest}
+use Rattle.bs_inspect_check_files.specs.Checked.{CheckFiles}
 use Rattle.bs_inspect_values.specs.Dumped.{DumpFiles}
 use Rattle.bs_inspect_values.specs.Simulated.{Clocked}
 
@@ -22,6 +23,9 @@ dump_files t = record {
   names = t.names;
   signature = t.signature;
 }
+
+abbrev pub check_files : CheckRequest → CheckFiles
+check_files t = record { netlist = t.netlist; stimulus = t.runs; clock = t.clock; scope = t.scope; names = t.names }
 
 -- what is asked of a waveform, with these comments
 abbrev pub drawing_of : (from : ℕ) → Bool → List (List ℕ) → List ℕ → ViewRequest

@@ -1,9 +1,12 @@
 -- The status and the text of work that is done.
-use Rattle.std.specs.Prelude.{◌≡◌, ℕ, List, Option, length}
+use Rattle.std.specs.Prelude.{◌≡◌, ℕ, List, Option, length, if◌then◌else◌}
 use Rattle.bs_top_plan.specs.declared.status.Status.{Status}
 use Rattle.bs_top_plan.specs.declared.status.Status.TheVariants.{Done, Rejected}
 use Rattle.bs_inspect_values.specs.SimulatedRun.{simulated_text}
 use Rattle.bs_inspect_netlist.specs.Dumped.{dump_lines}
+use Rattle.bs_inspect_check.specs.declared.comparison.Comparison.{Comparison}
+use Rattle.bs_inspect_check.specs.Comparison.{all_agree}
+use Rattle.bs_inspect_check.specs.Text.{TellsCheck}
 use Rattle.bs_inspect.specs.Asked.{drawing_of}
 use Rattle.bs_inspect_view.specs.View.{IsDrawing}
 use Rattle.bs_inspect_lists.specs.Signature.{TellsSignature}
@@ -30,10 +33,10 @@ use Rattle.bs_evidence.specs.declared.flaw.Evidence.{Evidence}
 use Rattle.bs_evidence.specs.declared.flaw.Evidence.TheVariants.{Text, Flawed}
 use Rattle.bs_evidence.specs.Evidence.{IsEvidence}
 use Rattle.bs_evidence.specs.Words.{flaw_text}
-use Rattle.bs_reach_evidence.specs.Evidence.{IsEvidence as IsLengthEvidence}
+use Rattle.bs_evidence.specs.Lengths.{IsEvidence as IsLengthEvidence}
 use Rattle.bs_inspect_answers.specs.Searched.{AnswerFiles}
 use Rattle.bs_inspect_files.specs.Taken.{ReportFiles, TraceFiles}
-use Rattle.bs_inspect.specs.Work.{to_table, to_steps_table, to_keys, to_state, to_evidence, to_lengths, to_page, to_novel, to_why}
+use Rattle.bs_inspect.specs.Work.{to_table, to_steps_table, to_keys, to_state, to_evidence, to_lengths, to_page, to_novel, to_why, to_check}
 
 -- the status and the text of evidence: a flaw is answered as an audit answers a part that fails
 abbrev pub evidence_status : Evidence → Status
@@ -75,6 +78,10 @@ pub record TellsReasons (q : Question) (trace_files : TraceFiles) (status : Stat
   pub answered : status ≡ why_status answer
   pub written : text ≡ why_text answer
 
+-- runs that differ from their VCDs are answered as an audit answers a part that fails
+abbrev pub check_status : List Comparison → Status
+check_status comparisons = if all_agree comparisons then Done else Rejected
+
 abbrev pub finishes : Work → Status → List ℕ → Type 0
 finishes to_help status text = (status ≡ Done) × (text ≡ usage_text)
 finishes to_version status text = (status ≡ Done) × (text ≡ version_text)
@@ -98,3 +105,4 @@ finishes (to_lengths kind asked answer_files) status text = TellsLengths kind as
 finishes (to_page asked trace_files) status text = (status ≡ Done) × ShowsReport trace_files.raw trace_files.report asked text
 finishes (to_novel most one_run) status text = (status ≡ Done) × TellsNovel one_run.run_files.raw one_run.run_files.runs one_run.moment.run most text
 finishes (to_why q trace_files) status text = TellsReasons q trace_files status text
+finishes (to_check checked) status text = (status ≡ check_status checked.comparisons) × TellsCheck checked.raw checked.comparisons text

@@ -14,7 +14,7 @@ use Rattle.bs_top_answer.specs.declared.note.Note.{Note}
 use Rattle.bs_top_answer.specs.Note.{Due}
 use Rattle.bs_top_answer.specs.Said.{CallNoted, PutsNote}
 use Rattle.bs_top_files.specs.Refusals.{CheckSays}
-use Rattle.bs_inspect_notes.specs.Usages.{memory_text, unread_text}
+use Rattle.bs_inspect_usages.specs.Usages.{memory_text, unread_text}
 use Rattle.bs_inspect.specs.Answers.{AnswersWords, planned}
 use Rattle.bs_inspect.specs.Finishes.{finishes}
 use Rattle.bs_inspect_words.specs.Request.{request_of}

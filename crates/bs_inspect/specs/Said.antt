@@ -12,7 +12,8 @@ use Rattle.bs_top_answer.specs.Note.{Due, DueText}
 use Rattle.bs_top_answer.specs.Prepared.{NoteAlong}
 use Rattle.bs_top_files.specs.Looking.{netlist_looked, report_looked}
 use Rattle.bs_top_files.specs.NoteCases.{NoteCase, NoteSays}
-use Rattle.bs_inspect_words.specs.Request.{Request, Help, Version, Flops, Inputs, Stats, Keys, Trace, TraceTable, Steps, StepsTable, Wave, Stimulus, Dump, Signature, Unscan, Cnf, Lrat, ReachCnf, ReachLrat, Page, Novel, Why}
+use Rattle.bs_inspect_words.specs.Request.{Request, Help, Version, Flops, Inputs, Stats, Keys, Trace, TraceTable, Steps, StepsTable, Wave, Stimulus, Check, Dump, Signature, Unscan, Cnf, Lrat, ReachCnf, ReachLrat, Page, Novel, Why}
+use Rattle.bs_inspect_check_files.specs.Checked.{checked_looked}
 use Rattle.bs_inspect_values.specs.Dumped.{dumped_looked}
 use Rattle.bs_inspect_values.specs.Simulated.{Simulated, clock_key, simulated_looked}
 use Rattle.bs_inspect_values.specs.SimulatedRun.{SimulatedRun, is_late}
@@ -21,11 +22,11 @@ use Rattle.bs_inspect_answers.specs.Searched.{answer_files_looked}
 use Rattle.bs_inspect_files.specs.Paged.{page_files_looked}
 use Rattle.bs_inspect_files.specs.Taken.{charted_looked, one_run_looked, run_files_looked, report_files_looked, picked_looked}
 use Rattle.bs_inspect_files.specs.FlopFiles.{named_looked, scanned_looked}
-use Rattle.bs_inspect_notes.specs.Usages.{words_text}
+use Rattle.bs_inspect_usages.specs.Usages.{words_text}
 use Rattle.bs_inspect_notes.specs.Simulations.{data_clock_text, late_text}
-use Rattle.bs_inspect.specs.Asked.{clocked_of, dump_files, page_options, question_of}
+use Rattle.bs_inspect.specs.Asked.{check_files, clocked_of, dump_files, page_options, question_of}
 use Rattle.bs_inspect.specs.Sources.{source_of, sources_of}
-use Rattle.bs_inspect.specs.Work.{Work, to_help, to_version, to_flops, to_inputs, to_stats, to_steps, to_trace, to_runs, to_dump, to_wave, to_signature, to_table, to_steps_table, to_keys, to_state, to_evidence, to_lengths, to_page, to_novel, to_why}
+use Rattle.bs_inspect.specs.Work.{Work, to_help, to_version, to_flops, to_inputs, to_stats, to_steps, to_trace, to_runs, to_dump, to_wave, to_signature, to_table, to_steps_table, to_keys, to_state, to_evidence, to_lengths, to_page, to_novel, to_why, to_check}
 
 -- the plan of a request as the notes see it: the same files and the same work, and the notes on what is refused
 abbrev pub looked_of : Request → Plan NoteCase Work
@@ -52,6 +53,9 @@ looked_of (Stimulus t) = do
 looked_of (Dump t) = do
   dumped ← dumped_looked (dump_files t)
   end (to_dump dumped)
+looked_of (Check t) = do
+  checked ← checked_looked (check_files t) t.vcds
+  end (to_check checked)
 looked_of (Wave t) = do
   trace_files ← charted_looked t.netlist t.report t.only
   end (to_wave t.from t.all t.only trace_files)

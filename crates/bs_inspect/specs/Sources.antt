@@ -4,8 +4,8 @@ use Rattle.std.specs.List.{flat_map}
 use Rattle.std.specs.Option.{unwrap_or}
 use Rattle.bs_top_plan.specs.declared.file.File.{File}
 use Rattle.bs_top_plan.specs.declared.file.File.TheVariants as files
-use Rattle.bs_inspect_words.specs.Request.{Request, DumpRequest, NovelRequest, SignatureRequest, StimulusRequest, Help, Version, Flops, Inputs, Stats, Keys, Trace, TraceTable, Steps}
-use Rattle.bs_inspect_words.specs.Request.{StepsTable, Wave, Stimulus, Dump, Signature, Unscan, Cnf, Lrat, ReachCnf, ReachLrat, EvidenceRequest, LengthsRequest, PageRequest, Page, Novel, Why}
+use Rattle.bs_inspect_words.specs.Request.{Request, CheckRequest, DumpRequest, NovelRequest, SignatureRequest, StimulusRequest, Help, Version, Flops, Inputs, Stats, Keys, Trace, TraceTable, Steps}
+use Rattle.bs_inspect_words.specs.Request.{StepsTable, Wave, Stimulus, Check, Dump, Signature, Unscan, Cnf, Lrat, ReachCnf, ReachLrat, EvidenceRequest, LengthsRequest, PageRequest, Page, Novel, Why}
 use Rattle.bs_inspect.specs.declared.sources.Sources.{Sources as CodeSources}
 
 pub record Sources : Type 0 where
@@ -62,6 +62,13 @@ named_values netlist names vcd = record { netlist = netlist; signature = []; sti
 abbrev pub values_sources : StimulusRequest → Sources
 values_sources t = named_values t.netlist t.names (joined t.vcds)
 
+-- a netlist, recorded runs, values under this name, and a file of names, where there is one
+abbrev pub named_runs : (netlist runs : List ℕ) → Option (List ℕ) → List ℕ → Sources
+named_runs netlist runs names vcd = record { netlist = netlist; signature = []; stimulus = runs; report = []; vcd = vcd; map = unwrap_or names [] }
+
+abbrev pub check_sources : CheckRequest → Sources
+check_sources t = named_runs t.netlist t.runs t.names (joined t.vcds)
+
 abbrev pub dump_sources : DumpRequest → Sources
 dump_sources t =
     record {
@@ -100,6 +107,7 @@ sources_of (Stimulus t) = values_sources t
 sources_of (Wave t) = trace_sources t.netlist t.report
 sources_of (Signature t) = runs_sources t
 sources_of (Dump t) = dump_sources t
+sources_of (Check t) = check_sources t
 sources_of (TraceTable t) = trace_sources t.netlist t.report
 sources_of (StepsTable report) = report_source report
 sources_of (Keys t) = netlist_source t.netlist

@@ -2,7 +2,7 @@
 use Rattle.std.specs.Prelude.{ℕ, List, codes}
 use Rattle.std.specs.List.{flat_map}
 use Rattle.bs_bits.specs.Lines.{line}
-use Rattle.bs_inspect_notes.specs.Usages.{usages}
+use Rattle.bs_inspect_usages.specs.Usages.{usages}
 
 -- a line for each command
 abbrev pub usage_text : List ℕ

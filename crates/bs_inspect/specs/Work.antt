@@ -2,7 +2,7 @@
 use Rattle.std.specs.Prelude.{ℕ, Bool, List, Option, [], ◌∷◌}
 use Rattle.bs_net.specs.Parts.{Parts}
 use Rattle.bs_report.specs.declared.report.Report.{Report}
-use Rattle.bs_inspect_words.specs.Request.{Request, Help, Version, Flops, Inputs, Stats, Keys, Trace, TraceTable, Steps, StepsTable, Wave, Stimulus, Dump, Signature, Unscan, Cnf, Lrat, ReachCnf, ReachLrat, Page, Novel, Why}
+use Rattle.bs_inspect_words.specs.Request.{Request, Help, Version, Flops, Inputs, Stats, Keys, Trace, TraceTable, Steps, StepsTable, Wave, Stimulus, Check, Dump, Signature, Unscan, Cnf, Lrat, ReachCnf, ReachLrat, Page, Novel, Why}
 use Rattle.bs_top_plan.specs.Plan.{Plan, end, ◌>>=◌}
 use Rattle.bs_top_files.specs.Entry.{netlist_of, report_of}
 use Rattle.bs_top_files.specs.Refusals.{Case}
@@ -11,18 +11,20 @@ use Rattle.bs_evidence.specs.declared.evidence.Format.TheVariants.{Clauses, Proo
 use Rattle.bs_inspect_answers.specs.Searched.{AnswerFiles, answer_files_of}
 use Rattle.bs_inspect_files.specs.Taken.{OneRun, TraceFiles, RunFiles, ReportFiles, picked_of, charted_of, one_run_of, run_files_of, report_files_of}
 use Rattle.bs_inspect_files.specs.Paged.{page_files_of}
+use Rattle.bs_inspect_check_files.specs.Checked.{Checked, checked_of}
 use Rattle.bs_inspect_values.specs.Dumped.{Dumped, dumped_of}
 use Rattle.bs_inspect_values.specs.Simulated.{Simulated, simulated_of}
 use Rattle.bs_inspect_files.specs.FlopFiles.{Scanned, named_of, scanned_of}
 use Rattle.bs_inspect_page.specs.Page.{PageOptions}
 use Rattle.bs_inspect_why.specs.Question.{Question}
-use Rattle.bs_inspect.specs.Asked.{clocked_of, dump_files, page_options, question_of}
+use Rattle.bs_inspect.specs.Asked.{check_files, clocked_of, dump_files, page_options, question_of}
 
 -- how words stand, the version, the flip-flops, data inputs or sizes of a netlist, the steps of a report, its trace with the
 -- names of a netlist, simulated runs (by a clock with this name), a dump, the waveform of a trace from a cycle on, or a signature of so
 -- many items is to be written; a trace or steps as a table, the keys of the flip-flops that names stand for, the state that a
 -- pattern of a scan chain is, or the evidence for the list of a step or for all lists, or for a length of an answer or for all that it
--- refutes; or a report as a page, or in so many lines the values that a run alone has, or what forces the bits of a name in a trace
+-- refutes; or a report as a page, or in so many lines the values that a run alone has, or what forces the bits of a name in a trace; or
+-- recorded runs beside a simulation
 pub data Work : Type 0 where
   to_help : Work
   to_version : Work
@@ -44,6 +46,7 @@ pub data Work : Type 0 where
   to_page : PageOptions → TraceFiles → Work
   to_novel : (most : ℕ) → OneRun → Work
   to_why : Question → TraceFiles → Work
+  to_check : Checked → Work
 
 -- the plan of a request
 abbrev pub plan_of : Request → Plan Case Work
@@ -70,6 +73,9 @@ plan_of (Stimulus t) = do
 plan_of (Dump t) = do
   dumped ← dumped_of (dump_files t)
   end (to_dump dumped)
+plan_of (Check t) = do
+  checked ← checked_of (check_files t) t.vcds
+  end (to_check checked)
 plan_of (Wave t) = do
   trace_files ← charted_of t.netlist t.report t.only
   end (to_wave t.from t.all t.only trace_files)

@@ -3,8 +3,8 @@ ghost use Rattle.std.specs.Prelude.{◌≡◌, find, map, Some, IfOk};
 ghost use Rattle.bs_top_answer.specs.Note.{Due, DueText};
 ghost use Rattle.bs_top_answer.specs.Prepared.{PreparedNoted};
 ghost use Rattle.bs_top_files.specs.Refusals.{CheckSays};
-ghost use Rattle.bs_inspect_words.specs.Request.{Cnf as CnfOf, Dump as DumpOf, Lrat as LratOf, ReachCnf as ReachCnfOf, ReachLrat as ReachLratOf, Flops as FlopsOf, Inputs as InputsOf, Keys as KeysOf, Page as PageOf, Novel as NovelOf, Signature as SignatureOf, Stats as StatsOf, Steps as StepsOf, StepsTable as StepsTableOf, Stimulus as StimulusOf, Trace as TraceOf, TraceTable as TraceTableOf, Unscan as UnscanOf, Wave as WaveOf, Why as WhyOf};
-ghost use Rattle.bs_inspect_words.specs.Asked.{dump_in, evidence_in, keys_in, lengths_in, page_in, novel_in, request_in, signature_in, stimulus_in, trace_in, unscan_in, wave_in, why_in};
+ghost use Rattle.bs_inspect_words.specs.Request.{Check as CheckOf, Cnf as CnfOf, Dump as DumpOf, Lrat as LratOf, ReachCnf as ReachCnfOf, ReachLrat as ReachLratOf, Flops as FlopsOf, Inputs as InputsOf, Keys as KeysOf, Page as PageOf, Novel as NovelOf, Signature as SignatureOf, Stats as StatsOf, Steps as StepsOf, StepsTable as StepsTableOf, Stimulus as StimulusOf, Trace as TraceOf, TraceTable as TraceTableOf, Unscan as UnscanOf, Wave as WaveOf, Why as WhyOf};
+ghost use Rattle.bs_inspect_words.specs.Asked.{check_in, dump_in, evidence_in, keys_in, lengths_in, page_in, novel_in, request_in, signature_in, stimulus_in, trace_in, unscan_in, wave_in, why_in};
 ghost use Rattle.bs_inspect.specs.Finishes.{finishes};
 ghost use Rattle.bs_inspect.specs.Said.{late_doubt, RequestSaid, runs_doubt, silent};
 ghost use Rattle.bs_inspect.specs.Work.{plan_of, to_runs};
@@ -14,15 +14,16 @@ ghost use Rattle.bs_inspect_values.specs.SimulatedRun.{is_late, run_in};
 
 use crate::sources::{
     chain_sources, dump_sources, evidence_sources, lengths_sources, netlist_source, novel_sources,
-    page_sources, report_source, runs_sources, stop_at, stop_values, trace_sources,
+    page_sources, report_source, runs_sources, stop_at, stop_check, stop_values, trace_sources,
 };
 use crate::telling::{
-    tell_dump, tell_evidence, tell_flops, tell_inputs, tell_keys, tell_lengths, tell_novel,
-    tell_page, tell_runs, tell_signature, tell_state, tell_stats, tell_steps, tell_steps_table,
-    tell_table, tell_trace, tell_usage, tell_version, tell_wave, tell_why,
+    tell_check, tell_dump, tell_evidence, tell_flops, tell_inputs, tell_keys, tell_lengths,
+    tell_novel, tell_page, tell_runs, tell_signature, tell_state, tell_stats, tell_steps,
+    tell_steps_table, tell_table, tell_trace, tell_usage, tell_version, tell_wave, tell_why,
 };
 use bs_evidence::Format;
 use bs_inspect_answers::load_answer_files;
+use bs_inspect_check_files::{CheckFiles, load_checked};
 use bs_inspect_files::{
     load_charted, load_named, load_one_run, load_page_files, load_picked, load_report_files,
     load_run_files, load_scanned,
@@ -32,8 +33,9 @@ use bs_inspect_values::{
     Clocked, DumpFiles, Simulated, SimulatedRun, clock_key, first_late, load_dumped, load_simulated,
 };
 use bs_inspect_words::{
-    DumpRequest, EvidenceRequest, KeysRequest, LengthsRequest, NovelRequest, PageRequest, Request,
-    SignatureRequest, StimulusRequest, TraceRequest, UnscanRequest, WaveRequest, WhyRequest,
+    CheckRequest, DumpRequest, EvidenceRequest, KeysRequest, LengthsRequest, NovelRequest,
+    PageRequest, Request, SignatureRequest, StimulusRequest, TraceRequest, UnscanRequest,
+    WaveRequest, WhyRequest,
 };
 use bs_outside::{NoMemory, Shelf};
 use bs_top_answer::{Note, Response, note_made};
@@ -179,6 +181,36 @@ fn stimulus<S: Shelf>(
         Err(stop) => stop_values(
             alloc,
             asked.netlist,
+            asked.names,
+            vcds,
+            shelf.reason(),
+            stop,
+        ),
+    }
+}
+
+/// The answer to `check`.
+fn check<S: Shelf>(
+    alloc: Global,
+    shelf: &mut S,
+    asked: &CheckRequest<'_>,
+) -> Result<Response, NoMemory>
+    ensures { PreparedNoted CheckSays finishes (RequestSaid (CheckOf (check_in asked.now))) S.held S.faults S.leads shelf.old shelf.new (Some (plan_of (CheckOf (check_in asked.now)))) result }
+{
+    let vcds = asked.vcds.as_slice();
+    let files = CheckFiles {
+        netlist: asked.netlist,
+        stimulus: asked.runs,
+        clock: asked.clock,
+        scope: asked.scope,
+        names: asked.names,
+    };
+    match load_checked(alloc, shelf, files, vcds) {
+        Ok(checked) => silent(tell_check(alloc, &checked)),
+        Err(stop) => stop_check(
+            alloc,
+            asked.netlist,
+            asked.runs,
             asked.names,
             vcds,
             shelf.reason(),
@@ -460,6 +492,7 @@ pub(crate) fn request_answer<S: Shelf>(
         Request::TraceTable(asked) => trace_table(alloc, shelf, asked),
         Request::Stimulus(asked) => stimulus(alloc, shelf, asked),
         Request::Dump(asked) => dump(alloc, shelf, asked),
+        Request::Check(asked) => check(alloc, shelf, asked),
         Request::Wave(asked) => wave(alloc, shelf, asked),
         Request::Signature(asked) => signature(alloc, shelf, asked),
         Request::Keys(asked) => keys(alloc, shelf, asked),

@@ -5,7 +5,7 @@
 //! each request), `top` (`inspect_noted`), `program` (up to the exit code). Used above:
 //! `AnswersWords` (`specs/Answers`): the clauses that `backspace` has, over `plan_of` (`specs/Work`) and `finishes`
 //! (`specs/Finishes`); and `CallNoted` over `WordsSaid` (`specs/Said`). A command: a request (bs_inspect_words), an arm in each of
-//! these and in `request_answer`, its reply in `telling`, and a line of `usages` (bs_inspect_notes).
+//! these and in `request_answer`, its reply in `telling`, and a line of `usages` (bs_inspect_usages).
 #![tactic(auto)]
 
 mod asking;

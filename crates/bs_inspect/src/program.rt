@@ -5,7 +5,7 @@ ghost use Rattle.bs_outside.specs.Texts.{output};
 ghost use Rattle.bs_inspect.specs.Program.{EndsBy, EndsUnread, SaysUnread, UnreadSaid};
 
 use crate::top::{inspect_noted, say_memory};
-use bs_inspect_notes::unread_note;
+use bs_inspect_usages::unread_note;
 use bs_outside::{NoMemory, Shelf, Sink};
 use bs_top_answer::{note_made, put_note};
 use bs_top_plan::{NO_MEMORY_CODE, Status};

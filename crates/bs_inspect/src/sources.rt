@@ -6,7 +6,7 @@ ghost use Rattle.bs_top_plan.specs.Prepared.{AnswersStop};
 ghost use Rattle.bs_top_plan.specs.Diagnostic.{line_stop, note_stop};
 ghost use Rattle.bs_top_answer.specs.Stops.{stop_file, StopNoted};
 ghost use Rattle.bs_inspect_words.specs.Asked.{dump_in, evidence_in, lengths_in, novel_in, page_in, signature_in};
-ghost use Rattle.bs_inspect.specs.Sources.{behind_piece, chain_sources, dump_sources, evidence_sources, joined, lengths_sources, named_values, netlist_source, novel_sources, page_sources, report_source, runs_sources, source_of, sources_in, trace_sources};
+ghost use Rattle.bs_inspect.specs.Sources.{behind_piece, chain_sources, dump_sources, evidence_sources, joined, lengths_sources, named_runs, named_values, netlist_source, novel_sources, page_sources, report_source, runs_sources, source_of, sources_in, trace_sources};
 
 use bs_inspect_words::{
     DumpRequest, EvidenceRequest, LengthsRequest, NovelRequest, PageRequest, SignatureRequest,
@@ -172,6 +172,25 @@ fn named_values<'a>(netlist: &'a str, names: Option<&'a str>, vcd: &'a str) -> S
     }
 }
 
+/// A netlist, recorded runs, the values of a simulator under this name, and the names of flip-flops, where there is a file of them.
+fn named_runs<'a>(
+    netlist: &'a str,
+    runs: &'a str,
+    names: Option<&'a str>,
+    vcd: &'a str,
+) -> Sources<'a>
+    ensures { sources_in result ≡ named_runs netlist.now runs.now (option_map (λ s. s.now) names.entry) vcd.now }
+{
+    Sources {
+        netlist,
+        signature: "",
+        stimulus: runs,
+        report: "",
+        vcd,
+        map: or_none(names),
+    }
+}
+
 /// A netlist, the values of a simulator, and the names of flip-flops and a signature, where there are files of them.
 pub fn dump_sources<'a>(asked: &DumpRequest<'a>) -> Sources<'a>
     ensures { sources_in result ≡ dump_sources (dump_in asked.now) }
@@ -274,6 +293,29 @@ pub fn stop_values(
     let answer = stop_at(
         alloc,
         named_values(netlist, names, vcd.as_str()),
+        kind,
+        stop,
+    )?;
+    Ok(answer)
+}
+
+/// The answer to a walk over runs and files of values that stopped, by the names of them all.
+pub fn stop_check(
+    alloc: Global,
+    netlist: &str,
+    runs: &str,
+    names: Option<&str>,
+    vcds: &[&str],
+    kind: Option<ErrorKind>,
+    stop: WalkStop,
+) -> Result<Response, NoMemory>
+    ensures reply { IfOk result (λ answer. AnswersStop (line_stop stop) answer.reply.status answer.reply.text.items) }
+    ensures note { IfOk result (λ answer. StopNoted (source_of (named_runs netlist.now runs.now (option_map (λ s. s.now) names.entry) (joined (map (λ s. s.now) vcds.now)))) (note_stop stop) answer.note) }
+{
+    let vcd = joined(alloc, vcds)?;
+    let answer = stop_at(
+        alloc,
+        named_runs(netlist, runs, names, vcd.as_str()),
         kind,
         stop,
     )?;

@@ -6,6 +6,7 @@ ghost use Rattle.bs_inspect_novel.specs.Novel.{TellsNovel};
 ghost use Rattle.bs_inspect_files.specs.Taken.{one_run_in, run_files_in, report_files_in, trace_files_in};
 ghost use Rattle.bs_inspect_files.specs.Paged.{page_files_in};
 ghost use Rattle.bs_inspect_front.specs.Signed.{file_in};
+ghost use Rattle.bs_inspect_check_files.specs.Checked.{checked_in};
 ghost use Rattle.bs_inspect_values.specs.Dumped.{dumped_in};
 ghost use Rattle.bs_inspect_values.specs.Simulated.{simulated_in};
 ghost use Rattle.bs_inspect_files.specs.FlopFiles.{scanned_in};
@@ -14,21 +15,23 @@ ghost use Rattle.bs_inspect_netlist.specs.Order.{state_line};
 ghost use Rattle.bs_inspect_view.specs.View.{IsDrawing};
 ghost use Rattle.bs_net.specs.Netlist.{circuit_of};
 ghost use Rattle.bs_reach_text.specs.ReadingLaw.{HasAnswerText};
-ghost use Rattle.bs_reach_evidence.specs.Evidence.{IsEvidence as IsLengthEvidence};
+ghost use Rattle.bs_evidence.specs.Lengths.{IsEvidence as IsLengthEvidence};
 ghost use Rattle.bs_inspect_answers.specs.Searched.{answer_files_in};
 ghost use Rattle.bs_evidence.specs.Evidence.{IsEvidence};
 ghost use Rattle.bs_evidence.specs.Words.{flaw_text};
 ghost use Rattle.bs_inspect.specs.Asked.{drawing_of, page_for, question_of, signature_file};
-ghost use Rattle.bs_inspect.specs.Finishes.{evidence_status, evidence_text, finishes, TellsReasons, why_status, why_text as text_of_why};
-ghost use Rattle.bs_inspect.specs.Work.{to_dump, to_evidence, to_lengths, to_flops, to_help, to_inputs, to_keys, to_page, to_novel, to_runs, to_signature, to_state, to_stats, to_steps, to_steps_table, to_table, to_trace, to_version, to_wave, to_why};
+ghost use Rattle.bs_inspect.specs.Finishes.{check_status, evidence_status, evidence_text, finishes, TellsReasons, why_status, why_text as text_of_why};
+ghost use Rattle.bs_inspect.specs.Work.{to_check, to_dump, to_evidence, to_lengths, to_flops, to_help, to_inputs, to_keys, to_page, to_novel, to_runs, to_signature, to_state, to_stats, to_steps, to_steps_table, to_table, to_trace, to_version, to_wave, to_why};
 ghost use Rattle.bs_inspect_words.specs.Asked.{why_in};
 ghost use Rattle.bs_inspect_why.specs.Denials.{denial_text};
 ghost use Rattle.bs_inspect_why.specs.Question.{question_in};
 ghost use Rattle.bs_inspect_why.specs.Why.{Answers};
 
 use crate::usage::{usage_text, version_text};
-use bs_evidence::{Evidence, Flaw, Format, evidence_for, evidence_of, flaw_text};
+use bs_evidence::{Evidence, Flaw, Format, evidence_for, evidence_of, flaw_text, length_evidence};
 use bs_inspect_answers::AnswerFiles;
+use bs_inspect_check::{Comparison, all_agree, check_text};
+use bs_inspect_check_files::Checked;
 use bs_inspect_files::{OneRun, PageFiles, ReportFiles, RunFiles, Scanned, TraceFiles};
 use bs_inspect_front::SignatureFile;
 use bs_inspect_lists::signature_text;
@@ -45,7 +48,6 @@ use bs_inspect_words::WhyRequest;
 use bs_net::Netlist;
 use bs_outside::NoMemory;
 use bs_reach::Reach;
-use bs_reach_evidence::evidence_of as length_evidence;
 use bs_report::Report;
 use bs_scan::{Choice, Moment};
 use bs_target::Target;
@@ -166,6 +168,29 @@ pub(crate) fn tell_dump(alloc: Global, dumped: &Dumped) -> Result<Reply, NoMemor
     let text = dump_lines(alloc, dumped)?;
     Ok(Reply {
         status: Status::Done,
+        text,
+    })
+}
+
+/// The status of runs beside their VCDs.
+fn check_status(comparisons: &[Comparison]) -> Status
+    ensures { result ≡ check_status comparisons.now }
+{
+    if all_agree(comparisons) {
+        Status::Done
+    } else {
+        Status::Rejected
+    }
+}
+
+/// Recorded runs beside a simulation.
+pub(crate) fn tell_check(alloc: Global, checked: &Checked) -> Result<Reply, NoMemory>
+    ensures { IfOk result (λ answer. finishes (to_check (checked_in checked.now)) answer.status answer.text.items) }
+{
+    let comparisons = checked.comparisons.as_slice();
+    let text = check_text(alloc, &checked.run_files.net, comparisons)?;
+    Ok(Reply {
+        status: check_status(comparisons),
         text,
     })
 }

@@ -11,14 +11,14 @@ ghost use Rattle.bs_top_answer.specs.Said.{CallNoted};
 ghost use Rattle.bs_top_files.specs.Refusals.{CheckSays};
 ghost use Rattle.bs_inspect_words.specs.Asked.{shown_request};
 ghost use Rattle.bs_inspect_words.specs.Request.{request_of};
-ghost use Rattle.bs_inspect_notes.specs.Usages.{memory_text, words_text};
+ghost use Rattle.bs_inspect_usages.specs.Usages.{memory_text, words_text};
 ghost use Rattle.bs_inspect.specs.Answers.{planned};
 ghost use Rattle.bs_inspect.specs.Finishes.{finishes};
 ghost use Rattle.bs_inspect.specs.Said.{WordsSaid};
 ghost use Rattle.bs_inspect.specs.Work.{plan_of};
 
 use crate::asking::request_answer;
-use bs_inspect_notes::words_note;
+use bs_inspect_usages::words_note;
 use bs_inspect_words::{Request, read_request};
 use bs_outside::{NoMemory, Shelf, Sink, put_text};
 use bs_top_answer::{Response, deliver_noted, note_made};

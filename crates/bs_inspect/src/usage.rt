@@ -3,7 +3,7 @@ ghost use Rattle.std.specs.Prelude.{◌≡◌, IfOk};
 ghost use Rattle.bs_inspect.specs.Usage.{usage_text, version_text};
 
 use bs_bits::{NoMemory, push_line};
-use bs_inspect_notes::push_usages;
+use bs_inspect_usages::push_usages;
 use std::alloc::Global;
 
 /// How the words of each command stand.

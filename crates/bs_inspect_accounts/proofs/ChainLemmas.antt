@@ -1,17 +1,17 @@
 -- Accounts that step a vector on.
 use Rattle.std.proofs.Common.{◌≡◌, ℕ, ◌<◌, ◌≤◌, ◌+◌, Bool, true, false, not, cond, List, [], ◌∷◌, ◌++◌, length, filter, take, get_or, set, refl, ap, sym, subst, ◌∙◌, ⊎_elim, arith, zero, suc, Option, Some, None}
-use Rattle.std.specs.Prelude.{fold, ◌&&◌, ◌==◌, nat_lt, IfSome, if◌then◌else◌}
-use Rattle.std.specs.List.{All, position, position_or_len, range_with_len}
+use Rattle.std.specs.Prelude.{fold, count_by, ◌&&◌, ◌||◌, ◌==◌, ◌^◌, nat_lt}
+use Rattle.std.specs.List.{All, list_all, list_any, position, position_or_len, range_with_len}
 use Rattle.std.proofs.lemmas.Bool.{cases_eq, le-ltb, lt-ltb}
 use Rattle.std.proofs.lemmas.List.{take_all, get_or-set_same, get_or-set_other, get_or_default, length-set}
 use Rattle.std.proofs.lemmas.List.Quantifiers.{position-Some}
 use Rattle.std.proofs.lemmas.List.Elements.{All-append, All-nil, filter_more}
-use Rattle.std.proofs.lemmas.List.Sums.{fold-append, position_or_len_is}
+use Rattle.std.proofs.lemmas.List.Sums.{fold-append, length-filter, position_or_len_is}
 use Rattle.bs_bits.proofs.RangeLemmas.{range_push}
 use Rattle.bs_net_facts.specs.declared.fact.Fact.{Fact}
 use Rattle.bs_inspect_accounts.specs.declared.account.Account.{Account}
 use Rattle.bs_inspect_accounts.specs.declared.chain.Chain.{Chain}
-use Rattle.bs_inspect_accounts.specs.Chains.{IsWithin, account_at, alone, chain_at, chained, chained_at, chains_of, come_again, extended, goes_on, has_fact, is_before, is_step, may_be_before, no_account, other_causes, same_nets}
+use Rattle.bs_inspect_accounts.specs.Chains.{IsWithin, account_at, alone, chain_at, chained, chained_at, chains_of, come_again, comes_again, extended, goes_on, is_again, is_before, is_other, is_other_again, is_step, may_be_before, may_go, no_account, other_causes, same_nets}
 
 -- ---- facts of one kind
 
@@ -58,26 +58,72 @@ before_by later a may again e on is =
     ∙ all_five (later.block.since == a.block.at + 1) (a.block.since == a.block.at) (same_nets a.block.bits later.block.bits) (is_step a) (is_step later)
     (come_again (other_causes a) (other_causes later)) (sym e ∙ on)
 
-pub again_is : (later a : Account) (facts others : List Fact) (same : Bool) → facts ≡ other_causes a → others ≡ other_causes later →
-    same ≡ come_again facts others → same ≡ come_again (other_causes a) (other_causes later)
-again_is later a facts others same e o is =
-    is ∙ (ap (λ (fs : List Fact). come_again fs others) e ∙ ap (come_again (other_causes a)) o)
+-- ---- the other causes, by all causes
+
+any_filter : (p q : Fact → Bool) (facts : List Fact) → list_any q (filter p facts) ≡ list_any (λ f. p f && q f) facts
+any_filter p q [] = refl
+any_filter p q (f ∷ facts) = by (any_filter p q facts) (p f) refl
+  where
+    by : list_any q (filter p facts) ≡ list_any (λ g. p g && q g) facts → (b : Bool) → p f ≡ b →
+        list_any q (filter p (f ∷ facts)) ≡ list_any (λ g. p g && q g) (f ∷ facts)
+    by rest true e = rw e (ap (λ (b : Bool). q f || b) rest)
+    by rest false e = rw e rest
+
+all_filter : (p q : Fact → Bool) (facts : List Fact) → list_all q (filter p facts) ≡ list_all (λ f. not (p f) || q f) facts
+all_filter p q [] = refl
+all_filter p q (f ∷ facts) = by (all_filter p q facts) (p f) refl
+  where
+    by : list_all q (filter p facts) ≡ list_all (λ g. not (p g) || q g) facts → (b : Bool) → p f ≡ b →
+        list_all q (filter p (f ∷ facts)) ≡ list_all (λ g. not (p g) || q g) (f ∷ facts)
+    by rest true e = rw e (ap (λ (b : Bool). q f && b) rest)
+    by rest false e = rw e rest
+
+all_agree : (p q : Fact → Bool) (facts : List Fact) → ((f : Fact) → p f ≡ q f) → list_all p facts ≡ list_all q facts
+all_agree p q facts e = ap (λ (t : Fact → Bool). list_all t facts) (λ i f. e f i)
+
+pub again_is : (later a : Account) (count others : ℕ) (all result : Bool) → all ≡ list_all (may_go later a) a.causes →
+    count ≡ count_by (is_other a) a.causes → others ≡ count_by (is_other later) later.causes → result ≡ ((count == others) && all) →
+    result ≡ come_again (other_causes a) (other_causes later)
+again_is later a count others all result each n m is =
+    let one : count ≡ length (other_causes a) = n ∙ sym (length-filter (is_other a) a.causes) in
+    let two : others ≡ length (other_causes later) = m ∙ sym (length-filter (is_other later) later.causes) in
+    let same : all ≡ list_all (comes_again (other_causes later)) (other_causes a) =
+    each
+    ∙ (all_agree (may_go later a) (λ f. not (is_other a f) || list_any (is_again f) (other_causes later)) a.causes
+    (λ f. ap (λ (b : Bool). not (is_other a f) || b) (sym (any_filter (is_other later) (is_again f) later.causes)))
+    ∙ sym (all_filter (is_other a) (comes_again (other_causes later)) a.causes)) in
+    is
+    ∙ (ap (λ (b : Bool). (count == others) && b) same
+    ∙ (ap (λ (k : ℕ). (k == others) && list_all (comes_again (other_causes later)) (other_causes a)) one
+    ∙ ap (λ (k : ℕ). (length (other_causes a) == k) && list_all (comes_again (other_causes later)) (other_causes a)) two))
 
 -- the account at a place
 account_is : (accounts : List Account) (i : ℕ) (a : Account) → i < length accounts → a ≡ get_or accounts i a → a ≡ account_at accounts i
 account_is accounts i a lt e = e ∙ get_or_default accounts i a no_account lt
 
-pub on_is : (accounts : List Account) (number : ℕ) (c : Chain) (later a : Account) (on : Bool) → c.last < length accounts → number < length accounts →
-    later ≡ get_or accounts c.last later → a ≡ get_or accounts number a → on ≡ is_before later a → on ≡ goes_on accounts number c
-on_is accounts number c later a on last_lt lt at_last at is =
+pub on_here : (accounts : List Account) (number : ℕ) (chains : List Chain) (place : ℕ) (c : Chain) (later a : Account) (on : Bool) →
+    place < length chains → c ≡ get_or chains place c → c.last < length accounts → number < length accounts →
+    later ≡ get_or accounts c.last later → a ≡ get_or accounts number a → on ≡ is_before later a →
+    on ≡ goes_on accounts number (chain_at chains place)
+on_here accounts number chains place c later a on there at_place last_lt lt at_last at is =
     is
     ∙ (ap (λ (x : Account). is_before x a) (account_is accounts c.last later last_lt at_last)
-    ∙ ap (is_before (account_at accounts c.last)) (account_is accounts number a lt at))
+    ∙ (ap (is_before (account_at accounts c.last)) (account_is accounts number a lt at)
+    ∙ ap (goes_on accounts number) (at_place ∙ get_or_default chains place c (alone 0) there)))
 
 -- ---- the first chain
 
-pub last_there : (number count : ℕ) (c : Chain) → IsWithin number c → number < count → c.last < count
-last_there number count c within lt = omega (arith, within.last, lt)
+pub chain_within : (number : ℕ) (chains : List Chain) (k : ℕ) (c : Chain) → All (IsWithin number) chains → k < length chains → c ≡ get_or chains k c →
+    IsWithin number c
+chain_within number chains k c within lt e = subst (IsWithin number) (sym e) (within k c lt)
+
+pub last_here : (number count : ℕ) (chains : List Chain) (k : ℕ) (c : Chain) → All (IsWithin number) chains → k < length chains →
+    c ≡ get_or chains k c → number < count → c.last < count
+last_here number count chains k c within there e lt = omega (arith, (chain_within number chains k c within there e).last, lt)
+
+pub steps_fit : (number : ℕ) (chains : List Chain) (k : ℕ) (c : Chain) → All (IsWithin number) chains → k < length chains → c ≡ get_or chains k c →
+    number + 1 < 2 ^ 64 → c.steps + 1 < 2 ^ 64
+steps_fit number chains k c within there e lt = omega (arith, (chain_within number chains k c within there e).steps, lt)
 
 -- none of the first chains is gone on
 pub record NoneOn (accounts : List Account) (number : ℕ) (chains : List Chain) (count : ℕ) : Type 0 where
@@ -107,10 +153,6 @@ first_is accounts number chains k c on lt at is goes none =
     let below : nat_lt k (length chains) ≡ true = lt-ltb k (length chains) lt in
     sym (rw (at_k, below) refl)
 
-pub on_at : (accounts : List Account) (number : ℕ) (chains : List Chain) (place : ℕ) (c : Chain) (on : Bool) → place < length chains →
-    c ≡ get_or chains place c → on ≡ goes_on accounts number c → on ≡ goes_on accounts number (chain_at chains place)
-on_at accounts number chains place c on lt at is = is ∙ ap (goes_on accounts number) (at ∙ get_or_default chains place c (alone 0) lt)
-
 -- the chain at a place, as what is read there
 chain_read : (chains : List Chain) (k : ℕ) → k < length chains → chain_at chains k ≡ get_or chains k (chain_at chains k)
 chain_read chains k lt = get_or_default chains k (alone 0) (chain_at chains k) lt
@@ -134,35 +176,25 @@ none_all accounts number chains k le none =
 
 -- ---- chains of the first accounts
 
-pub chain_within : (number : ℕ) (chains : List Chain) (k : ℕ) (c : Chain) → All (IsWithin number) chains → k < length chains → c ≡ get_or chains k c →
-    IsWithin number c
-chain_within number chains k c within lt e = subst (IsWithin number) (sym e) (within k c lt)
-
-pub found_there : (accounts : List Account) (number : ℕ) (chains slice : List Chain) (found : Option ℕ) → slice ≡ chains →
-    found ≡ position (goes_on accounts number) slice → IfSome found (λ k. k < length chains)
-found_there accounts number chains slice None same e = tt
-found_there accounts number chains slice (Some k) same e =
-    let at = position-Some (goes_on accounts number) slice k (alone 0) (sym e) in
+pub found_there : (accounts : List Account) (number : ℕ) (chains slice : List Chain) (found : Option ℕ) (k : ℕ) → slice ≡ chains →
+    found ≡ position (goes_on accounts number) slice → found ≡ Some k → k < length chains
+found_there accounts number chains slice found k same e is =
+    let at = position-Some (goes_on accounts number) slice k (alone 0) (sym e ∙ is) in
     let long : length slice ≡ length chains = ap length same in
     omega (arith, at.0, long)
-
-pub first_within : (count : ℕ) (c : Chain) → IsWithin count c → c.first < count
-first_within count c within = within.first
-
-pub last_within : (count : ℕ) (c : Chain) → IsWithin count c → c.last < count
-last_within count c within = within.last
 
 more_within : (number : ℕ) (c : Chain) → IsWithin number c → IsWithin (number + 1) c
 more_within number c within = record { first = omega (arith, within.first); last = omega (arith, within.last); steps = omega (arith, within.steps) }
 
-pub set_is : (chains after : List Chain) (k number : ℕ) (c new : Chain) → k < length chains → c ≡ get_or chains k c → new ≡ extended c number →
-    after ≡ set chains k new → after ≡ chained_at (Some k) chains number
-set_is chains after k number c new lt at is goes =
-    goes ∙ ap (set chains k) (is ∙ ap (λ (x : Chain). extended x number) (at ∙ get_or_default chains k c (alone number) lt))
+pub set_is : (chains after : List Chain) (k number : ℕ) (c : Chain) → k < length chains → c ≡ get_or chains k c →
+    after ≡ set chains k (extended c number) → after ≡ chained_at (Some k) chains number
+set_is chains after k number c lt at goes =
+    goes ∙ ap (set chains k) (ap (λ (x : Chain). extended x number) (at ∙ get_or_default chains k c (alone number) lt))
 
-pub set_within : (chains after : List Chain) (k number : ℕ) (c new : Chain) → k < length chains → c ≡ get_or chains k c → new ≡ extended c number →
-    after ≡ set chains k new → All (IsWithin number) chains → All (IsWithin (number + 1)) after
-set_within chains after k number c new lt at is goes within =
+pub set_within : (chains after : List Chain) (k number : ℕ) (c : Chain) → k < length chains → c ≡ get_or chains k c →
+    after ≡ set chains k (extended c number) → All (IsWithin number) chains → All (IsWithin (number + 1)) after
+set_within chains after k number c lt at goes within =
+    let new : Chain = extended c number in
     subst (All (IsWithin (number + 1))) (sym goes)
     (λ j d less.
     let there : j < length chains = omega (arith, less, length-set chains k new) in
@@ -170,9 +202,8 @@ set_within chains after k number c new lt at is goes within =
     (λ (same : j ≡ k).
     subst (λ (n : ℕ). IsWithin (number + 1) (get_or (set chains k new) n d)) (sym same)
     (subst (IsWithin (number + 1)) (sym (get_or-set_same chains k new d lt))
-    (subst (IsWithin (number + 1)) (sym is)
-    (let w = chain_within number chains k c within lt at in
-    record { first = omega (arith, w.first); last = omega arith; steps = omega (arith, w.steps) }))))
+    (let w : IsWithin number c = chain_within number chains k c within lt at in
+    record { first = omega (arith, w.first); last = omega arith; steps = omega (arith, w.steps) })))
     (λ (other : j ≡ k → ⊥).
     subst (IsWithin (number + 1)) (sym (get_or-set_other chains k j new d other)) (more_within number (get_or chains j d) (within j d there)))
     (cases_eq j k))

@@ -1,5 +1,5 @@
 -- Accounts that step a vector on for the same reasons, as one (docs/DEFINITIONS.md, "Chain").
-use Rattle.std.specs.Prelude.{ℕ, ◌+◌, ◌<◌, ◌≤◌, ◌==◌, ◌&&◌, not, Bool, false, List, [], ◌∷◌, ◌++◌, length, map, filter, fold, slice_index_or, slice_set, Option, Some, None}
+use Rattle.std.specs.Prelude.{ℕ, ◌+◌, ◌<◌, ◌≤◌, ◌==◌, ◌&&◌, ◌||◌, not, Bool, false, List, [], ◌∷◌, ◌++◌, length, map, filter, fold, slice_index_or, slice_set, Option, Some, None}
 use Rattle.std.specs.Bool.{beq}
 use Rattle.std.specs.List.{list_all, list_any, position, range_with_len}
 use Rattle.std.specs.List.Sorted.{IsPermutation, IsSorted}
@@ -89,6 +89,18 @@ pub record IsWithin (count : ℕ) (c : Chain) : Type 0 where
   pub first : c.first < count
   pub last : c.last < count
   pub steps : c.steps ≤ count
+
+-- ---- the same by the causes themselves, as it is computed
+
+abbrev pub is_other : Account → Fact → Bool
+is_other a f = not (has_fact a.block.bits f)
+
+abbrev pub is_other_again : Account → Fact → Fact → Bool
+is_other_again later f g = is_other later g && is_again f g
+
+-- whether a cause comes again, unless it is of the bits
+abbrev pub may_go : Account → Account → Fact → Bool
+may_go later a f = not (is_other a f) || list_any (is_other_again later f) later.causes
 
 -- whether an account may be the step before another one, but for the other causes
 abbrev pub may_be_before : Account → Account → Bool

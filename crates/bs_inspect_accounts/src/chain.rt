@@ -1,8 +1,8 @@
 //! Accounts that step a vector on for the same reasons, as one.
-ghost use Rattle.std.specs.Prelude.{◌≡◌, ◌<◌, ◌+◌, ◌^◌, ◌∷◌, [], ◌++◌, not, length, filter, All, IfOk, IfSome, OnOk, None, Some, if◌then◌else◌};
+ghost use Rattle.std.specs.Prelude.{◌≡◌, ◌<◌, ◌+◌, ◌^◌, length, count_by, All, IfOk, OnOk, None, Some};
 ghost use Rattle.std.specs.Bool.{beq};
-ghost use Rattle.std.specs.List.{list_all, position};
-ghost use Rattle.bs_inspect_accounts.specs.Chains.{are_among, chain_at, chained, chained_at, chains_of, come_again, comes_again, extended, goes_on, has_fact, is_again, is_before, is_step, IsWithin, may_be_before, other_causes, same_nets};
+ghost use Rattle.std.specs.List.{list_all, list_any, position};
+ghost use Rattle.bs_inspect_accounts.specs.Chains.{are_among, chain_at, chained, chained_at, chains_of, come_again, goes_on, has_fact, is_again, is_before, is_other, is_other_again, is_step, IsWithin, may_be_before, may_go, other_causes, same_nets};
 
 use crate::account::Account;
 use bs_bits::NoMemory;
@@ -46,34 +46,23 @@ fn same_nets(facts: &[Fact], others: &[Fact]) -> bool
     facts.len() == others.len() && are_among(facts, others)
 }
 
-/// Puts a fact at the end where it is wanted.
-fn push_wanted(facts: &mut Vec<Fact>, fact: Fact, wanted: bool) -> Result<(), NoMemory>
-    ensures { OnOk result (facts.new.items ≡ facts.old.items ++ (if wanted then fact ∷ [] else [])) }
+/// Whether a fact is of another net than the bits of an account.
+fn is_other(account: &Account, fact: Fact) -> bool
+    ensures { result ≡ is_other account.now fact }
 {
-    if wanted {
-        facts.push(fact)?;
-    }
-    Ok(())
+    !has_fact(account.block.bits.slice(), fact)
 }
 
-/// The facts that are of other nets than some bits.
-fn others_of(alloc: Global, bits: &[Fact], facts: &[Fact]) -> Result<Vec<Fact>, NoMemory>
-    ensures { IfOk result (λ others. others.items ≡ filter (λ f. not (has_fact bits.now f)) facts.now) }
+/// How many causes are of other nets than the bits.
+fn count_others(account: &Account) -> usize
+    ensures { result ≡ count_by (is_other account.now) account.now.causes }
 {
-    let mut others = Vec::new(alloc);
-    'facts: for fact in facts {
-        let own = has_fact(bits, *fact);
-        push_wanted(&mut others, *fact, !own)?;
-    }
-    Ok(others)
-}
-
-/// The causes that are of other nets than the bits.
-fn other_causes(alloc: Global, account: &Account) -> Result<Vec<Fact>, NoMemory>
-    ensures { IfOk result (λ others. others.items ≡ other_causes account.now) }
-{
-    let others = others_of(alloc, account.block.bits.slice(), account.causes.slice())?;
-    Ok(others)
+    account
+        .causes
+        .slice()
+        .iter()
+        .filter(|&&fact| is_other(account, fact))
+        .count()
 }
 
 /// Whether two bits are the same.
@@ -91,25 +80,50 @@ fn is_again(fact: Fact, later: Fact) -> bool
         && (same_bit(later.bit, fact.bit) && u64::from(later.cycle) == u64::from(fact.cycle) + 1)
 }
 
-/// Whether one of some facts is the same as another one, a cycle later.
-fn comes_again(later: &[Fact], fact: Fact) -> bool
-    ensures { result ≡ comes_again later.now fact }
+/// Whether a fact is of another net than the bits of an account, and the same as another one, a cycle later.
+fn is_other_again(later: &Account, fact: Fact, other: Fact) -> bool
+    ensures { result ≡ is_other_again later.now fact other }
 {
-    later.iter().any(|other| is_again(fact, *other))
+    is_other(later, other) && is_again(fact, other)
 }
 
-/// Whether each of some facts comes again a cycle later.
-fn all_again(facts: &[Fact], later: &[Fact]) -> bool
-    ensures { result ≡ list_all (comes_again later.now) facts.now }
+/// Whether one of the other causes of an account is the same as a fact, a cycle later.
+fn comes_again(later: &Account, fact: Fact) -> bool
+    ensures { result ≡ list_any (is_other_again later.now fact) later.now.causes }
 {
-    facts.iter().all(|fact| comes_again(later, *fact))
+    later
+        .causes
+        .slice()
+        .iter()
+        .any(|other| is_other_again(later, fact, *other))
 }
 
-/// Whether each of some facts comes again a cycle later, and no others.
-fn come_again(facts: &[Fact], later: &[Fact]) -> bool
-    ensures { result ≡ come_again facts.now later.now }
+/// Whether a fact comes again among the other causes of an account, unless it is of the bits of the account before.
+fn may_go(later: &Account, account: &Account, fact: Fact) -> bool
+    ensures { result ≡ may_go later.now account.now fact }
 {
-    facts.len() == later.len() && all_again(facts, later)
+    !is_other(account, fact) || comes_again(later, fact)
+}
+
+/// Whether each of the other causes of an account comes again a cycle later.
+fn all_again(later: &Account, account: &Account) -> bool
+    ensures { result ≡ list_all (may_go later.now account.now) account.now.causes }
+{
+    account
+        .causes
+        .slice()
+        .iter()
+        .all(|fact| may_go(later, account, *fact))
+}
+
+/// Whether each of the other causes of an account comes again a cycle later, and no others.
+#[tactic(auto, using(crate::proofs::ChainLemmas::again_is))]
+fn come_again(later: &Account, account: &Account) -> bool
+    ensures { result ≡ come_again (other_causes account.now) (other_causes later.now) }
+{
+    let same = count_others(account) == count_others(later);
+    let all = all_again(later, account);
+    same && all
 }
 
 /// Whether an account sets each of its bits from the bits before.
@@ -117,17 +131,6 @@ fn is_step(account: &Account) -> bool
     ensures { result ≡ is_step account.now }
 {
     are_among(account.block.bits.slice(), account.causes.slice())
-}
-
-/// Whether accounts have the same other causes, a cycle later.
-#[tactic(auto, using(crate::proofs::ChainLemmas::again_is))]
-fn repeats(alloc: Global, later: &Account, account: &Account) -> Result<bool, NoMemory>
-    ensures { IfOk result (λ same. same ≡ come_again (other_causes account.now) (other_causes later.now)) }
-{
-    let facts = other_causes(alloc, account)?;
-    let others = other_causes(alloc, later)?;
-    let same = come_again(facts.as_slice(), others.as_slice());
-    Ok(same)
 }
 
 /// Whether an account may be the step before another one, but for the other causes.
@@ -142,85 +145,44 @@ fn may_step(later: &Account, account: &Account) -> bool
 
 /// Whether an account tells the step before another one.
 #[tactic(auto, using(crate::proofs::ChainLemmas::before_not, crate::proofs::ChainLemmas::before_by))]
-fn is_before(alloc: Global, later: &Account, account: &Account) -> Result<bool, NoMemory>
-    ensures { IfOk result (λ before. before ≡ is_before later.now account.now) }
+fn is_before(later: &Account, account: &Account) -> bool
+    ensures { result ≡ is_before later.now account.now }
 {
     if !may_step(later, account) {
-        return Ok(false);
+        return false;
     }
-    let again = repeats(alloc, later, account)?;
-    Ok(again)
-}
-
-/// Whether an account goes on a chain of those before it.
-#[tactic(auto, using(crate::proofs::ChainLemmas::on_is, crate::proofs::ChainLemmas::last_there))]
-fn goes_on(
-    alloc: Global,
-    accounts: &[Account],
-    number: usize,
-    chain: Chain,
-) -> Result<bool, NoMemory>
-    requires number { number < length accounts.now }
-    requires within { IsWithin number chain }
-    ensures { IfOk result (λ on. on ≡ goes_on accounts.now number chain) }
-{
-    let on = is_before(alloc, &accounts[chain.last], &accounts[number])?;
-    Ok(on)
+    come_again(later, account)
 }
 
 /// Whether an account goes on the chain at a place.
-#[tactic(auto, using(crate::proofs::ChainLemmas::chain_within, crate::proofs::ChainLemmas::on_at))]
-fn goes_on_at(
-    alloc: Global,
-    accounts: &[Account],
-    chains: &[Chain],
-    number: usize,
-    place: usize,
-) -> Result<bool, NoMemory>
+#[tactic(auto, using(crate::proofs::ChainLemmas::last_here, crate::proofs::ChainLemmas::on_here))]
+fn goes_on_at(accounts: &[Account], chains: &[Chain], number: usize, place: usize) -> bool
     requires number { number < length accounts.now }
     requires within { All (IsWithin number) chains.now }
     requires place { place < length chains.now }
-    ensures { IfOk result (λ on. on ≡ goes_on accounts.now number (chain_at chains.now place)) }
+    ensures { result ≡ goes_on accounts.now number (chain_at chains.now place) }
 {
-    let on = goes_on(alloc, accounts, number, chains[place])?;
-    Ok(on)
+    let chain = chains[place];
+    is_before(&accounts[chain.last], &accounts[number])
 }
 
 /// The first chain that an account goes on.
 #[tactic(auto, using(crate::proofs::ChainLemmas::none_begin))]
-fn chain_of(
-    alloc: Global,
-    accounts: &[Account],
-    chains: &[Chain],
-    number: usize,
-) -> Result<Option<usize>, NoMemory>
+fn chain_of(accounts: &[Account], chains: &[Chain], number: usize) -> Option<usize>
     requires number { number < length accounts.now }
     requires within { All (IsWithin number) chains.now }
-    ensures { IfOk result (λ found. found ≡ position (goes_on accounts.now number) chains.now) }
+    ensures { result ≡ position (goes_on accounts.now number) chains.now }
 {
     'chains: for k in 0..chains.len() {
-        if goes_on_at(alloc, accounts, chains, number, k)? {
-            return Ok(Some(k));
+        if goes_on_at(accounts, chains, number, k) {
+            return Some(k);
         }
     }
-    Ok(None)
-}
-
-/// A chain with a step more.
-fn extended(chain: Chain, number: usize) -> Chain
-    requires number { number + 1 < 2 ^ 64 }
-    requires within { IsWithin number chain }
-    ensures is { result ≡ extended chain number }
-{
-    Chain {
-        first: chain.first,
-        last: number,
-        steps: chain.steps + 1,
-    }
+    None
 }
 
 /// Puts an account on the chain at a place.
-#[tactic(auto, using(crate::proofs::ChainLemmas::chain_within, crate::proofs::ChainLemmas::set_is, crate::proofs::ChainLemmas::set_within))]
+#[tactic(auto, using(crate::proofs::ChainLemmas::steps_fit, crate::proofs::ChainLemmas::set_is, crate::proofs::ChainLemmas::set_within))]
 fn extend(chains: &mut Vec<Chain>, place: usize, number: usize)
     requires place { place < length chains.old.items }
     requires number { number + 1 < 2 ^ 64 }
@@ -229,7 +191,11 @@ fn extend(chains: &mut Vec<Chain>, place: usize, number: usize)
     ensures within { All (IsWithin (number + 1)) chains.new.items }
 {
     let chain = chains[place];
-    chains[place] = extended(chain, number);
+    chains[place] = Chain {
+        first: chain.first,
+        last: number,
+        steps: chain.steps + 1,
+    };
 }
 
 /// Puts an account at the end as a chain of its own.
@@ -247,15 +213,16 @@ fn push_alone(chains: &mut Vec<Chain>, number: usize) -> Result<(), NoMemory>
     Ok(())
 }
 
-/// Puts an account on a chain, or at the end as one of its own.
-fn put_account(chains: &mut Vec<Chain>, found: Option<usize>, number: usize) -> Result<(), NoMemory>
-    requires place { IfSome found (λ place. place < length chains.old.items) }
-    requires number { number + 1 < 2 ^ 64 }
+/// Puts an account on the first chain that it goes on, or at the end as one of its own.
+#[tactic(auto, using(crate::proofs::ChainLemmas::found_there, crate::proofs::ChainLemmas::chained_by))]
+fn add_account(accounts: &[Account], chains: &mut Vec<Chain>, number: usize) -> Result<(), NoMemory>
+    requires number { number < length accounts.now }
+    requires small { number + 1 < 2 ^ 64 }
     requires within { All (IsWithin number) chains.old.items }
-    ensures chains { OnOk result (chains.new.items ≡ chained_at found chains.old.items number) }
+    ensures chains { OnOk result (chains.new.items ≡ chained accounts.now chains.old.items number) }
     ensures within { OnOk result (All (IsWithin (number + 1)) chains.new.items) }
 {
-    match found {
+    match chain_of(accounts, chains.as_slice(), number) {
         Some(place) => {
             extend(chains, place, number);
             Ok(())
@@ -264,34 +231,15 @@ fn put_account(chains: &mut Vec<Chain>, found: Option<usize>, number: usize) -> 
     }
 }
 
-/// Puts an account on the first chain that it goes on, or at the end as one of its own.
-#[tactic(auto, using(crate::proofs::ChainLemmas::found_there, crate::proofs::ChainLemmas::chained_by))]
-fn add_account(
-    alloc: Global,
-    accounts: &[Account],
-    chains: &mut Vec<Chain>,
-    number: usize,
-) -> Result<(), NoMemory>
-    requires number { number < length accounts.now }
-    requires small { number + 1 < 2 ^ 64 }
-    requires within { All (IsWithin number) chains.old.items }
-    ensures chains { OnOk result (chains.new.items ≡ chained accounts.now chains.old.items number) }
-    ensures within { OnOk result (All (IsWithin (number + 1)) chains.new.items) }
-{
-    let found = chain_of(alloc, accounts, chains.as_slice(), number)?;
-    put_account(chains, found, number)?;
-    Ok(())
-}
-
 /// The chains of accounts.
-#[tactic(auto, using(crate::proofs::ChainLemmas::chains_more, crate::proofs::ChainLemmas::none_within))]
+#[tactic(auto, using(crate::proofs::ChainLemmas::none_within))]
 pub fn chains_of(alloc: Global, accounts: &[Account]) -> Result<Vec<Chain>, NoMemory>
     ensures chains { IfOk result (λ chains. chains.items ≡ chains_of accounts.now (length accounts.now)) }
     ensures within { IfOk result (λ chains. All (IsWithin (length accounts.now)) chains.items) }
 {
     let mut chains = Vec::new(alloc);
     'accounts: for i in 0..accounts.len() {
-        add_account(alloc, accounts, &mut chains, i)?;
+        add_account(accounts, &mut chains, i)?;
     }
     Ok(chains)
 }

@@ -26,7 +26,6 @@ fn place_of(accounts: &[Account], chains: &[Chain], place: usize) -> Place
 }
 
 /// When chains end, their layers, and their places.
-#[tactic(auto, using(crate::proofs::OrderLemmas::places_more))]
 fn places_of(alloc: Global, accounts: &[Account], chains: &[Chain]) -> Result<Vec<Place>, NoMemory>
     requires { All (IsWithin (length accounts.now)) chains.now }
     ensures { IfOk result (λ places. places.items ≡ places_of accounts.now chains.now (length chains.now)) }

@@ -1,6 +1,5 @@
 //! Since when nets have had their bits.
-ghost use Rattle.std.specs.Prelude.{◌≡◌, ◌<◌, ◌-◌, not, length, All, IfOk};
-ghost use Rattle.std.specs.Bool.{beq};
+ghost use Rattle.std.specs.Prelude.{◌≡◌, ◌<◌, ◌-◌, length, All, IfOk};
 ghost use Rattle.bs_net.specs.Netlist.{circuit};
 ghost use Rattle.bs_net_facts.specs.Facts.{IsReal, IsWayOf};
 ghost use Rattle.bs_inspect_accounts.specs.Since.{AreAges, StoodSince, Turns};
@@ -23,13 +22,6 @@ pub fn known_bit(moments: &Moments<'_>, net: NetId, cycle: u32) -> bool
     }
 }
 
-/// Whether two bits are others.
-fn differ(one: bool, other: bool) -> bool
-    ensures { result ≡ not (beq one other) }
-{
-    one != other
-}
-
 /// Whether the net of a fact has the other bit in the cycle before one.
 #[tactic(auto, using(crate::proofs::SinceLemmas::turns_is))]
 fn turns(moments: &Moments<'_>, fact: Fact, since: u32) -> bool
@@ -39,7 +31,7 @@ fn turns(moments: &Moments<'_>, fact: Fact, since: u32) -> bool
     ensures { Turns (circuit moments.now.net) moments.now.states moments.now.inputs fact since result }
 {
     let bit = known_bit(moments, fact.net, since - 1);
-    differ(bit, fact.bit)
+    bit != fact.bit
 }
 
 /// Since when the net of a fact has had its bit.

@@ -16,9 +16,6 @@ use bs_target::{Target, load_target};
 use bs_top_plan::WalkStop;
 use std::alloc::Global;
 
-/// Lets an answer go, where the walk stops.
-fn let_go(_answer: Reach) {}
-
 /// What was searched in so many cycles.
 #[tactic(auto, using(crate::proofs::CycleLemmas::cycles_asked))]
 fn load_cycles<S: Shelf>(
@@ -54,7 +51,7 @@ fn load_searched<S: Shelf>(
     match load_cycles(alloc, shelf, netlist, state, answer.asked) {
         Ok(target) => Ok(AnswerFiles { target, answer }),
         Err(stop) => {
-            let_go(answer);
+            drop(answer);
             Err(stop)
         }
     }

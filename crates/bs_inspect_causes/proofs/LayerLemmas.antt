@@ -12,7 +12,7 @@ use Rattle.bs_inspect_accounts.specs.declared.account.Account.{Account}
 use Rattle.bs_inspect_causes.specs.declared.drivers.Drivers.{Drivers}
 use Rattle.bs_inspect_causes.specs.declared.units.Unit.{Unit as CodeUnit}
 use Rattle.bs_inspect_accounts.specs.Accounts.{IsAccount, IsTold, last_bits, IsRealIn}
-use Rattle.bs_inspect_causes.specs.Layers.{IsLike, IsUnit, IsUnitAt, KeepsFirst, Tells, marks_net}
+use Rattle.bs_inspect_causes.specs.Layers.{IsLike, IsUnit, IsUnitAccount, IsUnitAt, KeepsFirst, Tells, marks_net}
 use Rattle.bs_inspect_causes.proofs.UnitLemmas.{kept_all}
 
 -- ---- nothing, and one account
@@ -33,9 +33,12 @@ tells_begin m layer accounts = nothing m layer [] accounts (λ z. All-nil (IsTol
 pub tells_none : (m : Seen) (layer : ℕ) (facts : List Fact) (accounts : List Account) → (layer ≡ 0 → ⊥) → Tells m layer facts accounts accounts
 tells_none m layer facts accounts later = nothing m layer facts accounts (λ z. absurd (later z))
 
-pub tells_account : (m : Seen) (layer : ℕ) (facts : List Fact) (old new : List Account) (a : Account) → IsAccount (circuit m.net) m.states m.inputs a →
-    last_bits a ≡ facts → a.layer ≡ layer → new ≡ old ++ a ∷ [] → Tells m layer facts old new
-tells_account m layer facts old new a is bits at e =
+pub tells_account : (m : Seen) (layer : ℕ) (facts : List Fact) (old new : List Account) (a : Account) → IsUnitAccount m facts layer a →
+    new ≡ old ++ a ∷ [] → Tells m layer facts old new
+tells_account m layer facts old new a unit e =
+    let is : IsAccount (circuit m.net) m.states m.inputs a = unit.is in
+    let bits : last_bits a ≡ facts = unit.of_bits in
+    let at : a.layer ≡ layer = unit.of_layer in
     let itself : All (Contains facts) facts = All-contains_itself facts in
     record {
       more = a ∷ [];

@@ -6,6 +6,8 @@ use Rattle.bs_net.specs.Circuit.{Circuit, state_nets}
 use Rattle.bs_net.specs.Netlist.{circuit}
 use Rattle.bs_net.specs.Order.{IsChecked}
 use Rattle.bs_net_facts.specs.declared.fact.Fact.{Fact}
+use Rattle.bs_net_facts.specs.declared.block.Block.{Block}
+use Rattle.bs_net_facts.specs.Blocks.{IsBlock}
 use Rattle.bs_net_facts.specs.Facts.{IsReal, IsWayOf}
 use Rattle.bs_net_facts.specs.Seen.{Seen}
 use Rattle.bs_inspect_causes.specs.declared.units.Unit.{Unit as CodeUnit}
@@ -66,6 +68,24 @@ pub record IsUnitAt (d : Drivers) (facts : List Fact) (from : ℕ) (u : CodeUnit
   pub more : from < u.stop
   pub within : u.stop ≤ length facts
   pub alike : AllWithin (IsLike d u.at u.flop) facts from u.stop
+
+-- a block of a unit's facts that ends at a cycle
+pub record IsUnitBlock (m : Seen) (facts : List Fact) (at : ℕ) (b : Block) : Type 0 where
+  pub is : IsBlock (circuit m.net) m.states m.inputs b
+  pub of_bits : b.bits ≡ facts
+  pub ends : b.at ≡ at
+
+-- the account of a block in a layer
+pub record IsAccountBy (m : Seen) (b : Block) (layer : ℕ) (a : Account) : Type 0 where
+  pub is : IsAccount (circuit m.net) m.states m.inputs a
+  pub of_block : a.block ≡ b
+  pub of_layer : a.layer ≡ layer
+
+-- an account of a unit's facts in a layer
+pub record IsUnitAccount (m : Seen) (facts : List Fact) (layer : ℕ) (a : Account) : Type 0 where
+  pub is : IsAccount (circuit m.net) m.states m.inputs a
+  pub of_bits : last_bits a ≡ facts
+  pub of_layer : a.layer ≡ layer
 
 -- Whether the flip-flops and data inputs of a cycle force what is told at another: nets of the same cycle that no flip-flop drives, and of
 -- the next cycle flip-flops, and at the last moment all nets that the state alone decides.

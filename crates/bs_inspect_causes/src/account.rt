@@ -2,7 +2,8 @@
 ghost use Rattle.std.specs.Prelude.{◌≡◌, [], ◌∷◌, ◌++◌, not, filter, if◌then◌else◌, All, IfOk, OnOk};
 ghost use Rattle.bs_net.specs.Netlist.{circuit};
 ghost use Rattle.bs_net_facts.specs.Blocks.{IsBlock};
-ghost use Rattle.bs_inspect_accounts.specs.Accounts.{IsAccount, is_cause, IsRealIn};
+ghost use Rattle.bs_inspect_accounts.specs.Accounts.{is_cause, IsRealIn};
+ghost use Rattle.bs_inspect_causes.specs.Layers.{IsAccountBy};
 
 use crate::facts::real_facts;
 use bs_bits::{List, NoMemory};
@@ -92,18 +93,23 @@ pub(crate) fn account_by(
     layer: u32,
 ) -> Result<Account, NoMemory>
     requires { IsBlock (circuit moments.now.net) moments.now.states moments.now.inputs block }
-    ensures account { IfOk result (λ a. IsAccount (circuit moments.now.net) moments.now.states moments.now.inputs a) }
-    ensures block { IfOk result (λ a. a.block ≡ block) }
-    ensures layer { IfOk result (λ a. a.layer ≡ layer) }
+    ensures { IfOk result (λ a. IsAccountBy moments.now block layer a) }
 {
     match kinds_of(alloc, moments, &block, idle.slice()) {
-        Ok(kinds) => Ok(Account {
-            block,
-            causes: kinds.causes,
-            holds: kinds.holds,
-            idle: kinds.idle,
-            layer,
-        }),
-        Err(refused) => Err(refused),
+        Ok(kinds) => {
+            drop(idle);
+            Ok(Account {
+                block,
+                causes: kinds.causes,
+                holds: kinds.holds,
+                idle: kinds.idle,
+                layer,
+            })
+        }
+        Err(refused) => {
+            drop(idle);
+            drop(block);
+            Err(refused)
+        }
     }
 }

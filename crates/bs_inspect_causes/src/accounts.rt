@@ -37,7 +37,6 @@ fn tell_due(
 }
 
 /// Tells due facts in a layer, and gives those that are due in the next one.
-#[tactic(auto, using(crate::proofs::ExplainLemmas::each_in, crate::proofs::ExplainLemmas::next_due))]
 fn tell_layer(
     alloc: Global,
     scene: &Scene<'_>,

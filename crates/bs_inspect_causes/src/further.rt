@@ -93,7 +93,7 @@ fn push_fact(
 }
 
 /// Puts the facts that an account asks further at the end.
-#[tactic(auto, using(crate::proofs::FurtherLemmas::asks_none, crate::proofs::FurtherLemmas::asks_more, crate::proofs::FurtherLemmas::given_there))]
+#[tactic(auto, using(crate::proofs::FurtherLemmas::asks_none))]
 fn push_given(
     facts: &mut Vec<Fact>,
     scene: &Scene<'_>,

@@ -14,7 +14,6 @@ use bs_net_facts::Fact;
 use std::alloc::Global;
 
 /// Puts the account of a unit at the end.
-#[tactic(auto, using(crate::proofs::LayerLemmas::tells_account))]
 fn push_account(
     alloc: Global,
     scene: &Scene<'_>,
@@ -89,7 +88,7 @@ fn tell_unit_at(
 }
 
 /// Tells ordered facts, unit by unit.
-#[tactic(auto, using(crate::proofs::LayerLemmas::tells_begin, crate::proofs::LayerLemmas::tells_more, crate::proofs::LayerLemmas::tells_whole))]
+#[tactic(auto, using(crate::proofs::LayerLemmas::tells_begin, crate::proofs::LayerLemmas::tells_whole))]
 fn tell_units(
     alloc: Global,
     scene: &Scene<'_>,
@@ -132,5 +131,6 @@ pub(crate) fn tell_facts(
 {
     let kept = ordered(alloc, scene, drivers, facts)?;
     tell_units(alloc, scene, drivers, ledger, accounts, kept.slice(), layer)?;
+    drop(kept);
     Ok(())
 }

@@ -1,8 +1,6 @@
 //! A block by all flip-flops and data inputs of a cycle, which always force it.
 ghost use Rattle.std.specs.Prelude.{◌≡◌, ◌<◌, ◌+◌, length, IfOk, MatchOption};
-ghost use Rattle.bs_net.specs.Netlist.{circuit};
-ghost use Rattle.bs_net_facts.specs.Blocks.{IsBlock};
-ghost use Rattle.bs_inspect_causes.specs.Layers.{ForcesAt, IsReady, IsUnit};
+ghost use Rattle.bs_inspect_causes.specs.Layers.{ForcesAt, IsReady, IsUnit, IsUnitBlock};
 
 use crate::drivers::Drivers;
 use crate::facts::{copied, sources_at};
@@ -50,9 +48,7 @@ fn block_from(
     requires ready { IsReady moments.now drivers.now }
     requires unit { IsUnit moments.now drivers.now at flop facts.now }
     requires forces { ForcesAt moments.now at flop cycle }
-    ensures block { IfOk result (λ b. IsBlock (circuit moments.now.net) moments.now.states moments.now.inputs b) }
-    ensures bits { IfOk result (λ b. b.bits ≡ facts.now) }
-    ensures at { IfOk result (λ b. b.at ≡ at) }
+    ensures { IfOk result (λ b. IsUnitBlock moments.now facts.now at b) }
 {
     let _ = flop;
     let given = sources_at(alloc, moments, drivers, cycle)?;
@@ -77,9 +73,7 @@ fn first_block(
 ) -> Result<Block, NoMemory>
     requires unit { IsUnit moments.now drivers.now at flop facts.now }
     requires first { at ≡ 0 }
-    ensures block { IfOk result (λ b. IsBlock (circuit moments.now.net) moments.now.states moments.now.inputs b) }
-    ensures bits { IfOk result (λ b. b.bits ≡ facts.now) }
-    ensures at { IfOk result (λ b. b.at ≡ at) }
+    ensures { IfOk result (λ b. IsUnitBlock moments.now facts.now at b) }
 {
     let _ = moments;
     let _ = drivers;
@@ -106,9 +100,7 @@ pub(crate) fn sourced_block(
 ) -> Result<Block, NoMemory>
     requires ready { IsReady moments.now drivers.now }
     requires unit { IsUnit moments.now drivers.now at flop facts.now }
-    ensures block { IfOk result (λ b. IsBlock (circuit moments.now.net) moments.now.states moments.now.inputs b) }
-    ensures bits { IfOk result (λ b. b.bits ≡ facts.now) }
-    ensures at { IfOk result (λ b. b.at ≡ at) }
+    ensures { IfOk result (λ b. IsUnitBlock moments.now facts.now at b) }
 {
     match source_cycle(moments, flop, at) {
         Some(cycle) => block_from(alloc, moments, drivers, facts, at, flop, cycle),

@@ -85,6 +85,7 @@ pub(crate) fn ordered(
 {
     let sorted = in_order(scene, drivers.by_flop.slice(), facts)?;
     let kept = distinct(alloc, sorted.as_slice())?;
+    drop(sorted);
     Ok(kept)
 }
 

@@ -1,5 +1,5 @@
 pub mod PutLemmas
-pub mod RowLemmas
+pub mod BitLemmas
 pub mod CellLemmas
 pub mod EscapeLemmas
 pub mod WorkedRows

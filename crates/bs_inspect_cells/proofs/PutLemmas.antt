@@ -15,11 +15,6 @@ pub five_put : (old x y z w v a b c d e : List ℕ) → a ≡ old ++ x → b ≡
     e ≡ old ++ (x ++ (y ++ (z ++ (w ++ v))))
 five_put old x y z w v a b c d e f g h i j = two_put old x (y ++ (z ++ (w ++ v))) a e f (four_put a y z w v b c d e g h i j)
 
-pub seven_put : (old x y z w v u t a b c d e f g : List ℕ) → a ≡ old ++ x → b ≡ a ++ y → c ≡ b ++ z → d ≡ c ++ w → e ≡ d ++ v → f ≡ e ++ u →
-    g ≡ f ++ t → g ≡ old ++ (x ++ (y ++ (z ++ (w ++ (v ++ (u ++ t))))))
-seven_put old x y z w v u t a b c d e f g h i j k l m n =
-    three_put old x y (z ++ (w ++ (v ++ (u ++ t)))) a b g h i (five_put b z w v u t c d e f g j k l m n)
-
 -- a number that is appended
 pub number_put : (old : List ℕ) (n m : ℕ) (a : List ℕ) → n ≡ m → a ≡ old ++ decimal n → a ≡ old ++ decimal m
 number_put old n m a same e = e ∙ ap (λ (k : ℕ). old ++ decimal k) same

@@ -4,7 +4,7 @@ use Rattle.std.specs.Prelude.{codes}
 use Rattle.bs_net_names.specs.Signals.{Signal}
 use Rattle.bs_inspect_cells.specs.Cells.{Figure, ValueCell, cells_of}
 use Rattle.bs_inspect_cells.specs.Escapes.{html_escaped}
-use Rattle.bs_inspect_cells.specs.Rows.{name_cell, shown_name}
+use Rattle.bs_inspect_cells.specs.Names.{name_cell, shown_name}
 
 escaped_name : html_escaped (codes "a<b>&'[3:0]") ≡ codes "a&lt;b&gt;&amp;&apos;[3:0]"
 escaped_name = refl

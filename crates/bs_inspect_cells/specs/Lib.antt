@@ -1,5 +1,5 @@
 pub mod Escapes
 pub mod Cells
 pub mod Figures
-pub mod Rows
+pub mod Names
 pub mod CellLaw

@@ -19,7 +19,7 @@ fn bit_at(bits: &Bits, place: usize) -> bool
 }
 
 /// A bit of a moment; 0 behind the last moment.
-#[tactic(auto, using(crate::proofs::RowLemmas::bit_there, crate::proofs::RowLemmas::bit_past))]
+#[tactic(auto, using(crate::proofs::BitLemmas::bit_there, crate::proofs::BitLemmas::bit_past))]
 fn bit_of(moments: &List<Bits>, i: usize, place: usize) -> bool
     ensures { result ≡ bit_of moments.now i place }
 {
@@ -31,8 +31,8 @@ fn bit_of(moments: &List<Bits>, i: usize, place: usize) -> bool
 }
 
 /// The bits of a signal at a moment, the greatest first.
-#[tactic(auto, using(crate::proofs::RowLemmas::bits_more))]
-pub(crate) fn bits_at(
+#[tactic(auto, using(crate::proofs::BitLemmas::bits_more))]
+pub fn bits_at(
     alloc: Global,
     figure: Figure<'_>,
     places: &[u32],
@@ -48,7 +48,7 @@ pub(crate) fn bits_at(
 }
 
 /// Whether a bit of a signal is open at a moment.
-pub(crate) fn is_open(figure: Figure<'_>, places: &[u32], i: usize) -> bool
+pub fn is_open(figure: Figure<'_>, places: &[u32], i: usize) -> bool
     ensures { result ≡ is_open (figure_in figure.entry) places.now i }
 {
     places
@@ -82,7 +82,7 @@ fn same_shown(figure: Figure<'_>, places: &[u32], i: usize, j: usize) -> bool
 }
 
 /// Whether a cell begins at a moment.
-pub(crate) fn begins(figure: Figure<'_>, places: &[u32], i: usize) -> bool
+pub fn begins(figure: Figure<'_>, places: &[u32], i: usize) -> bool
     ensures { result ≡ begins (figure_in figure.entry) places.now i }
 {
     if i == 0 {
@@ -104,7 +104,7 @@ fn next_begin(figure: Figure<'_>, places: &[u32], i: usize) -> Option<usize>
 }
 
 /// The moment behind the cell that begins at this one.
-pub(crate) fn end_of(figure: Figure<'_>, places: &[u32], i: usize) -> usize
+pub fn end_of(figure: Figure<'_>, places: &[u32], i: usize) -> usize
     requires there { i < length figure.moments.now }
     requires small { i + 1 < 2 ^ 64 }
     ensures { result ≡ end_of (figure_in figure.entry) places.now i }

@@ -19,11 +19,10 @@ search_words b netlist =
 
 -- the words of a command that writes evidence
 unfoldable pub evidence_words : (command netlist answer : List ℕ) → List ℕ
-evidence_words command netlist answer =
-    codes "backspace_inspect " ++ (command ++ (codes " " ++ (shown_path netlist ++ (codes " STATE " ++ (shown_path answer ++ codes "\n")))))
+evidence_words command netlist answer = command ++ (shown_path netlist ++ (codes " STATE " ++ (shown_path answer ++ codes "\n")))
 
 -- what was asked for, and how the answer is checked
 unfoldable pub search_part : Budgets → (netlist answer : List ℕ) → List ℕ
 search_part b netlist answer =
     search_words b netlist
-    ++ (evidence_words (codes "reach-cnf") netlist answer ++ (evidence_words (codes "reach-lrat") netlist answer ++ codes "</pre>\n"))
+    ++ (evidence_words (codes "backspace_inspect reach-cnf ") netlist answer ++ (evidence_words (codes "backspace_inspect reach-lrat ") netlist answer ++ codes "</pre>\n"))

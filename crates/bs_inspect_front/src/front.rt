@@ -5,7 +5,8 @@ ghost use Rattle.bs_inspect_front.specs.Front.{audit_part, backtrace_part, budge
 ghost use Rattle.bs_inspect_front.specs.Signed.{file_in};
 
 use crate::execution::{push_cycles_title, push_search};
-use crate::paths::push_path;
+use crate::numbers::{push_before, push_between};
+use crate::paths::{push_path, push_path_before};
 use crate::signed::{SignatureFile, push_items_line, push_job_files, push_styles};
 use bs_bits::{NoMemory, push_number, push_piece};
 use bs_inspect_report::is_execution;
@@ -44,13 +45,6 @@ fn push_stop(text: &mut Vec<u8>, stop: Stop) -> Result<(), NoMemory>
     }
 }
 
-/// How many steps there are.
-fn step_count(report: &Report) -> u64
-    ensures { result ≡ length report.now.steps }
-{
-    report.steps.len() as u64
-}
-
 /// How many flip-flops there are.
 fn flop_count(net: &Netlist) -> u64
     ensures { result ≡ length (circuit_of net.now.raw).flops }
@@ -71,7 +65,7 @@ fn push_steps_title(text: &mut Vec<u8>, report: &Report) -> Result<(), NoMemory>
     ensures { OnOk result (text.new.items ≡ text.old.items ++ steps_title report.now) }
 {
     push_piece(text, b"Steps back from the crash: ")?;
-    push_number(text, step_count(report))
+    push_number(text, report.steps.len() as u64)
 }
 
 /// Appends the title.
@@ -135,39 +129,30 @@ fn push_stop_part(text: &mut Vec<u8>, report: &Report) -> Result<(), NoMemory>
 fn push_chip(text: &mut Vec<u8>, net: &Netlist) -> Result<(), NoMemory>
     ensures { OnOk result (text.new.items ≡ text.old.items ++ chip_line net.now.raw) }
 {
-    push_piece(text, b"<ul><li>")?;
-    push_number(text, flop_count(net))?;
-    push_piece(text, b" flip-flops, ")?;
-    push_number(text, input_count(net))?;
-    push_piece(text, b" data inputs</li>\n")?;
-    Ok(())
+    push_between(text, b"<ul><li>", flop_count(net), b" flip-flops, ")?;
+    push_before(text, input_count(net), b" data inputs</li>\n")
 }
 
 /// Appends how many lists there are.
+#[tactic(auto, unfolding(crate::specs::Front::lists_words))]
 fn push_lists(text: &mut Vec<u8>, report: &Report) -> Result<(), NoMemory>
     ensures { OnOk result (text.new.items ≡ text.old.items ++ lists_words report.now) }
 {
-    push_piece(text, b"<li>")?;
-    push_number(text, step_count(report))?;
-    push_piece(
+    push_between(
         text,
+        b"<li>",
+        report.steps.len() as u64,
         b" lists; a finished one has all predecessors, each once</li>\n",
-    )?;
-    Ok(())
+    )
 }
 
 /// Appends the budgets.
 fn push_budgets(text: &mut Vec<u8>, budgets: Budgets) -> Result<(), NoMemory>
     ensures { OnOk result (text.new.items ≡ text.old.items ++ budgets_line budgets) }
 {
-    push_piece(text, b"<li>asked for: ")?;
-    push_number(text, budgets.steps)?;
-    push_piece(text, b" steps, ")?;
-    push_number(text, budgets.candidates)?;
-    push_piece(text, b" candidates a list, ")?;
-    push_number(text, budgets.conflicts)?;
-    push_piece(text, b" lemmas a search</li></ul>\n")?;
-    Ok(())
+    push_between(text, b"<li>asked for: ", budgets.steps, b" steps, ")?;
+    push_before(text, budgets.candidates, b" candidates a list, ")?;
+    push_before(text, budgets.conflicts, b" lemmas a search</li></ul>\n")
 }
 
 /// Appends how the report is checked.
@@ -185,9 +170,7 @@ fn push_audit(
     )?;
     push_path(text, netlist)?;
     push_job_files(text, signature)?;
-    push_path(text, report)?;
-    push_piece(text, b"</pre>\n")?;
-    Ok(())
+    push_path_before(text, report, b"</pre>\n")
 }
 
 /// Appends what a backtrace was asked for.

@@ -2,7 +2,7 @@
 ghost use Rattle.std.specs.Prelude.{◌≡◌, ◌++◌, OnOk};
 ghost use Rattle.bs_inspect_front.specs.Paths.{shown_path};
 
-use bs_bits::NoMemory;
+use bs_bits::{NoMemory, push_piece};
 use bs_inspect_cells::push_escaped;
 
 /// Appends the name of a file, as HTML shows it.
@@ -11,4 +11,12 @@ pub(crate) fn push_path(text: &mut Vec<u8>, path: &str) -> Result<(), NoMemory>
     ensures { OnOk result (text.new.items ≡ text.old.items ++ shown_path path.now) }
 {
     push_escaped(text, path.as_bytes())
+}
+
+/// Appends the name of a file, and a piece behind it.
+pub(crate) fn push_path_before(text: &mut Vec<u8>, path: &str, back: &[u8]) -> Result<(), NoMemory>
+    ensures { OnOk result (text.new.items ≡ text.old.items ++ (shown_path path.now ++ back.now)) }
+{
+    push_path(text, path)?;
+    push_piece(text, back)
 }

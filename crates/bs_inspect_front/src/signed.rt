@@ -1,10 +1,11 @@
 //! What the front says of a signature.
-ghost use Rattle.std.specs.Prelude.{◌≡◌, ◌++◌, length, option_map, OnOk};
+ghost use Rattle.std.specs.Prelude.{◌≡◌, ◌++◌, option_map, OnOk};
 ghost use Rattle.bs_inspect_front.specs.Signed.{file_in, items_line, items_text, job_files, named_files, styles_text};
 
-use crate::paths::push_path;
+use crate::numbers::push_between;
+use crate::paths::push_path_before;
 use crate::style::{push_marks_style, push_style};
-use bs_bits::{NoMemory, push_number, push_piece};
+use bs_bits::{NoMemory, push_piece};
 use bs_scan::Choice;
 
 /// A signature: the name of its file, and what it is taken of.
@@ -27,21 +28,17 @@ pub(crate) fn push_styles(
     }
 }
 
-/// How many items a signature has.
-fn item_count(choice: &Choice) -> u64
-    ensures { result ≡ length choice.now.items }
-{
-    choice.items() as u64
-}
-
 /// Appends how many items a signature has.
+#[tactic(auto, unfolding(crate::specs::Signed::items_text))]
 fn push_items(text: &mut Vec<u8>, choice: &Choice) -> Result<(), NoMemory>
     ensures { OnOk result (text.new.items ≡ text.old.items ++ items_text choice.now) }
 {
-    push_piece(text, b"<li>items of the signature: ")?;
-    push_number(text, item_count(choice))?;
-    push_piece(text, b"</li>\n")?;
-    Ok(())
+    push_between(
+        text,
+        b"<li>items of the signature: ",
+        choice.items() as u64,
+        b"</li>\n",
+    )
 }
 
 /// The same of a signature that may be given.
@@ -63,8 +60,7 @@ fn push_named_files(text: &mut Vec<u8>, name: &str) -> Result<(), NoMemory>
     ensures { OnOk result (text.new.items ≡ text.old.items ++ named_files name.now) }
 {
     push_piece(text, b" ")?;
-    push_path(text, name)?;
-    push_piece(text, b" STIMULUS DUMP ")
+    push_path_before(text, name, b" STIMULUS DUMP ")
 }
 
 /// Appends the files of a job behind its netlist.

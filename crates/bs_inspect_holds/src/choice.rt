@@ -2,7 +2,7 @@
 
 use crate::known::{know_by_given, know_by_trace, know_gates, note_gates};
 use crate::need::{Need, are_met, needs_of};
-use crate::tables::{at, put, put_nets};
+use crate::tables::put_nets;
 use crate::view::{Desk, View};
 use crate::walk::cheapest_sources;
 use bs_bits::NoMemory;
@@ -18,7 +18,7 @@ fn known_gates(alloc: Global, view: &View<'_>, desk: &Desk) -> Result<Vec<usize>
     let mut known = Vec::new(alloc);
     'gates: for place in view.fanin.gates.as_slice() {
         if let Some(gate) = view.scene.gate(*place) {
-            if at(desk.known.as_slice(), gate.out.0 as usize, 0) != 0 {
+            if desk.note(gate.out).known != 0 {
                 known.push(*place)?;
             }
         }
@@ -36,11 +36,11 @@ fn leave_out(
     free: bool,
 ) {
     'sources: for net in sources {
-        if !(free && at(desk.own.as_slice(), net.0 as usize, false)) {
-            put(&mut desk.known, net.0 as usize, 0);
+        if !(free && desk.note(*net).own) {
+            desk.set_known(*net, 0);
             know_gates(view, desk, gates);
             if !are_met(desk, needs) {
-                put(&mut desk.known, net.0 as usize, view.cycles);
+                desk.set_known(*net, view.cycles);
             }
         }
     }
@@ -64,6 +64,7 @@ fn lessen(
         know_gates(view, desk, gates.as_slice());
     }
     note_gates(view, desk, gates.as_slice());
+    drop(gates);
     Ok(())
 }
 
@@ -71,11 +72,26 @@ fn lessen(
 fn known_of(alloc: Global, desk: &Desk, nets: &[NetId]) -> Result<Vec<NetId>, NoMemory> {
     let mut known = Vec::new(alloc);
     'nets: for net in nets {
-        if at(desk.known.as_slice(), net.0 as usize, 0) != 0 {
+        if desk.note(*net).known != 0 {
             known.push(*net)?;
         }
     }
     Ok(known)
+}
+
+/// Sources of the fan-in, by ascending numbers, that decide all bits at a cycle.
+fn choose_by(
+    alloc: Global,
+    view: &View<'_>,
+    desk: &mut Desk,
+    needs: &[Need],
+    free: bool,
+) -> Result<Vec<NetId>, NoMemory> {
+    let sources = cheapest_sources(alloc, view, desk, needs, free)?;
+    lessen(alloc, view, desk, needs, sources.as_slice(), free)?;
+    let known = known_of(alloc, desk, sources.as_slice());
+    drop(sources);
+    known
 }
 
 /// Sources of the fan-in, by ascending numbers, that decide some bits at a cycle, or what their flip-flops load there. None can be left
@@ -89,15 +105,7 @@ pub(crate) fn choose(
 ) -> Result<Vec<NetId>, NoMemory> {
     let needs = needs_of(alloc, view, facts)?;
     know_by_trace(view, desk);
-    let sources = cheapest_sources(alloc, view, desk, needs.as_slice(), free)?;
-    lessen(
-        alloc,
-        view,
-        desk,
-        needs.as_slice(),
-        sources.as_slice(),
-        free,
-    )?;
+    let chosen = choose_by(alloc, view, desk, needs.as_slice(), free);
     drop(needs);
-    known_of(alloc, desk, sources.as_slice())
+    chosen
 }

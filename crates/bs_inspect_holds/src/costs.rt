@@ -2,7 +2,6 @@
 
 use crate::known::deciding_bit;
 use crate::need::Need;
-use crate::tables::{at, put};
 use crate::view::{Desk, View};
 use bs_net::{Gate, NetId};
 
@@ -11,11 +10,8 @@ const SOURCE_COST: u64 = 1024;
 
 /// What a net costs: nothing, once it is taken.
 fn cost_of(desk: &Desk, net: NetId) -> u64 {
-    if at(desk.taken.as_slice(), net.0 as usize, false) {
-        0
-    } else {
-        at(desk.costs.as_slice(), net.0 as usize, 0)
-    }
+    let note = desk.note(net);
+    if note.taken { 0 } else { note.cost }
 }
 
 /// The cheaper of two nets.
@@ -32,7 +28,7 @@ pub(crate) fn cheapest_input(view: &View<'_>, desk: &Desk, gate: &Gate) -> Optio
     let bit = deciding_bit(gate.kind)?;
     let mut best = None;
     'inputs: for input in gate.ins.slice() {
-        let known = at(desk.known.as_slice(), input.0 as usize, 0);
+        let known = desk.note(*input).known;
         if known & view.with_bit(*input, bit) != 0 {
             best = match best {
                 Some(net) => Some(cheaper(desk, net, *input)),
@@ -58,14 +54,14 @@ fn inputs_cost(view: &View<'_>, desk: &Desk, gate: &Gate) -> u64 {
 /// Notes what each leaf of the fan-in costs: a constant nothing, and what the block is of nothing, where that is free.
 fn price_leaves(view: &View<'_>, desk: &mut Desk, free: bool) {
     'leaves: for net in view.fanin.leaves.as_slice() {
-        let given = at(desk.given.as_slice(), net.0 as usize, false);
-        let own = at(desk.own.as_slice(), net.0 as usize, false);
+        let given = desk.is_given(*net);
+        let own = desk.note(*net).own;
         let cost = if given || (free && own) {
             0
         } else {
             SOURCE_COST
         };
-        put(&mut desk.costs, net.0 as usize, cost);
+        desk.set_cost(*net, cost);
     }
 }
 
@@ -75,7 +71,7 @@ pub(crate) fn price(view: &View<'_>, desk: &mut Desk, free: bool) {
     'gates: for place in view.fanin.gates.as_slice() {
         if let Some(gate) = view.scene.gate(*place) {
             let cost = inputs_cost(view, desk, gate).saturating_add(1);
-            put(&mut desk.costs, gate.out.0 as usize, cost);
+            desk.set_cost(gate.out, cost);
         }
     }
 }
@@ -85,8 +81,8 @@ pub(crate) fn cheapest_need(desk: &Desk, needs: &[Need]) -> Option<Need> {
     let mut best = None;
     let mut least = 0;
     'needs: for need in needs {
-        let one = at(desk.taken.as_slice(), need.one.0 as usize, false);
-        let other = at(desk.taken.as_slice(), need.other.0 as usize, false);
+        let one = desk.note(need.one).taken;
+        let other = desk.note(need.other).taken;
         let cost = if need.both {
             cost_of(desk, need.one).saturating_add(cost_of(desk, need.other))
         } else {

@@ -2,7 +2,7 @@
 
 use crate::driver::Driver;
 use crate::scene::Scene;
-use crate::tables::{at, lowered, put};
+use crate::tables::{at, put};
 use bs_bits::NoMemory;
 use bs_net::NetId;
 use std::alloc::Global;
@@ -75,6 +75,8 @@ fn fill(
     ends: &[bool],
     fanin: &mut Fanin,
 ) -> Result<(), NoMemory> {
+    fanin.seen.resize(scene.nets, false)?;
+    fanin.opened.resize(scene.nets, false)?;
     reach(fanin, roots)?;
     grow(scene, ends, fanin)?;
     fanin.gates.sort()?;
@@ -88,15 +90,18 @@ pub(crate) fn fanin_of(
     roots: &[NetId],
     ends: &[bool],
 ) -> Result<Fanin, NoMemory> {
-    let seen = lowered(alloc, scene.nets)?;
-    let opened = lowered(alloc, scene.nets)?;
     let mut fanin = Fanin {
         nets: Vec::new(alloc),
-        seen,
+        seen: Vec::new(alloc),
         leaves: Vec::new(alloc),
         gates: Vec::new(alloc),
-        opened,
+        opened: Vec::new(alloc),
     };
-    fill(scene, roots, ends, &mut fanin)?;
-    Ok(fanin)
+    match fill(scene, roots, ends, &mut fanin) {
+        Ok(()) => Ok(fanin),
+        Err(refused) => {
+            drop(fanin);
+            Err(refused)
+        }
+    }
 }

@@ -29,7 +29,7 @@ fn kept_word(site: &Site<'_>, desk: &mut Desk, first: u32, left: u64) -> u64 {
     };
     know_by_given(&view, desk);
     note_gates(&view, desk, site.fanin.gates.as_slice());
-    all_kept(&view, desk.known.as_slice(), site.facts)
+    all_kept(&view, desk, site.facts)
 }
 
 /// The cycles that are left at which sources keep the bits.
@@ -57,32 +57,11 @@ fn kept_by(
 fn others_of(alloc: Global, desk: &Desk, sources: &[NetId]) -> Result<Vec<NetId>, NoMemory> {
     let mut others = Vec::new(alloc);
     'sources: for net in sources {
-        if !at(desk.own.as_slice(), net.0 as usize, false) {
+        if !desk.note(*net).own {
             others.push(*net)?;
         }
     }
     Ok(others)
-}
-
-/// Sources that keep the bits at a cycle, but for the block's own nets; nothing where other sources set the bits once more.
-fn keepers_at(
-    alloc: Global,
-    site: &Site<'_>,
-    desk: &mut Desk,
-    cycle: u32,
-) -> Result<Option<Vec<NetId>>, NoMemory> {
-    let view = View {
-        scene: site.scene,
-        fanin: site.fanin,
-        cycle,
-        cycles: bit_of(cycle),
-    };
-    let chosen = choose(alloc, &view, desk, site.facts, true)?;
-    let nets = others_of(alloc, desk, chosen.as_slice())?;
-    if nets.len() == chosen.len() {
-        return Ok(None);
-    }
-    Ok(Some(nets))
 }
 
 /// Puts in a hold, unless it does not keep the bits at a cycle. It gives whether it does.
@@ -93,6 +72,7 @@ fn push_hold(
     hold: Hold,
 ) -> Result<bool, NoMemory> {
     if !has(hold.cycles.as_slice(), cycle) {
+        drop(hold);
         return Ok(false);
     }
     'words: for i in 0..left.len() {
@@ -100,6 +80,26 @@ fn push_hold(
     }
     holds.push(hold)?;
     Ok(true)
+}
+
+/// Keeps the bits at a cycle by chosen sources, and at others that are left by the way. Where the block's own nets are not among them,
+/// they set the bits once more.
+fn keep_by(
+    alloc: Global,
+    site: &Site<'_>,
+    desk: &mut Desk,
+    left: &mut Vec<u64>,
+    holds: &mut Vec<Hold>,
+    cycle: u32,
+    chosen: &[NetId],
+) -> Result<bool, NoMemory> {
+    let nets = others_of(alloc, desk, chosen)?;
+    if nets.len() == chosen.len() {
+        drop(nets);
+        return Ok(false);
+    }
+    let cycles = kept_by(alloc, site, desk, nets.as_slice(), left.as_slice())?;
+    push_hold(holds, left, cycle, Hold { nets, cycles })
 }
 
 /// Keeps the bits at a cycle, and at others that are left by the way. It gives whether the bits are kept there, and not set once more.
@@ -111,13 +111,16 @@ fn keep(
     holds: &mut Vec<Hold>,
     cycle: u32,
 ) -> Result<bool, NoMemory> {
-    match keepers_at(alloc, site, desk, cycle)? {
-        Some(nets) => {
-            let cycles = kept_by(alloc, site, desk, nets.as_slice(), left.as_slice())?;
-            push_hold(holds, left, cycle, Hold { nets, cycles })
-        }
-        None => Ok(false),
-    }
+    let view = View {
+        scene: site.scene,
+        fanin: site.fanin,
+        cycle,
+        cycles: bit_of(cycle),
+    };
+    let chosen = choose(alloc, &view, desk, site.facts, true)?;
+    let kept = keep_by(alloc, site, desk, left, holds, cycle, chosen.as_slice());
+    drop(chosen);
+    kept
 }
 
 /// Keeps the bits of flip-flops at each cycle that is left, the latest first, down to one at which they are set. It gives the cycle

@@ -4,7 +4,7 @@ use crate::driver::Driver;
 use crate::fanin::fanin_of;
 use crate::known::know_by_given;
 use crate::scene::Scene;
-use crate::tables::{at, bit_of, put_nets};
+use crate::tables::{bit_of, put_nets};
 use crate::view::{Desk, View, give_constants};
 use bs_bits::{List, NoMemory};
 use bs_net::NetId;
@@ -30,7 +30,7 @@ pub(crate) fn is_beside(scene: &Scene<'_>, desk: &Desk, sources: &[NetId], net: 
         Driver::Constant => false,
         _ => scene.is_single(net),
     };
-    let own = at(desk.own.as_slice(), net.0 as usize, false);
+    let own = desk.note(net).own;
     telling && !own && !shares_vector(scene, sources, net)
 }
 
@@ -68,6 +68,7 @@ fn know_forced(
         cycles: bit_of(cycle),
     };
     know_by_given(&view, desk);
+    drop(fanin);
     Ok(())
 }
 
@@ -85,7 +86,7 @@ pub(crate) fn push_unforced(
     know_forced(alloc, scene, desk, nets, cycle)?;
     put_nets(&mut desk.given, sources, false);
     'nets: for net in nets {
-        if at(desk.known.as_slice(), net.0 as usize, 0) == 0 {
+        if desk.note(*net).known == 0 {
             idle.push(Fact {
                 net: *net,
                 cycle,
@@ -105,7 +106,7 @@ pub(crate) fn push_idle(
     idle: &mut List<Fact>,
 ) -> Result<(), NoMemory> {
     let ones = ones_beside(alloc, view, desk, sources)?;
-    push_unforced(
+    let done = push_unforced(
         alloc,
         view.scene,
         desk,
@@ -113,5 +114,7 @@ pub(crate) fn push_idle(
         ones.as_slice(),
         view.cycle,
         idle,
-    )
+    );
+    drop(ones);
+    done
 }

@@ -1,6 +1,5 @@
 //! What given nets decide: three values, at many moments at once.
 
-use crate::tables::{at, put};
 use crate::view::{Desk, View};
 use bs_net::{Gate, Kind};
 
@@ -16,12 +15,12 @@ pub(crate) fn deciding_bit(kind: Kind) -> Option<bool> {
 }
 
 /// The moments at which the inputs decide a gate: all of them are known, or one that decides it by itself.
-fn gate_known(view: &View<'_>, known: &[u64], gate: &Gate) -> u64 {
+fn gate_known(view: &View<'_>, desk: &Desk, gate: &Gate) -> u64 {
     let decides = deciding_bit(gate.kind);
     let mut all = view.cycles;
     let mut one = 0;
     'inputs: for input in gate.ins.slice() {
-        let word = at(known, input.0 as usize, 0);
+        let word = desk.note(*input).known;
         all = all & word;
         if let Some(bit) = decides {
             one = one | (word & view.with_bit(*input, bit));
@@ -34,8 +33,8 @@ fn gate_known(view: &View<'_>, known: &[u64], gate: &Gate) -> u64 {
 pub(crate) fn know_gates(view: &View<'_>, desk: &mut Desk, gates: &[usize]) {
     'gates: for place in gates {
         if let Some(gate) = view.scene.gate(*place) {
-            let word = gate_known(view, desk.known.as_slice(), gate);
-            put(&mut desk.known, gate.out.0 as usize, word);
+            let word = gate_known(view, desk, gate);
+            desk.set_known(gate.out, word);
         }
     }
 }
@@ -43,9 +42,9 @@ pub(crate) fn know_gates(view: &View<'_>, desk: &mut Desk, gates: &[usize]) {
 /// Notes at which moments given nets decide each net of the fan-in.
 pub(crate) fn know_by_given(view: &View<'_>, desk: &mut Desk) {
     'leaves: for net in view.fanin.leaves.as_slice() {
-        let given = at(desk.given.as_slice(), net.0 as usize, false);
+        let given = desk.is_given(*net);
         let word = if given { view.cycles } else { 0 };
-        put(&mut desk.known, net.0 as usize, word);
+        desk.set_known(*net, word);
     }
     know_gates(view, desk, view.fanin.gates.as_slice());
 }
@@ -55,7 +54,7 @@ pub(crate) fn know_by_trace(view: &View<'_>, desk: &mut Desk) {
     'leaves: for net in view.fanin.leaves.as_slice() {
         let told = view.scene.moments.bit(*net, view.cycle).is_some();
         let word = if told { view.cycles } else { 0 };
-        put(&mut desk.known, net.0 as usize, word);
+        desk.set_known(*net, word);
     }
     know_gates(view, desk, view.fanin.gates.as_slice());
 }
@@ -64,8 +63,8 @@ pub(crate) fn know_by_trace(view: &View<'_>, desk: &mut Desk) {
 pub(crate) fn note_gates(view: &View<'_>, desk: &mut Desk, gates: &[usize]) {
     'gates: for place in gates {
         if let Some(gate) = view.scene.gate(*place) {
-            if at(desk.known.as_slice(), gate.out.0 as usize, 0) != 0 {
-                put(&mut desk.used, gate.out.0 as usize, true);
+            if desk.note(gate.out).known != 0 {
+                desk.use_gate(gate.out);
             }
         }
     }

@@ -5,7 +5,8 @@
 //! and what is noted of each net), `known` (what given nets decide: three values, at many moments at once), `need` (which nets decide
 //! what a flip-flop loads), `costs`, `walk` and `choice` (cheap sources that decide bits at a cycle, none of which can be left out),
 //! `hold` (sources that keep bits, each at all cycles at which they do), `idle` and `rare` (what shows 1 and does not matter),
-//! `proposal` (`propose`). Used above: functions that are safe, of which nothing more is promised. `is_block` (bs_net_facts) decides.
+//! `proposal` (`propose`). Used above: the block is of the bits that were asked for and ends at their cycle. Nothing more is promised of
+//! what is chosen: `is_block` (bs_net_facts) decides.
 //! To choose by another rule open `costs`.
 #![tactic(auto)]
 
@@ -27,4 +28,4 @@ mod walk;
 pub use driver::Driver;
 pub use proposal::{Proposal, propose};
 pub use scene::Scene;
-pub use tables::{at, put, zeros};
+pub use tables::{at, put};

@@ -2,7 +2,6 @@
 
 use crate::driver::Driver;
 use crate::scene::Scene;
-use crate::tables::at;
 use crate::view::{Desk, View};
 use bs_bits::NoMemory;
 use bs_net::{Flop, Mode, NetId};
@@ -80,6 +79,20 @@ pub(crate) fn needs_of(
     Ok(needs)
 }
 
+/// Puts in the nets by which a flip-flop loads its bit.
+fn push_roots(roots: &mut Vec<NetId>, flop: Flop) -> Result<(), NoMemory> {
+    roots.push(flop.d)?;
+    match flop.mode {
+        Mode::Plain => {}
+        Mode::Enable(enable) => {
+            roots.push(enable)?;
+            roots.push(flop.q)?;
+        }
+        Mode::Clear(clear) => roots.push(clear)?,
+    }
+    Ok(())
+}
+
 /// The nets of some bits, or the nets by which their flip-flops load them.
 pub(crate) fn roots_of(
     alloc: Global,
@@ -88,18 +101,9 @@ pub(crate) fn roots_of(
 ) -> Result<Vec<NetId>, NoMemory> {
     let mut roots = Vec::new(alloc);
     'facts: for fact in facts {
-        let Driver::Flop(_, flop) = scene.driver(fact.net) else {
-            roots.push(fact.net)?;
-            continue;
-        };
-        roots.push(flop.d)?;
-        match flop.mode {
-            Mode::Plain => {}
-            Mode::Enable(enable) => {
-                roots.push(enable)?;
-                roots.push(flop.q)?;
-            }
-            Mode::Clear(clear) => roots.push(clear)?,
+        match scene.driver(fact.net) {
+            Driver::Flop(_, flop) => push_roots(&mut roots, flop)?,
+            _ => roots.push(fact.net)?,
         }
     }
     Ok(roots)
@@ -108,8 +112,8 @@ pub(crate) fn roots_of(
 /// Whether what is known at a moment decides all bits.
 pub(crate) fn are_met(desk: &Desk, needs: &[Need]) -> bool {
     'needs: for need in needs {
-        let one = at(desk.known.as_slice(), need.one.0 as usize, 0) != 0;
-        let other = at(desk.known.as_slice(), need.other.0 as usize, 0) != 0;
+        let one = desk.note(need.one).known != 0;
+        let other = desk.note(need.other).known != 0;
         if !need.is_met(one, other) {
             return false;
         }
@@ -118,26 +122,24 @@ pub(crate) fn are_met(desk: &Desk, needs: &[Need]) -> bool {
 }
 
 /// The moments at which a flip-flop loads the bit that it has, by what is known beside that bit.
-fn flop_kept(view: &View<'_>, known: &[u64], flop: Flop) -> u64 {
-    let input = at(known, flop.d.0 as usize, 0);
+fn flop_kept(view: &View<'_>, desk: &Desk, flop: Flop) -> u64 {
+    let input = desk.note(flop.d).known;
     match flop.mode {
         Mode::Plain => input,
-        Mode::Enable(enable) => {
-            at(known, enable.0 as usize, 0) & (view.with_bit(enable, false) | input)
-        }
+        Mode::Enable(enable) => { desk.note(enable).known & (view.with_bit(enable, false) | input) }
         Mode::Clear(clear) => {
             let low = input & view.with_bit(flop.d, false);
-            low | (at(known, clear.0 as usize, 0) & (view.with_bit(clear, true) | input))
+            low | (desk.note(clear).known & (view.with_bit(clear, true) | input))
         }
     }
 }
 
 /// The moments at which the flip-flops of some bits load the bits that they have.
-pub(crate) fn all_kept(view: &View<'_>, known: &[u64], facts: &[Fact]) -> u64 {
+pub(crate) fn all_kept(view: &View<'_>, desk: &Desk, facts: &[Fact]) -> u64 {
     let mut kept = view.cycles;
     'facts: for fact in facts {
         kept = match view.scene.driver(fact.net) {
-            Driver::Flop(_, flop) => kept & flop_kept(view, known, flop),
+            Driver::Flop(_, flop) => kept & flop_kept(view, desk, flop),
             _ => 0,
         };
     }

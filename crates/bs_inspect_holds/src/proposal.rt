@@ -1,4 +1,5 @@
 //! The block that is proposed for some bits: since when they have stood, what set them, what has kept them.
+ghost use Rattle.std.specs.Prelude.{◌≡◌, IfOk};
 
 use crate::choice::choose;
 use crate::driver::Driver;
@@ -18,12 +19,23 @@ use std::alloc::Global;
 /// A block that the choice proposes, what a pass over it needs, and facts to tell beside it.
 #[derive(Drop)]
 pub struct Proposal {
-    /// Its bits are left out.
     pub block: Block,
     pub cone: Cone,
     /// What shows 1 below the bits, is not forced by the block's facts and does not matter: at the cycle of the causes, the nearest
     /// first; then where the bits were kept, of a few nets that show 1 there at a few cycles.
     pub idle: List<Fact>,
+}
+
+/// What is found of some bits.
+#[derive(Drop)]
+struct Finding {
+    /// The cycle from which on they stand.
+    since: u32,
+    /// Whether they stand there since the first moment.
+    begun: bool,
+    given: List<Fact>,
+    cone: Cone,
+    idle: List<Fact>,
 }
 
 /// Puts in what nets show at a cycle, where the trace tells it.
@@ -51,7 +63,7 @@ fn find_causes(
     site: &Site<'_>,
     desk: &mut Desk,
     cycle: u32,
-    found: &mut Proposal,
+    found: &mut Finding,
 ) -> Result<(), NoMemory> {
     let view = View {
         scene: site.scene,
@@ -62,11 +74,13 @@ fn find_causes(
     let causes = choose(alloc, &view, desk, site.facts, false)?;
     push_facts(
         site.scene.moments,
-        &mut found.block.given,
+        &mut found.given,
         causes.as_slice(),
         cycle,
     )?;
-    push_idle(alloc, &view, desk, causes.as_slice(), &mut found.idle)
+    let done = push_idle(alloc, &view, desk, causes.as_slice(), &mut found.idle);
+    drop(causes);
+    done
 }
 
 /// Puts in the facts of the holds that keep the bits at a cycle.
@@ -99,9 +113,9 @@ fn find_holds(
     desk: &mut Desk,
     holds: &[Hold],
     end: u32,
-    found: &mut Proposal,
+    found: &mut Finding,
 ) -> Result<(), NoMemory> {
-    let since = found.block.since;
+    let since = found.since;
     let cycles = cycles_from(alloc, since, end)?;
     let kept = Kept {
         site,
@@ -110,8 +124,10 @@ fn find_holds(
         first: since,
         end,
     };
-    push_holds(&kept, &mut found.block.given)?;
-    push_rare(alloc, &kept, desk, &mut found.idle)
+    push_holds(&kept, &mut found.given)?;
+    let done = push_rare(alloc, &kept, desk, &mut found.idle);
+    drop(cycles);
+    done
 }
 
 /// Finds what set the bits of flip-flops, unless they have stood since the first moment, and what has kept them. They are the same from
@@ -123,13 +139,13 @@ fn find_with(
     holds: &mut Vec<Hold>,
     first: u32,
     end: u32,
-    found: &mut Proposal,
+    found: &mut Finding,
 ) -> Result<(), NoMemory> {
     let mut left = cycles_from(alloc, first, end)?;
     let since = keep_all(alloc, site, desk, &mut left, holds, first, end)?;
     drop(left);
-    found.block.since = since;
-    found.block.begun = since == 0;
+    found.since = since;
+    found.begun = since == 0;
     if since > 0 {
         find_causes(alloc, site, desk, since - 1, found)?;
     }
@@ -163,7 +179,7 @@ fn find_kept(
     site: &Site<'_>,
     desk: &mut Desk,
     end: u32,
-    found: &mut Proposal,
+    found: &mut Finding,
 ) -> Result<(), NoMemory> {
     let first = shown_since(site.scene.moments, site.facts, end);
     let mut holds = Vec::new(alloc);
@@ -176,7 +192,7 @@ fn find_kept(
 fn push_gates(site: &Site<'_>, desk: &Desk, gates: &mut List<u32>) -> Result<(), NoMemory> {
     'gates: for place in site.fanin.gates.as_slice() {
         if let Some(gate) = site.scene.gate(*place) {
-            if at(desk.used.as_slice(), gate.out.0 as usize, false) {
+            if desk.note(gate.out).used {
                 gates.push(at(site.scene.order, *place, u32::MAX))?;
             }
         }
@@ -201,10 +217,10 @@ fn find(
     desk: &mut Desk,
     end: u32,
     flop: bool,
-    found: &mut Proposal,
+    found: &mut Finding,
 ) -> Result<(), NoMemory> {
     give_constants(site.scene, desk, site.fanin.leaves.as_slice());
-    put_facts(&mut desk.own, site.facts, true);
+    desk.own(site.facts);
     if flop {
         find_kept(alloc, site, desk, end, found)?;
     } else {
@@ -220,7 +236,7 @@ fn find_in(
     site: &Site<'_>,
     end: u32,
     flop: bool,
-    found: &mut Proposal,
+    found: &mut Finding,
 ) -> Result<(), NoMemory> {
     let mut desk = Desk::new(alloc, site.scene.nets)?;
     let done = find(alloc, site, &mut desk, end, flop, found);
@@ -230,10 +246,24 @@ fn find_in(
 
 /// What is below the nets of some bits, or below that which their flip-flops load.
 fn fanin_below(alloc: Global, scene: &Scene<'_>, facts: &[Fact]) -> Result<Fanin, NoMemory> {
-    let roots = roots_of(alloc, scene, facts)?;
     let mut ends = Vec::from_slice(alloc, scene.stops)?;
     put_facts(&mut ends, facts, false);
-    fanin_of(alloc, scene, roots.as_slice(), ends.as_slice())
+    let fanin = fanin_from(alloc, scene, facts, ends.as_slice());
+    drop(ends);
+    fanin
+}
+
+/// The same, down to these ends.
+fn fanin_from(
+    alloc: Global,
+    scene: &Scene<'_>,
+    facts: &[Fact],
+    ends: &[bool],
+) -> Result<Fanin, NoMemory> {
+    let roots = roots_of(alloc, scene, facts)?;
+    let fanin = fanin_of(alloc, scene, roots.as_slice(), ends);
+    drop(roots);
+    fanin
 }
 
 /// Finds what forces bits at a cycle, with what is below them.
@@ -243,7 +273,7 @@ fn find_below(
     facts: &[Fact],
     end: u32,
     flop: bool,
-    found: &mut Proposal,
+    found: &mut Finding,
 ) -> Result<(), NoMemory> {
     let fanin = fanin_below(alloc, scene, facts)?;
     let site = Site {
@@ -256,32 +286,54 @@ fn find_below(
     done
 }
 
+/// The proposal for some bits at a cycle by what is found of them.
+fn proposal_of(bits: List<Fact>, at: u32, found: Finding) -> Proposal
+    ensures bits { result.block.bits ≡ bits }
+    ensures at { result.block.at ≡ at }
+{
+    let Finding {
+        since,
+        begun,
+        given,
+        cone,
+        idle,
+    } = found;
+    let block = Block {
+        bits,
+        since,
+        at,
+        given,
+        begun,
+    };
+    Proposal { block, cone, idle }
+}
+
 /// The block that is proposed for bits of one vector at a cycle, which flip-flops drive or none.
 pub fn propose(
     alloc: Global,
     scene: &Scene<'_>,
-    facts: &[Fact],
-    end: u32,
+    bits: List<Fact>,
+    at: u32,
     flop: bool,
-) -> Result<Proposal, NoMemory> {
-    let mut found = Proposal {
-        block: Block {
-            bits: List::new(alloc),
-            since: end,
-            at: end,
-            given: List::new(alloc),
-            begun: false,
-        },
+) -> Result<Proposal, NoMemory>
+    ensures bits { IfOk result (λ p. p.block.bits ≡ bits) }
+    ensures at { IfOk result (λ p. p.block.at ≡ at) }
+{
+    let mut found = Finding {
+        since: at,
+        begun: false,
+        given: List::new(alloc),
         cone: Cone {
             gates: List::new(alloc),
             flops: List::new(alloc),
         },
         idle: List::new(alloc),
     };
-    match find_below(alloc, scene, facts, end, flop, &mut found) {
-        Ok(()) => Ok(found),
+    match find_below(alloc, scene, bits.slice(), at, flop, &mut found) {
+        Ok(()) => Ok(proposal_of(bits, at, found)),
         Err(refused) => {
             drop(found);
+            drop(bits);
             Err(refused)
         }
     }

@@ -134,6 +134,21 @@ fn push_nets(
     Ok(left)
 }
 
+/// Tells of the rarest nets first, up to so many of them.
+fn push_all(
+    alloc: Global,
+    kept: &Kept<'_>,
+    desk: &mut Desk,
+    rare: &[Rare],
+    idle: &mut List<Fact>,
+) -> Result<(), NoMemory> {
+    let mut room = MAX_NETS;
+    'ones: for ones in 1..MAX_CYCLES + 1 {
+        room = push_nets(alloc, kept, desk, rare, ones, room, idle)?;
+    }
+    Ok(())
+}
+
 /// Tells what shows 1 at few cycles at which bits are kept, and does not matter there: the rarest nets first.
 pub(crate) fn push_rare(
     alloc: Global,
@@ -143,10 +158,8 @@ pub(crate) fn push_rare(
 ) -> Result<(), NoMemory> {
     let rare = rare_leaves(alloc, kept, desk)?;
     put_facts(&mut desk.given, kept.site.facts, true);
-    let mut room = MAX_NETS;
-    'ones: for ones in 1..MAX_CYCLES + 1 {
-        room = push_nets(alloc, kept, desk, rare.as_slice(), ones, room, idle)?;
-    }
+    let done = push_all(alloc, kept, desk, rare.as_slice(), idle);
     put_facts(&mut desk.given, kept.site.facts, false);
-    Ok(())
+    drop(rare);
+    done
 }

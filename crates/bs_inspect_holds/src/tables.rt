@@ -6,15 +6,9 @@ use bs_net_facts::Fact;
 use std::alloc::Global;
 
 /// So many words of zeros.
-pub fn zeros(alloc: Global, count: usize) -> Result<Vec<u64>, NoMemory> {
+pub(crate) fn zeros(alloc: Global, count: usize) -> Result<Vec<u64>, NoMemory> {
     let words = vec![in alloc; 0; count]?;
     Ok(words)
-}
-
-/// So many flags, none of which is up.
-pub(crate) fn lowered(alloc: Global, count: usize) -> Result<Vec<bool>, NoMemory> {
-    let flags = vec![in alloc; false; count]?;
-    Ok(flags)
 }
 
 /// What stands at a place, or another value behind the end.

@@ -3,7 +3,7 @@
 use crate::driver::Driver;
 use crate::fanin::Fanin;
 use crate::scene::Scene;
-use crate::tables::{at, lowered, put, zeros};
+use crate::tables::{at, put};
 use bs_bits::NoMemory;
 use bs_net::{Gate, NetId};
 use bs_net_facts::Fact;
@@ -54,40 +54,102 @@ impl<'a> View<'a> {
     }
 }
 
-/// What is noted of each net while facts are chosen.
+/// What is noted of a net while facts are chosen.
+#[derive(Clone, Copy)]
+pub(crate) struct Note {
+    /// The cycles, of 64, at which given nets decide it.
+    pub(crate) known: u64,
+    /// What it takes to decide it.
+    pub(crate) cost: u64,
+    /// Whether it is chosen, or decided by what is.
+    pub(crate) taken: bool,
+    /// Whether the block is of it.
+    pub(crate) own: bool,
+    /// Whether a pass over the block needs its gate.
+    pub(crate) used: bool,
+}
+
+/// Nothing.
+const NOTHING: Note = Note {
+    known: 0,
+    cost: 0,
+    taken: false,
+    own: false,
+    used: false,
+};
+
+/// What is noted of each net, and whether it is given. Constants always are.
 #[derive(Drop)]
 pub(crate) struct Desk {
-    /// The cycles, of 64, at which given nets decide it.
-    pub(crate) known: Vec<u64>,
-    /// What it takes to decide it.
-    pub(crate) costs: Vec<u64>,
-    /// Whether it is chosen, or decided by what is.
-    pub(crate) taken: Vec<bool>,
-    /// Whether it is given. Constants always are.
+    notes: Vec<Note>,
     pub(crate) given: Vec<bool>,
-    /// Whether the block is of it.
-    pub(crate) own: Vec<bool>,
-    /// Whether a pass over the block needs its gate.
-    pub(crate) used: Vec<bool>,
 }
 
 impl Desk {
     /// Nothing, of so many nets.
     pub(crate) fn new(alloc: Global, count: usize) -> Result<Desk, NoMemory> {
-        let known = zeros(alloc, count)?;
-        let costs = zeros(alloc, count)?;
-        let taken = lowered(alloc, count)?;
-        let given = lowered(alloc, count)?;
-        let own = lowered(alloc, count)?;
-        let used = lowered(alloc, count)?;
-        Ok(Desk {
-            known,
-            costs,
-            taken,
-            given,
-            own,
-            used,
-        })
+        let notes = vec![in alloc; NOTHING; count]?;
+        let given = vec![in alloc; false; count]?;
+        Ok(Desk { notes, given })
+    }
+
+    /// What is noted of a net.
+    pub(crate) fn note(&self, net: NetId) -> Note {
+        at(self.notes.as_slice(), net.0 as usize, NOTHING)
+    }
+
+    /// Whether a net is given.
+    pub(crate) fn is_given(&self, net: NetId) -> bool {
+        at(self.given.as_slice(), net.0 as usize, false)
+    }
+
+    /// Notes at which cycles given nets decide a net.
+    pub(crate) fn set_known(&mut self, net: NetId, cycles: u64) {
+        let place = net.0 as usize;
+        if place < self.notes.len() {
+            self.notes[place].known = cycles;
+        }
+    }
+
+    /// Notes what it takes to decide a net.
+    pub(crate) fn set_cost(&mut self, net: NetId, cost: u64) {
+        let place = net.0 as usize;
+        if place < self.notes.len() {
+            self.notes[place].cost = cost;
+        }
+    }
+
+    /// Notes whether a net is taken.
+    pub(crate) fn take(&mut self, net: NetId, up: bool) {
+        let place = net.0 as usize;
+        if place < self.notes.len() {
+            self.notes[place].taken = up;
+        }
+    }
+
+    /// Takes back that nets are taken.
+    pub(crate) fn let_go(&mut self, nets: &[NetId]) {
+        'nets: for net in nets {
+            self.take(*net, false);
+        }
+    }
+
+    /// Notes that a pass over the block needs the gate of a net.
+    pub(crate) fn use_gate(&mut self, net: NetId) {
+        let place = net.0 as usize;
+        if place < self.notes.len() {
+            self.notes[place].used = true;
+        }
+    }
+
+    /// Notes that the block is of these bits.
+    pub(crate) fn own(&mut self, facts: &[Fact]) {
+        'facts: for fact in facts {
+            let place = fact.net.0 as usize;
+            if place < self.notes.len() {
+                self.notes[place].own = true;
+            }
+        }
     }
 }
 

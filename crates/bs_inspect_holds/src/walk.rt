@@ -2,7 +2,6 @@
 
 use crate::costs::{cheaper, cheapest_input, cheapest_need, price};
 use crate::need::Need;
-use crate::tables::{at, put, put_nets};
 use crate::view::{Desk, View};
 use bs_bits::NoMemory;
 use bs_net::NetId;
@@ -20,9 +19,9 @@ struct Walk {
 /// Takes those of some nets that are not taken.
 fn take(desk: &mut Desk, walk: &mut Walk, nets: &[NetId]) -> Result<(), NoMemory> {
     'nets: for net in nets {
-        if !at(desk.taken.as_slice(), net.0 as usize, false) {
+        if !desk.note(*net).taken {
             walk.nets.push(*net)?;
-            put(&mut desk.taken, net.0 as usize, true);
+            desk.take(*net, true);
         }
     }
     Ok(())
@@ -41,7 +40,7 @@ fn take_below(
             None => take(desk, walk, gate.ins.slice()),
         };
     }
-    if !at(desk.given.as_slice(), net.0 as usize, false) {
+    if !desk.is_given(net) {
         walk.sources.push(net)?;
     }
     Ok(())
@@ -93,8 +92,22 @@ fn settle_all(
     Ok(())
 }
 
+/// Walks down from all bits, takes the desk's notes of the walk back and orders the sources.
+fn walk_down(
+    view: &View<'_>,
+    desk: &mut Desk,
+    walk: &mut Walk,
+    needs: &[Need],
+    free: bool,
+) -> Result<(), NoMemory> {
+    settle_all(view, desk, walk, needs, free)?;
+    desk.let_go(walk.nets.as_slice());
+    walk.sources.sort_by_key(|net| net.0)?;
+    Ok(())
+}
+
 /// Sources of the fan-in that decide all bits at a moment, by ascending numbers. The costs are least one bit after another, and the
-/// block's own nets cost nothing where they are free. The desk's notes of the walk are taken back.
+/// block's own nets cost nothing where they are free.
 pub(crate) fn cheapest_sources(
     alloc: Global,
     view: &View<'_>,
@@ -106,10 +119,14 @@ pub(crate) fn cheapest_sources(
         nets: Vec::new(alloc),
         sources: Vec::new(alloc),
     };
-    settle_all(view, desk, &mut walk, needs, free)?;
-    let Walk { nets, mut sources } = walk;
-    put_nets(&mut desk.taken, nets.as_slice(), false);
+    let done = walk_down(view, desk, &mut walk, needs, free);
+    let Walk { nets, sources } = walk;
     drop(nets);
-    sources.sort_by_key(|net| net.0)?;
-    Ok(sources)
+    match done {
+        Ok(()) => Ok(sources),
+        Err(refused) => {
+            drop(sources);
+            Err(refused)
+        }
+    }
 }

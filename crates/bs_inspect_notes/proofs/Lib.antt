@@ -1,4 +1,2 @@
 pub mod NearLemmas
 pub mod LineLemmas
-pub mod WordLemmas
-pub mod ReasonLemmas

@@ -2,4 +2,3 @@ pub mod Nearest
 pub mod Listings
 pub mod Simulations
 pub mod Names
-pub mod Usages

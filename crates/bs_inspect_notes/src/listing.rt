@@ -1,6 +1,7 @@
 //! Names as a note lists them.
 ghost use Rattle.std.specs.Prelude.{◌≡◌, ◌++◌, map, take, OnOk};
-ghost use Rattle.std.specs.List.{flat_map};
+ghost use Rattle.std.specs.List.{flat_map, list_any};
+ghost use Rattle.std.specs.Str.{bytes_eq};
 ghost use Rattle.bs_inspect_notes.specs.Listings.{listed, listing, more_piece, name_piece, near_text, quoted, some_listing, some_near, word_piece};
 
 use crate::nearest::nearest;
@@ -10,6 +11,13 @@ use std::alloc::Global;
 
 /// How many names a listing has at most. A note is to be read at a glance.
 pub const LISTED: usize = 16;
+
+/// Whether a name is one of these.
+pub fn is_one_of(name: &[u8], names: &[&[u8]]) -> bool
+    ensures { result ≡ list_any (λ o. bytes_eq o.now name.now) names.now }
+{
+    names.iter().any(|other| *other == name)
+}
 
 /// Appends a name in quotes.
 #[tactic(auto, unfolding(crate::specs::Listings::quoted))]

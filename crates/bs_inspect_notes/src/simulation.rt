@@ -4,9 +4,8 @@ ghost use Rattle.std.specs.List.{position};
 ghost use Rattle.bs_vcd_header.specs.Tokens.{is_white};
 ghost use Rattle.bs_inspect_notes.specs.Simulations.{any_sentence, begins, clock_piece, clock_sentence, clock_text, cycles_text, data_clock_text, data_sentence, early_text, ended_text, foreign, has_scope, input_hint, input_sentence, input_text, late_sentence, late_text, own_sentence, path_sentence, scope_sentence, scoped_sentence, short_text, subject_piece, time_text, unknown_hint, unknown_sentence, unknown_text};
 
-use crate::listing::{push_name, push_some_listing, push_some_near};
+use crate::listing::{is_one_of, push_name, push_some_listing, push_some_near};
 use crate::name::{Subject, subject_word};
-use crate::usage::is_one_of;
 use bs_bits::{NoMemory, push_number, push_piece};
 use bs_note_files::{file_note, pair_note};
 use std::alloc::Global;

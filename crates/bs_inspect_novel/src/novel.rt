@@ -19,7 +19,7 @@ use bs_stim::Runs;
 use std::alloc::Global;
 
 /// The text by the states of the run.
-#[tactic(auto, using(crate::proofs::NovelLemmas::first_showable, crate::proofs::NovelLemmas::tells_of))]
+#[tactic(auto, using(crate::proofs::NovelLemmas::first_showable))]
 fn text_by_states(
     alloc: Global,
     net: &Netlist,
@@ -39,6 +39,7 @@ fn text_by_states(
     let ordered = ordered(novelties)?;
     let first = first_of(ordered.as_slice(), most);
     let text = novelties_text(alloc, net, runs, number, own, signals, first)?;
+    drop(ordered);
     Ok(text)
 }
 
@@ -61,8 +62,9 @@ fn text_by_sets(
     ensures { IfOk result (λ text. TellsOf (circuit net.now) (inputs_of runs.now) number most (map signal_in signals.now) text.items) }
 {
     let own = own_states(alloc, net, runs, number)?;
-    let text = text_by_states(alloc, net, runs, number, most, signals, sets, &own)?;
-    Ok(text)
+    let text = text_by_states(alloc, net, runs, number, most, signals, sets, &own);
+    drop(own);
+    text
 }
 
 /// The text of these signals.
@@ -81,8 +83,9 @@ fn text_of(
     ensures { IfOk result (λ text. TellsOf (circuit net.now) (inputs_of runs.now) number most (map signal_in signals.now) text.items) }
 {
     let sets = sets_of(alloc, net, runs, number, signals)?;
-    let text = text_by_sets(alloc, net, runs, number, most, signals, sets.as_slice())?;
-    Ok(text)
+    let text = text_by_sets(alloc, net, runs, number, most, signals, sets.as_slice());
+    drop(sets);
+    text
 }
 
 /// The signals of keys.
@@ -115,6 +118,7 @@ fn text_of_keys(
 {
     let signals = all_signals(alloc, keys)?;
     let text = text_of(alloc, net, runs, number, most, signals.as_slice())?;
+    drop(signals);
     Ok(text)
 }
 
@@ -132,8 +136,9 @@ fn text_of_flops(
     ensures { IfOk result (λ text. TellsSignals net.now.raw (inputs_of runs.now) number most text.items) }
 {
     let keys = flop_keys(alloc, net)?;
-    let text = text_of_keys(alloc, net, runs, number, most, keys.as_slice())?;
-    Ok(text)
+    let text = text_of_keys(alloc, net, runs, number, most, keys.as_slice());
+    drop(keys);
+    text
 }
 
 /// The signals of a netlist's flip-flops that in a run have a value which no other run ever has, by the first cycle of such a value: so

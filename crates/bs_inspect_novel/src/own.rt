@@ -1,5 +1,5 @@
 //! The states of one run, from reset to its end.
-ghost use Rattle.std.specs.Prelude.{◌≡◌, ◌<◌, ◌≤◌, ◌+◌, ◌-◌, ◌*◌, length, IfOk};
+ghost use Rattle.std.specs.Prelude.{◌≡◌, ◌<◌, ◌≤◌, ◌+◌, ◌-◌, ◌*◌, [], length, IfOk, OnOk};
 ghost use Rattle.bs_lanes_planes.specs.Planes.{lane as lane_in};
 ghost use Rattle.bs_net.specs.Netlist.{circuit};
 ghost use Rattle.bs_scan.specs.Moments.{run_of, state_at};
@@ -56,8 +56,34 @@ fn state_of(
     Ok(state)
 }
 
-/// The states of the run with a number, by a pass that stands at reset.
+/// Puts the states of the run with a number to none, by a pass that stands at reset.
 #[tactic(auto, using(crate::proofs::OwnLemmas::own_begin, crate::proofs::OwnLemmas::own_more, crate::proofs::OwnLemmas::own_all, crate::proofs::OwnLemmas::own_run))]
+fn push_states(
+    alloc: Global,
+    net: &Netlist,
+    runs: &Runs,
+    pass: &mut Pass<'_>,
+    number: u32,
+    own: &mut List<Bits>,
+) -> Result<(), NoMemory>
+    requires circuit { pass.old.circuit ≡ circuit net.now }
+    requires runs { pass.old.runs ≡ inputs_of runs.now }
+    requires reset { pass.old.cycle ≡ 0 }
+    requires from_one { 1 ≤ number }
+    requires there { number ≤ length (inputs_of runs.now) }
+    requires none { own.old ≡ [] }
+    ensures { OnOk result (AreOwn (circuit net.now) (inputs_of runs.now) number own.new) }
+{
+    let cycles = pass.cycles(number);
+    'cycles: for cycle in 0..cycles + 1 {
+        step_to(pass, cycle as usize);
+        let state = state_of(alloc, net, runs, pass, number)?;
+        own.push(state)?;
+    }
+    Ok(())
+}
+
+/// The states of the run with a number, by a pass that stands at reset.
 fn own_by(
     alloc: Global,
     net: &Netlist,
@@ -72,13 +98,14 @@ fn own_by(
     requires there { number ≤ length (inputs_of runs.now) }
     ensures { IfOk result (λ own. AreOwn (circuit net.now) (inputs_of runs.now) number own) }
 {
-    let cycles = pass.cycles(number);
     let mut own = List::new(alloc);
-    'cycles: for cycle in 0..cycles + 1 {
-        step_to(pass, cycle as usize);
-        own.push(state_of(alloc, net, runs, pass, number)?)?;
+    match push_states(alloc, net, runs, pass, number, &mut own) {
+        Ok(()) => Ok(own),
+        Err(refused) => {
+            drop(own);
+            Err(refused)
+        }
     }
-    Ok(own)
 }
 
 /// The states of the run with a number.
@@ -94,6 +121,7 @@ pub(crate) fn own_states(
     ensures { IfOk result (λ own. AreOwn (circuit net.now) (inputs_of runs.now) number own) }
 {
     let mut pass = Pass::new(alloc, net, runs)?;
-    let own = own_by(alloc, net, runs, &mut pass, number)?;
-    Ok(own)
+    let own = own_by(alloc, net, runs, &mut pass, number);
+    drop(pass);
+    own
 }

@@ -45,7 +45,7 @@ fn extend(
 }
 
 /// Puts the values that 64 lanes show to the sets of all signals.
-#[tactic(auto, using(crate::proofs::SetLemmas::sets_begin, crate::proofs::SetLemmas::sets_here, crate::proofs::SetLemmas::sets_more, crate::proofs::SetLemmas::sets_done, crate::proofs::SetLemmas::signal_there))]
+#[tactic(auto, using(crate::proofs::SetLemmas::sets_begin, crate::proofs::SetLemmas::sets_done, crate::proofs::SetLemmas::signal_there))]
 fn extend_all(
     alloc: Global,
     net: &Netlist,
@@ -194,20 +194,20 @@ fn extend_cycles(
     Ok(())
 }
 
-/// So many empty sets.
+/// Puts so many empty sets to none.
 #[tactic(auto, using(crate::proofs::SetLemmas::empty_none, crate::proofs::SetLemmas::empty_more))]
-fn empty_sets(alloc: Global, count: usize) -> Result<Vec<List<Bits>>, NoMemory>
-    ensures long { IfOk result (λ sets. length sets.items ≡ count) }
-    ensures empty { IfOk result (λ sets. AreEmpty sets.items) }
+fn push_empty(alloc: Global, count: usize, sets: &mut Vec<List<Bits>>) -> Result<(), NoMemory>
+    requires { sets.old.items ≡ [] }
+    ensures long { OnOk result (length sets.new.items ≡ count) }
+    ensures empty { OnOk result (AreEmpty sets.new.items) }
 {
-    let mut sets = Vec::new(alloc);
     'sets: for _ in 0..count {
         sets.push(List::new(alloc))?;
     }
-    Ok(sets)
+    Ok(())
 }
 
-/// Fills sets, by a pass over all runs that is let go.
+/// Makes the sets, where there is none, and fills them by a pass over all runs.
 fn fill(
     alloc: Global,
     net: &Netlist,
@@ -217,19 +217,21 @@ fn fill(
     sets: &mut Vec<List<Bits>>,
 ) -> Result<(), NoMemory>
     requires inputs { runs.now.width ≡ length (circuit net.now).inputs }
-    requires sets { AreSets (circuit net.now) (inputs_of runs.now) number (all_places signals.now) 0 0 0 0 sets.old.items }
+    requires none { sets.old.items ≡ [] }
     ensures { OnOk result (AreWhole (circuit net.now) (inputs_of runs.now) number (all_places signals.now) sets.new.items) }
 {
+    push_empty(alloc, signals.len(), sets)?;
     let mut words = zeros(alloc, net.width())?;
     let mut pass = Pass::new(alloc, net, runs)?;
-    extend_cycles(
+    let done = extend_cycles(
         alloc, net, runs, number, &mut pass, &mut words, signals, sets,
-    )?;
-    Ok(())
+    );
+    drop(pass);
+    drop(words);
+    done
 }
 
 /// For each signal the values that other runs have, each once, or more than `MAX_VALUES` of them.
-#[tactic(auto, using(crate::proofs::SetLemmas::sets_none))]
 pub(crate) fn sets_of(
     alloc: Global,
     net: &Netlist,
@@ -240,7 +242,12 @@ pub(crate) fn sets_of(
     requires inputs { runs.now.width ≡ length (circuit net.now).inputs }
     ensures { IfOk result (λ sets. AreWhole (circuit net.now) (inputs_of runs.now) number (all_places signals.now) sets.items) }
 {
-    let mut sets = empty_sets(alloc, signals.len())?;
-    fill(alloc, net, runs, number, signals, &mut sets)?;
-    Ok(sets)
+    let mut sets = Vec::new(alloc);
+    match fill(alloc, net, runs, number, signals, &mut sets) {
+        Ok(()) => Ok(sets),
+        Err(refused) => {
+            drop(sets);
+            Err(refused)
+        }
+    }
 }

@@ -68,7 +68,6 @@ fn push_novelty(
 }
 
 /// Appends the lines of what is found.
-#[tactic(auto, using(crate::proofs::TextLemmas::lines_more))]
 fn push_novelties(
     text: &mut Vec<u8>,
     net: &Netlist,

@@ -142,7 +142,7 @@ fn put(novelties: &mut Vec<Novelty>, found: Option<Novelty>) -> Result<(), NoMem
 }
 
 /// What is found of the signals, in order.
-#[tactic(auto, using(crate::proofs::NoveltyLemmas::novelties_begin, crate::proofs::NoveltyLemmas::novelties_more, crate::proofs::NoveltyLemmas::whole_here, crate::proofs::NoveltyLemmas::set_there))]
+#[tactic(auto, using(crate::proofs::NoveltyLemmas::novelties_begin, crate::proofs::NoveltyLemmas::set_there))]
 pub fn novelties_of(
     alloc: Global,
     net: &Netlist,

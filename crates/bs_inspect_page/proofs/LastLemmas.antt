@@ -9,12 +9,12 @@ use Rattle.bs_net_names.specs.Signals.{Signal, signal_in}
 use Rattle.bs_report.specs.declared.report.Cand.{Cand}
 use Rattle.bs_report.specs.declared.report.Report.{Report}
 use Rattle.bs_report.specs.declared.report.Step.{Step}
-use Rattle.bs_inspect_cells.proofs.PutLemmas.{five_put, number_put, three_put}
-use Rattle.bs_inspect_cells.specs.Rows.{name_cell}
+use Rattle.bs_inspect_cells.proofs.PutLemmas.{five_put, three_put}
+use Rattle.bs_inspect_cells.specs.Names.{name_cell}
 use Rattle.bs_inspect_report.proofs.TableLemmas.{piece_more}
 use Rattle.bs_inspect_page.specs.Columns.{count_text}
 use Rattle.bs_inspect_page.specs.declared.last_list.TheConstants.{MAX_SHOWN}
-use Rattle.bs_inspect_page.specs.Last.{cand_cells, cand_column, cand_columns, cand_row, cand_rows, filled_text, list_front, shown_of, unmet_list}
+use Rattle.bs_inspect_page.specs.Last.{cand_cells, cand_columns, cand_row, cand_rows, filled_text, list_front, shown_of, unmet_list}
 use Rattle.bs_inspect_page.specs.Page.{PageOptions, ShowsAny, ShowsLast}
 
 -- a signal's row more
@@ -47,18 +47,15 @@ filled_put signed step cands flops old a b c d e same f g h i j =
     (codes "</tbody></table></div>\n") a b c d e f (g ∙ ap (λ (cs : List Cand). a ++ cand_columns cs) same) h
     (i ∙ ap (λ (cs : List Cand). c ++ cand_rows signed cs flops) same) j
 
-pub column_put : (i n : ℕ) (old a b c : List ℕ) → n ≡ i + 1 → a ≡ old ++ codes "<th scope='col'>" → b ≡ a ++ decimal n → c ≡ b ++ codes "</th>" →
-    c ≡ old ++ cand_column i
-unfolding cand_column
-column_put i n old a b c same e f g =
-    three_put old (codes "<th scope='col'>") (decimal (i + 1)) (codes "</th>") a b c e (number_put a n (i + 1) b same f) g
-
-pub front_put : (step : Step) (n : ℕ) (old a b c d e : List ℕ) → n ≡ length step.cands - MAX_SHOWN → a ≡ old ++ codes "<p class='d'>Candidates: " →
-    b ≡ a ++ count_text step → c ≡ b ++ codes ", not shown: " → d ≡ c ++ decimal n →
-    e ≡ d ++ codes ". Each is a state that may stand before the first one of the trace. Shown are flip-flops at which candidates differ.</p>\n<div tabindex='0' role='region' aria-labelledby='l'><table class='t n'><thead><tr><th scope='col'>flip-flop</th>" →
-    e ≡ old ++ list_front step
+pub front_put : (step : Step) (n : ℕ) (old a b c : List ℕ) → n ≡ length step.cands - MAX_SHOWN → a ≡ old ++ codes "<p class='d'>Candidates: " →
+    b ≡ a ++ count_text step →
+    c ≡ b ++ (codes ", not shown: " ++ (decimal n ++ codes ". Each is a state that may stand before the first one of the trace. Shown are flip-flops at which candidates differ.</p>\n<div tabindex='0' role='region' aria-labelledby='l'><table class='t n'><thead><tr><th scope='col'>flip-flop</th>")) →
+    c ≡ old ++ list_front step
 unfolding list_front
-front_put step n old a b c d e same f g h i j =
-    five_put old (codes "<p class='d'>Candidates: ") (count_text step) (codes ", not shown: ") (decimal (length step.cands - MAX_SHOWN))
-    (codes ". Each is a state that may stand before the first one of the trace. Shown are flip-flops at which candidates differ.</p>\n<div tabindex='0' role='region' aria-labelledby='l'><table class='t n'><thead><tr><th scope='col'>flip-flop</th>")
-    a b c d e f g h (number_put c n (length step.cands - MAX_SHOWN) d same i) j
+front_put step n old a b c same f g h =
+    three_put old (codes "<p class='d'>Candidates: ") (count_text step)
+    (codes ", not shown: " ++ (decimal n ++ codes ". Each is a state that may stand before the first one of the trace. Shown are flip-flops at which candidates differ.</p>\n<div tabindex='0' role='region' aria-labelledby='l'><table class='t n'><thead><tr><th scope='col'>flip-flop</th>"))
+    a b c f g h
+    ∙ ap
+    (λ (k : ℕ). old ++ (codes "<p class='d'>Candidates: " ++ (count_text step ++ (codes ", not shown: " ++ (decimal k
+    ++ codes ". Each is a state that may stand before the first one of the trace. Shown are flip-flops at which candidates differ.</p>\n<div tabindex='0' role='region' aria-labelledby='l'><table class='t n'><thead><tr><th scope='col'>flip-flop</th>"))))) same

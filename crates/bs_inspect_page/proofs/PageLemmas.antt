@@ -7,7 +7,7 @@ use Rattle.bs_net.specs.Parts.{Parts}
 use Rattle.bs_report.specs.declared.report.Report.{Report}
 use Rattle.bs_inspect_page.specs.Opens.{opens_of}
 use Rattle.bs_net_names.specs.Signals.{Signal}
-use Rattle.bs_inspect_cells.specs.Rows.{group_text}
+use Rattle.bs_inspect_page.specs.Rows.{group_text}
 use Rattle.bs_inspect_cells.proofs.PutLemmas.{four_put, three_put}
 use Rattle.bs_inspect_report.specs.Lemmas.{lemmas_logged}
 use Rattle.bs_inspect_front.specs.Front.{front_text}

@@ -1,3 +1,4 @@
+pub mod Rows
 pub mod Execution
 pub mod Opens
 pub mod Columns

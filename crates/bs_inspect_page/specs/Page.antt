@@ -5,7 +5,7 @@ use Rattle.bs_net_names.specs.Signals.{AreSignals, Signal}
 use Rattle.bs_report.specs.declared.report.Report.{Report}
 use Rattle.bs_report.specs.declared.report.Step.{Step}
 use Rattle.bs_inspect_cells.specs.Cells.{Figure, is_lively}
-use Rattle.bs_inspect_cells.specs.Rows.{group_text}
+use Rattle.bs_inspect_page.specs.Rows.{group_text}
 use Rattle.bs_inspect_report.specs.Execution.{is_execution}
 use Rattle.bs_inspect_report.specs.Keys.{flop_keys, input_keys}
 use Rattle.bs_inspect_report.specs.Steps.{differing_bits}

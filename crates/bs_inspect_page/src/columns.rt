@@ -6,6 +6,7 @@ ghost use Rattle.bs_inspect_page.specs.Columns.{column_text, columns_text, corne
 use crate::execution::push_cycle_column;
 use crate::opens::step_of;
 use bs_bits::{NoMemory, push_number, push_piece};
+use bs_inspect_front::push_before;
 use bs_inspect_report::is_execution;
 use bs_report::{HitLine, ListEnd, Report, Step};
 
@@ -15,8 +16,7 @@ pub(crate) fn push_moment(text: &mut Vec<u8>, hit: &Option<HitLine>) -> Result<(
 {
     match hit {
         Some(hit) => {
-            push_number(text, u64::from(hit.run))?;
-            push_piece(text, b":")?;
+            push_before(text, u64::from(hit.run), b":")?;
             push_number(text, u64::from(hit.cycle))
         }
         None => push_piece(text, b"none"),

@@ -2,7 +2,8 @@
 ghost use Rattle.std.specs.Prelude.{◌≡◌, ◌<◌, ◌+◌, ◌^◌, ◌++◌, length, OnOk};
 ghost use Rattle.bs_inspect_page.specs.Execution.{cycle_column, cycle_front};
 
-use bs_bits::{NoMemory, push_number, push_piece};
+use bs_bits::{NoMemory, push_piece};
+use bs_inspect_front::push_before;
 use bs_report::Report;
 
 /// Appends the front of the column of a state.
@@ -29,6 +30,5 @@ pub(crate) fn push_cycle_column(
     ensures { OnOk result (text.new.items ≡ text.old.items ++ cycle_column report.now i) }
 {
     push_cycle_front(text, report, i)?;
-    push_number(text, i as u64)?;
-    push_piece(text, b"</th>")
+    push_before(text, i as u64, b"</th>")
 }

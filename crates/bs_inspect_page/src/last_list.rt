@@ -9,8 +9,9 @@ ghost use Rattle.bs_inspect_page.specs.Page.{ShowsAny, ShowsLast, ShowsList, ask
 use crate::columns::push_count;
 use crate::listing::listed_flops;
 use crate::options::PageOptions;
-use bs_bits::{Bits, NoMemory, push_number, push_piece};
+use bs_bits::{Bits, NoMemory, push_piece};
 use bs_inspect_cells::push_name_cell;
+use bs_inspect_front::push_between;
 use bs_inspect_report::{member, push_signal_value};
 use bs_net::Netlist;
 use bs_net_names::Signal;
@@ -112,14 +113,12 @@ fn push_rows(
 }
 
 /// Appends the column of a candidate.
+#[tactic(auto, unfolding(crate::specs::Last::cand_column))]
 fn push_column(text: &mut Vec<u8>, i: usize) -> Result<(), NoMemory>
     requires { i + 1 < 2 ^ 64 }
     ensures { OnOk result (text.new.items ≡ text.old.items ++ cand_column i) }
 {
-    push_piece(text, b"<th scope='col'>")?;
-    push_number(text, i as u64 + 1)?;
-    push_piece(text, b"</th>")?;
-    Ok(())
+    push_between(text, b"<th scope='col'>", i as u64 + 1, b"</th>")
 }
 
 /// Appends the columns of these candidates.
@@ -146,13 +145,12 @@ fn push_list_front(text: &mut Vec<u8>, step: &Step) -> Result<(), NoMemory>
 {
     push_piece(text, b"<p class='d'>Candidates: ")?;
     push_count(text, step)?;
-    push_piece(text, b", not shown: ")?;
-    push_number(text, hidden_count(step))?;
-    push_piece(
+    push_between(
         text,
+        b", not shown: ",
+        hidden_count(step),
         b". Each is a state that may stand before the first one of the trace. Shown are flip-flops at which candidates differ.</p>\n<div tabindex='0' role='region' aria-labelledby='l'><table class='t n'><thead><tr><th scope='col'>flip-flop</th>",
-    )?;
-    Ok(())
+    )
 }
 
 /// Appends a list that has candidates.

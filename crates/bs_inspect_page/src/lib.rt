@@ -2,7 +2,7 @@
 //!
 //! Modules: `options` (what is asked), `step_table`, `last_list` (the last list, if it has no hit), `listing` (which signals of it), `opens`
 //! (where other candidates differ), `columns` (the head of the trace), `execution` (the same of an execution that a search for a state
-//! found), `drawn` (which signals), `page`, `law`. What stands in front, and which flip-flops a signature reads, is bs_inspect_front's.
+//! found), `drawn` (which signals), `rows` (their rows), `page`, `law`. What stands in front, and which flip-flops a signature reads, is bs_inspect_front's.
 //! Used above: `ShowsReport` (`specs/Page`): the text is the page of the report, whose cells (bs_inspect_cells) are those of the
 //! trace's signals. A line: its definition and the function of the same name.
 #![tactic(auto)]
@@ -16,6 +16,7 @@ mod listing;
 mod opens;
 mod options;
 mod page;
+mod rows;
 mod step_table;
 
 pub use law::cells_are_traced;

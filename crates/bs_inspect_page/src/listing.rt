@@ -96,7 +96,8 @@ pub(crate) fn listed_flops<'a>(
     ensures are { IfOk result (λ signals. AreListed net.now.raw (asked_in asked.now) step.now (map signal_in signals.items)) }
     ensures few { IfOk result (λ signals. All (λ s. length s.places < 2 ^ 32) signals.items) }
 {
-    let differing = differing_bits(alloc, step.cands.slice())?;
-    let signals = listed_at(alloc, net, asked, step, &differing)?;
-    Ok(signals)
+    match differing_bits(alloc, step.cands.slice()) {
+        Ok(differing) => listed_at(alloc, net, asked, step, &differing),
+        Err(refused) => Err(refused),
+    }
 }

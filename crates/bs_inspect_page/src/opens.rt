@@ -1,5 +1,5 @@
 //! Where other candidates of a list differ.
-ghost use Rattle.std.specs.Prelude.{◌≡◌, ◌<◌, ◌+◌, ◌^◌, length, IfOk, option_map};
+ghost use Rattle.std.specs.Prelude.{◌≡◌, ◌<◌, ◌+◌, ◌^◌, ◌++◌, ◌∷◌, [], length, IfOk, OnOk, option_map};
 ghost use Rattle.bs_inspect_page.specs.Opens.{open_of, opens_of, step_of};
 
 use bs_bits::{Bits, List, NoMemory};
@@ -29,14 +29,20 @@ pub(crate) fn step_of(report: &Report, i: usize) -> Option<&Step>
     member(&report.steps, report.states.len() - 2 - i)
 }
 
-/// The flip-flops that are open in a state of the trace.
-fn open_at(alloc: Global, report: &Report, i: usize) -> Result<Bits, NoMemory>
+/// Puts the flip-flops that are open in a state of the trace at the end.
+fn push_open(
+    alloc: Global,
+    opens: &mut List<Bits>,
+    report: &Report,
+    i: usize,
+) -> Result<(), NoMemory>
     requires there { i < length report.now.states }
     requires small { i + 1 < 2 ^ 64 }
-    ensures { IfOk result (λ bits. bits ≡ open_of (step_of report.now i)) }
+    ensures { OnOk result (opens.new ≡ opens.old ++ open_of (step_of report.now i) ∷ []) }
 {
     let bits = open_of(alloc, step_of(report, i))?;
-    Ok(bits)
+    opens.push(bits)?;
+    Ok(())
 }
 
 /// The flip-flops that are open in each state of the trace.
@@ -46,8 +52,7 @@ pub(crate) fn opens_of(alloc: Global, report: &Report) -> Result<List<Bits>, NoM
 {
     let mut opens = List::new(alloc);
     'states: for i in 0..report.states.len() {
-        let bits = open_at(alloc, report, i)?;
-        opens.push(bits)?;
+        push_open(alloc, &mut opens, report, i)?;
     }
     Ok(opens)
 }

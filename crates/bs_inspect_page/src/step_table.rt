@@ -4,6 +4,7 @@ ghost use Rattle.bs_inspect_page.specs.Steps.{begin_cells, step_end, from_text, 
 
 use crate::columns::push_moment;
 use bs_bits::{NoMemory, push_number, push_piece};
+use bs_inspect_front::push_between;
 use bs_inspect_report::{differing, lemmas_logged, member, number_at, push_end};
 use bs_report::{Report, Step};
 
@@ -27,34 +28,20 @@ fn push_from(text: &mut Vec<u8>, report: &Report, i: usize) -> Result<(), NoMemo
     push_hit(text, member(&report.steps, i - 1))
 }
 
-/// The number of a step.
-fn number_of(i: usize) -> u64
-    requires { i + 1 < 2 ^ 64 }
-    ensures { result ≡ i + 1 }
-{
-    i as u64 + 1
-}
-
 /// Appends the number of a step, and where it begins.
 fn push_begin(text: &mut Vec<u8>, report: &Report, i: usize) -> Result<(), NoMemory>
     requires { i + 1 < 2 ^ 64 }
     ensures { OnOk result (text.new.items ≡ text.old.items ++ begin_cells report.now i) }
 {
-    push_piece(text, b"<tr><th scope='row'>")?;
-    push_number(text, number_of(i))?;
-    push_piece(text, b"</th><td>")?;
-    push_from(text, report, i)?;
-    Ok(())
+    push_between(text, b"<tr><th scope='row'>", i as u64 + 1, b"</th><td>")?;
+    push_from(text, report, i)
 }
 
 /// Appends how many candidates a step lists, and how many flip-flops differ among them.
-#[tactic(auto, unfolding(crate::specs::Steps::step_list))]
 fn push_list(text: &mut Vec<u8>, step: &Step) -> Result<(), NoMemory>
     ensures { OnOk result (text.new.items ≡ text.old.items ++ step_list step.now) }
 {
-    push_piece(text, b"</td><td>")?;
-    push_number(text, step.cands.len() as u64)?;
-    push_piece(text, b"</td><td>")?;
+    push_between(text, b"</td><td>", step.cands.len() as u64, b"</td><td>")?;
     push_number(text, differing(step.cands.slice()) as u64)
 }
 
@@ -66,10 +53,7 @@ fn push_ending(text: &mut Vec<u8>, lemmas: u64, step: &Step) -> Result<(), NoMem
     push_end(text, step.end)?;
     push_piece(text, b"</td><td>")?;
     push_moment(text, &step.hit)?;
-    push_piece(text, b"</td><td>")?;
-    push_number(text, lemmas)?;
-    push_piece(text, b"</td></tr>\n")?;
-    Ok(())
+    push_between(text, b"</td><td>", lemmas, b"</td></tr>\n")
 }
 
 /// Appends the row of a step.

@@ -208,7 +208,7 @@ pub fn clock_key(net: &Netlist) -> &str
 }
 
 /// The clock that is asked for, or that of the netlist.
-fn clock_or<'a>(net: &'a Netlist, clock: Option<&'a str>) -> &'a str
+pub fn clock_or<'a>(net: &'a Netlist, clock: Option<&'a str>) -> &'a str
     ensures { result.now ≡ clock_or net.now.raw (option_map (λ s. s.now) clock.entry) }
 {
     match clock {

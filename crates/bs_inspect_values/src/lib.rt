@@ -22,12 +22,14 @@ mod run;
 mod simulated;
 mod values;
 
-pub use dumping::{DumpFiles, clock_key, load_dumped};
+pub use dumping::{DumpFiles, clock_key, clock_or, load_dumped};
 pub use fault::MapFault;
-pub use keys::all_bytes;
+pub use keys::{all_bytes, flop_bytes, maybe_bytes};
 pub use law::runs_read_back;
+pub use mapping::names_or_diagnostic;
 pub use names::read_names;
 pub use ready::{Dumped, Sampled, Signed, Simulated, Unsigned};
 pub use refusals::{numbered, refusal};
 pub use run::{SimulatedRun, first_late, runs_text};
 pub use simulated::{Clocked, load_simulated};
+pub use values::{Sampling, vcd_diagnostic};

@@ -234,7 +234,7 @@ fn vcd_note(
 
 /// The diagnostic of values that are refused.
 #[tactic(auto, using(bs_top_files::proofs::NotingLemmas::both_words, bs_top_files::proofs::NotingLemmas::both_note, bs_top_files::proofs::NotingLemmas::both_want))]
-fn vcd_diagnostic(
+pub fn vcd_diagnostic(
     alloc: Global,
     subject: Subject,
     text: &[u8],

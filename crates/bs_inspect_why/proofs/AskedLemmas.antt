@@ -156,10 +156,12 @@ below_from_get [] k x e = absurd cc
 below_from_get (y ∷ ys) zero x e = omega arith
 below_from_get (y ∷ ys) (suc k) x e = omega (arith, below_from_get ys k x e)
 
-pub key_more : (names : List (List ℕ)) (keys : List (Bor (List ℕ))) (key : Bor (List ℕ)) (n : ℕ) → map (λ s. s.now) keys ≡ take n names →
-    slice_get names n ≡ Some key.now → map (λ s. s.now) (keys ++ key ∷ []) ≡ take (n + 1) names
-key_more names keys key n e is =
-    map-append (λ (s : Bor (List ℕ)). s.now) keys (key ∷ [])
+pub key_more : (names : List (List ℕ)) (keys : List (Bor (List ℕ))) (key : Bor (List ℕ)) (n : ℕ) (after : List (Bor (List ℕ))) →
+    map (λ s. s.now) keys ≡ take n names → slice_get names n ≡ Some key.now → after ≡ keys ++ key ∷ [] →
+    map (λ s. s.now) after ≡ take (n + 1) names
+key_more names keys key n after e is goes =
+    ap (map (λ (s : Bor (List ℕ)). s.now)) goes
+    ∙ (map-append (λ (s : Bor (List ℕ)). s.now) keys (key ∷ [])
     ∙ (ap (λ (t : List (List ℕ)). t ++ key.now ∷ []) e
     ∙ (ap (λ (k : List ℕ). take n names ++ k ∷ []) (sym (get_or_from_slice_get names n key.now key.now is))
-    ∙ sym (take_more names n key.now (below_from_get names n key.now is))))
+    ∙ sym (take_more names n key.now (below_from_get names n key.now is)))))

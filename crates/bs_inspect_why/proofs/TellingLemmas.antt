@@ -22,6 +22,7 @@ use Rattle.bs_inspect_why_words.specs.Limits.{limits_of}
 use Rattle.bs_inspect_why_words.specs.Throughout.{TellsStills}
 use Rattle.bs_inspect_why_words.specs.declared.limits.Limits.{Limits}
 use Rattle.bs_inspect_why_words.proofs.BlockLemmas.{parts_begin, parts_more}
+use Rattle.bs_inspect_accounts.proofs.ChainLemmas.{chain_within}
 use Rattle.bs_inspect_accounts.specs.declared.chain.Chain.{Chain}
 use Rattle.bs_inspect_accounts.specs.declared.chain.Place.{Place}
 use Rattle.bs_inspect_accounts.specs.Chains.{ArePlaces, IsWithin, account_at, alone, chain_at, chains_of, no_account, place_of, places_of}
@@ -83,22 +84,47 @@ since_in_time c states inputs causes holds a e same way is =
     let there : a.block.since < length states = (bit_real c states inputs a.block is.block 0 d is.block.some).in_time in
     omega (arith, way.one_more, there, since)
 
-pub block_of : (m : Seen) (r : Report) (few : Limits) (steps : ℕ) (front_causes front_holds back_causes back_holds : List Fact) (first last : Account)
-    (e z : Episode) (old new : List ℕ) → e ≡ episode_with front_causes front_holds first → z ≡ episode_with back_causes back_holds last →
-    Appends (TellsBlock m r few steps e z) old new →
-    Appends (TellsBlock m r few steps (episode_with front_causes front_holds first) (episode_with back_causes back_holds last)) old new
-block_of m r few steps front_causes front_holds back_causes back_holds first last e z old new is_first is_last told =
-    subst (λ (y : Episode). Appends (TellsBlock m r few steps (episode_with front_causes front_holds first) y) old new) is_last
-    (subst (λ (x : Episode). Appends (TellsBlock m r few steps x z) old new) is_first told)
+-- A block does not tell what set the bits of its first account, and what keeps those of its last.
+block_again : (m : Seen) (r : Report) (few : Limits) (steps : ℕ) (front other back more causes holds : List Fact) (first last : Account) (text : List ℕ) →
+    TellsBlock m r few steps (episode_with front holds first) (episode_with causes back last) text →
+    TellsBlock m r few steps (episode_with other holds first) (episode_with causes more last) text
+block_again m r few steps front other back more causes holds first last text told = record {
+  head = told.head;
+  causes = told.causes;
+  kept = told.kept;
+  idle = told.idle;
+  tells_head = record {
+    signals = told.tells_head.signals;
+    are = told.tells_head.are;
+    tells = record {
+      befores = told.tells_head.tells.befores;
+      before = told.tells_head.tells.before;
+      says = told.tells_head.tells.says;
+    };
+  };
+  tells_causes = told.tells_causes;
+  tells_kept = told.tells_kept;
+  tells_idle = told.tells_idle;
+  says = told.says;
+}
 
-pub block_shown : (m : Seen) (r : Report) (few : Limits) (stills : List Fact) (steps : ℕ)
-    (front_causes front_holds back_causes back_holds : List Fact) (first last : Account) (old new : List ℕ) → front_causes ≡ shown stills first.causes →
-    front_holds ≡ shown stills first.holds → back_causes ≡ shown stills last.causes → back_holds ≡ shown stills last.holds →
-    Appends (TellsBlock m r few steps (episode_with front_causes front_holds first) (episode_with back_causes back_holds last)) old new →
+pub block_shown : (m : Seen) (r : Report) (few : Limits) (stills : List Fact) (steps : ℕ) (causes holds : List Fact) (first last : Account)
+    (e z : Episode) (old new : List ℕ) → e ≡ episode_with causes holds first → z ≡ episode_with causes holds last →
+    causes ≡ shown stills last.causes → holds ≡ shown stills first.holds → Appends (TellsBlock m r few steps e z) old new →
     Appends (TellsBlock m r few steps (episode_of stills first) (episode_of stills last)) old new
-block_shown m r few stills steps fc fh bc bh first last old new fc_is fh_is bc_is bh_is told =
-    subst (λ (z : Episode). Appends (TellsBlock m r few steps (episode_of stills first) z) old new) (λ i. episode_with (bc_is i) (bh_is i) last)
-    (subst (λ (e : Episode). Appends (TellsBlock m r few steps e (episode_with bc bh last)) old new) (λ i. episode_with (fc_is i) (fh_is i) first) told)
+block_shown m r few stills steps causes holds first last e z old new is_first is_last causes_are holds_are told =
+    let own : Appends (TellsBlock m r few steps (episode_with causes (shown stills first.holds) first) (episode_with (shown stills last.causes) holds last)) old new =
+    subst (λ (y : Episode). Appends (TellsBlock m r few steps (episode_with causes (shown stills first.holds) first) y) old new)
+    (is_last ∙ ap (λ (cs : List Fact). episode_with cs holds last) causes_are)
+    (subst (λ (x : Episode). Appends (TellsBlock m r few steps x z) old new)
+    (is_first ∙ ap (λ (hs : List Fact). episode_with causes hs first) holds_are) told) in
+    record {
+      words = own.words;
+      says =
+          block_again m r few steps causes (shown stills first.causes) holds (shown stills last.holds) (shown stills last.causes)
+          (shown stills first.holds) first last own.words own.says;
+      appended = own.appended;
+    }
 
 -- ---- chains
 
@@ -106,20 +132,25 @@ pub account_there : (c : Circuit) (states inputs : List (List Bool)) (accounts :
     All (IsAccount c states inputs) accounts → i < length accounts → a ≡ get_or accounts i a → IsAccount c states inputs a
 account_there c states inputs accounts i a all lt e = subst (IsAccount c states inputs) (sym e) (all i a lt)
 
-pub chain_told : (m : Seen) (r : Report) (few : Limits) (stills : List Fact) (accounts : List Account) (c : Chain) (first last : Account) (old new : List ℕ) →
-    IsWithin (length accounts) c → first ≡ get_or accounts c.first first → last ≡ get_or accounts c.last last →
-    Appends (TellsBlock m r few c.steps (episode_of stills first) (episode_of stills last)) old new → Appends (TellsChain m r few stills accounts c) old new
-chain_told m r few stills accounts c first last old new within at_first at_last told =
-    subst (λ (z : Account). Appends (TellsBlock m r few c.steps (episode_of stills (account_at accounts c.first)) (episode_of stills z)) old new)
-    (at_last ∙ get_or_default accounts c.last last no_account within.last)
-    (subst (λ (a : Account). Appends (TellsBlock m r few c.steps (episode_of stills a) (episode_of stills last)) old new)
-    (at_first ∙ get_or_default accounts c.first first no_account within.first) told)
+pub first_here : (count : ℕ) (chains : List Chain) (i : ℕ) (c : Chain) → All (IsWithin count) chains → i < length chains → c ≡ get_or chains i c →
+    c.first < count
+first_here count chains i c within lt e = (chain_within count chains i c within lt e).first
 
-pub chain_here : (m : Seen) (r : Report) (few : Limits) (stills : List Fact) (accounts : List Account) (chains : List Chain) (i : ℕ) (c : Chain) (old new : List ℕ) →
-    i < length chains → c ≡ get_or chains i c → Appends (TellsChain m r few stills accounts c) old new →
+pub last_here : (count : ℕ) (chains : List Chain) (i : ℕ) (c : Chain) → All (IsWithin count) chains → i < length chains → c ≡ get_or chains i c →
+    c.last < count
+last_here count chains i c within lt e = (chain_within count chains i c within lt e).last
+
+pub chain_told : (m : Seen) (r : Report) (few : Limits) (stills : List Fact) (accounts : List Account) (chains : List Chain) (i : ℕ) (c : Chain)
+    (first last : Account) (old new : List ℕ) → All (IsWithin (length accounts)) chains → i < length chains → c ≡ get_or chains i c →
+    first ≡ get_or accounts c.first first → last ≡ get_or accounts c.last last →
+    Appends (TellsBlock m r few c.steps (episode_of stills first) (episode_of stills last)) old new →
     Appends (TellsChain m r few stills accounts (chain_at chains i)) old new
-chain_here m r few stills accounts chains i c old new lt e told =
-    subst (λ (x : Chain). Appends (TellsChain m r few stills accounts x) old new) (e ∙ get_or_default chains i c (alone 0) lt) told
+chain_told m r few stills accounts chains i c first last old new within lt at at_first at_last told =
+    subst (λ (x : Chain). Appends (TellsChain m r few stills accounts x) old new) (at ∙ get_or_default chains i c (alone 0) lt)
+    (subst (λ (z : Account). Appends (TellsBlock m r few c.steps (episode_of stills (account_at accounts c.first)) (episode_of stills z)) old new)
+    (at_last ∙ get_or_default accounts c.last last no_account (last_here (length accounts) chains i c within lt at))
+    (subst (λ (a : Account). Appends (TellsBlock m r few c.steps (episode_of stills a) (episode_of stills last)) old new)
+    (at_first ∙ get_or_default accounts c.first first no_account (first_here (length accounts) chains i c within lt at)) told))
 
 -- ---- their order
 

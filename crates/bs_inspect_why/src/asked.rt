@@ -13,7 +13,6 @@ use bs_net_names::{Member, members};
 use std::alloc::Global;
 
 /// The keys of the nets of a netlist's parts.
-#[tactic(auto, using(crate::proofs::AskedLemmas::key_more))]
 fn keys_of<'a>(alloc: Global, raw: &'a Raw) -> Result<Vec<&'a str>, NoMemory>
     ensures { IfOk result (λ keys. map (λ s. s.now) keys.items ≡ (parts_of raw.now).names) }
 {
@@ -62,7 +61,6 @@ fn put_asked(nets: &mut Vec<NetId>, net: &Netlist, member: &Member<'_>) -> Resul
 }
 
 /// Those of some nets that are no data inputs.
-#[tactic(auto, using(crate::proofs::AskedLemmas::nets_more))]
 fn driven(alloc: Global, net: &Netlist, members: &[Member<'_>]) -> Result<Vec<NetId>, NoMemory>
     ensures { IfOk result (λ nets. nets.items ≡ flat_map (asked_net (circuit net.now)) (map member_in members.now)) }
 {

@@ -1,5 +1,5 @@
 //! Data inputs that stand still nearly all through a trace, and what they stand for.
-ghost use Rattle.std.specs.Prelude.{◌≡◌, ◌<◌, ◌-◌, ◌&&◌, ◌∷◌, [], ◌++◌, nat_lt, not, length, if◌then◌else◌, IfOk, OnOk};
+ghost use Rattle.std.specs.Prelude.{◌≡◌, ◌<◌, ◌-◌, ◌∷◌, [], ◌++◌, length, if◌then◌else◌, IfOk, OnOk};
 ghost use Rattle.std.specs.List.{list_any};
 ghost use Rattle.bs_net.specs.Netlist.{circuit};
 ghost use Rattle.bs_net_facts.specs.Facts.{IsWayOf};
@@ -98,13 +98,6 @@ fn cycles_of(moments: &Moments<'_>) -> Result<u32, NoMemory>
     Ok(count as u32 - 1)
 }
 
-/// Whether what stands still is told once.
-fn are_told(all: bool, cycles: u32) -> bool
-    ensures { result ≡ (not all && nat_lt 0 cycles) }
-{
-    !all && 0 < cycles
-}
-
 /// The data inputs of a trace that stand still, where they are told once.
 #[tactic(auto, using(crate::proofs::StillLemmas::stills_none, crate::proofs::StillLemmas::stills_some, crate::proofs::StillLemmas::some_cycles))]
 pub(crate) fn stills_for(
@@ -116,7 +109,7 @@ pub(crate) fn stills_for(
     ensures { IfOk result (λ stills. AreStillsFor all moments.now stills.items) }
 {
     let cycles = cycles_of(moments)?;
-    let told = are_told(all, cycles);
+    let told = !all && 0 < cycles;
     if !told {
         return Ok(Vec::new(alloc));
     }
@@ -149,7 +142,7 @@ fn push_wanted(facts: &mut List<Fact>, fact: Fact, wanted: bool) -> Result<(), N
 }
 
 /// The facts that are told at a block.
-fn shown(alloc: Global, stills: &[Fact], facts: &[Fact]) -> Result<List<Fact>, NoMemory>
+pub(crate) fn shown(alloc: Global, stills: &[Fact], facts: &[Fact]) -> Result<List<Fact>, NoMemory>
     ensures { IfOk result (λ told. told ≡ shown_of stills.now facts.now) }
 {
     let mut told = List::new(alloc);
@@ -158,27 +151,6 @@ fn shown(alloc: Global, stills: &[Fact], facts: &[Fact]) -> Result<List<Fact>, N
         push_wanted(&mut told, *fact, !covered)?;
     }
     Ok(told)
-}
-
-/// What set the bits of an account, and what has kept them, as far as it is told at the block.
-#[derive(Drop)]
-pub struct ShownFacts {
-    pub causes: List<Fact>,
-    pub holds: List<Fact>,
-}
-
-/// What is told at the block of an account.
-pub(crate) fn shown_in(
-    alloc: Global,
-    stills: &[Fact],
-    account: &Account,
-) -> Result<ShownFacts, NoMemory>
-    ensures causes { IfOk result (λ s. s.causes ≡ shown_of stills.now account.now.causes) }
-    ensures holds { IfOk result (λ s. s.holds ≡ shown_of stills.now account.now.holds) }
-{
-    let causes = shown(alloc, stills, account.causes.slice())?;
-    let holds = shown(alloc, stills, account.holds.slice())?;
-    Ok(ShownFacts { causes, holds })
 }
 
 /// Whether a fact that stands still stands for one that is given in an account.

@@ -1,5 +1,5 @@
 //! Accounts as a table for scripts.
-ghost use Rattle.std.specs.Prelude.{◌≡◌, ◌++◌, codes, map, IfOk, OnOk};
+ghost use Rattle.std.specs.Prelude.{◌≡◌, ◌++◌, codes, IfOk, OnOk};
 ghost use Rattle.std.specs.List.{flat_map};
 ghost use Rattle.bs_net.specs.Netlist.{parts_of};
 ghost use Rattle.bs_net.specs.Parts.{key_at};
@@ -89,7 +89,6 @@ fn push_fact(
 }
 
 /// Appends the rows of facts.
-#[tactic(auto, using(bs_inspect_why_words::proofs::StepLemmas::step_more))]
 fn push_facts(
     text: &mut Vec<u8>,
     raw: &Raw,
@@ -116,32 +115,15 @@ pub(crate) fn moved(cycle: u32, fact: Fact) -> Fact
     }
 }
 
-/// Facts at another cycle.
-#[tactic(auto, using(crate::proofs::TableLemmas::bits_more))]
-fn all_moved(alloc: Global, cycle: u32, facts: &[Fact]) -> Result<Vec<Fact>, NoMemory>
-    ensures { IfOk result (λ bits. bits.items ≡ map (moved cycle) facts.now) }
-{
-    let mut bits = Vec::new(alloc);
-    'facts: for i in 0..facts.len() {
-        bits.push(moved(cycle, facts[i]))?;
-    }
-    Ok(bits)
-}
-
-/// The bits of an account at its last cycle.
-fn last_bits(alloc: Global, account: &Account) -> Result<Vec<Fact>, NoMemory>
-    ensures { IfOk result (λ bits. bits.items ≡ last_bits account.now) }
-{
-    let bits = all_moved(alloc, account.block.at, account.block.bits.slice())?;
-    Ok(bits)
-}
-
 /// Appends the rows of an account's bits.
 fn push_bits(text: &mut Vec<u8>, raw: &Raw, account: &Account) -> Result<(), NoMemory>
     ensures { OnOk result (text.new.items ≡ text.old.items ++ fact_rows (parts_of raw.now) account.now (codes ",bit,") (last_bits account.now)) }
 {
-    let bits = last_bits(*text.allocator(), account)?;
-    push_facts(text, raw, account, b",bit,", bits.as_slice())
+    let bits = account.block.bits.slice();
+    'bits: for bit in bits {
+        push_fact(text, raw, account, b",bit,", moved(account.block.at, *bit))?;
+    }
+    Ok(())
 }
 
 /// Appends the rows of an account.
@@ -155,7 +137,6 @@ fn push_rows(text: &mut Vec<u8>, raw: &Raw, account: &Account) -> Result<(), NoM
 }
 
 /// Appends the rows of accounts.
-#[tactic(auto, using(bs_inspect_why_words::proofs::StepLemmas::step_more))]
 fn push_accounts(text: &mut Vec<u8>, raw: &Raw, accounts: &[Account]) -> Result<(), NoMemory>
     ensures { OnOk result (text.new.items ≡ text.old.items ++ flat_map (account_rows (parts_of raw.now)) accounts.now) }
 {

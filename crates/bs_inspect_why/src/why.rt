@@ -100,29 +100,34 @@ fn facts_text(
     Ok(text)
 }
 
+/// What is asked: a question, its moment, and the nets with its name that are no data inputs.
+#[derive(Clone, Copy)]
+struct Asked<'a> {
+    question: &'a Question<'a>,
+    at: u32,
+    nets: &'a [NetId],
+}
+
 /// The answer by the facts of nets.
 #[tactic(auto, using(crate::proofs::WhyLemmas::nets_told, crate::proofs::WhyLemmas::open_told))]
 fn answer_by(
     alloc: Global,
     moments: &Moments<'_>,
     report: &Report,
-    question: &Question<'_>,
-    at: u32,
-    nets: &[NetId],
+    asked: &Asked<'_>,
     facts: Option<List<Fact>>,
 ) -> Result<Why, NoMemory>
     requires way { IsWayOf (circuit moments.now.net) moments.now.states moments.now.inputs }
     requires leads { LeadsOn (circuit moments.now.net) moments.now.states moments.now.inputs }
-    requires some { 0 < length nets.now }
-    requires driven { All (λ n. has_net (circuit moments.now.net).inputs n ≡ false) nets.now }
-    requires facts { MatchOption facts (length moments.now.inputs ≤ at) (AreAsked moments.now nets.now at (length nets.now)) }
-    requires some_layer { 1 ≤ question.now.depth }
-    ensures { IfOk result (AnswersAt moments.now report.now (question_in question.now) nets.now at) }
+    requires some { 0 < length asked.now.nets.now }
+    requires driven { All (λ n. has_net (circuit moments.now.net).inputs n ≡ false) asked.now.nets.now }
+    requires facts { MatchOption facts (length moments.now.inputs ≤ asked.now.at) (AreAsked moments.now asked.now.nets.now asked.now.at (length asked.now.nets.now)) }
+    requires some_layer { 1 ≤ asked.now.question.now.depth }
+    ensures { IfOk result (AnswersAt moments.now report.now (question_in asked.now.question.now) asked.now.nets.now asked.now.at) }
 {
-    let _nets = nets;
     match facts {
         Some(facts) => {
-            let text = facts_text(alloc, moments, report, question, facts.slice())?;
+            let text = facts_text(alloc, moments, report, asked.question, facts.slice())?;
             Ok(Why::Text(text))
         }
         None => Ok(Why::Denied(Denial::Open)),
@@ -134,20 +139,18 @@ fn answer_at(
     alloc: Global,
     moments: &Moments<'_>,
     report: &Report,
-    question: &Question<'_>,
-    at: u32,
-    nets: &[NetId],
+    asked: &Asked<'_>,
 ) -> Result<Why, NoMemory>
     requires way { IsWayOf (circuit moments.now.net) moments.now.states moments.now.inputs }
     requires leads { LeadsOn (circuit moments.now.net) moments.now.states moments.now.inputs }
-    requires some { 0 < length nets.now }
-    requires placed { All (λ n. n.0 < (circuit moments.now.net).nets) nets.now }
-    requires driven { All (λ n. has_net (circuit moments.now.net).inputs n ≡ false) nets.now }
-    requires some_layer { 1 ≤ question.now.depth }
-    ensures { IfOk result (AnswersAt moments.now report.now (question_in question.now) nets.now at) }
+    requires some { 0 < length asked.now.nets.now }
+    requires placed { All (λ n. n.0 < (circuit moments.now.net).nets) asked.now.nets.now }
+    requires driven { All (λ n. has_net (circuit moments.now.net).inputs n ≡ false) asked.now.nets.now }
+    requires some_layer { 1 ≤ asked.now.question.now.depth }
+    ensures { IfOk result (AnswersAt moments.now report.now (question_in asked.now.question.now) asked.now.nets.now asked.now.at) }
 {
-    let facts = asked_facts(alloc, moments, nets, at)?;
-    answer_by(alloc, moments, report, question, at, nets, facts)
+    let facts = asked_facts(alloc, moments, asked.nets, asked.at)?;
+    answer_by(alloc, moments, report, asked, facts)
 }
 
 /// The answer of a trace that leads on.
@@ -156,48 +159,46 @@ fn answer_on(
     alloc: Global,
     net: &Netlist,
     report: &Report,
-    question: &Question<'_>,
-    at: u32,
-    nets: &[NetId],
+    asked: &Asked<'_>,
 ) -> Result<Why, NoMemory>
     requires way { IsWayOf (circuit net.now) report.now.states report.now.inputs }
     requires leads { LeadsOn (circuit net.now) report.now.states report.now.inputs }
-    requires some { 0 < length nets.now }
-    requires placed { All (λ n. n.0 < (circuit net.now).nets) nets.now }
-    requires driven { All (λ n. has_net (circuit net.now).inputs n ≡ false) nets.now }
-    requires some_layer { 1 ≤ question.now.depth }
-    ensures { IfOk result (AnswersOn net.now report.now (question_in question.now) nets.now at) }
+    requires some { 0 < length asked.now.nets.now }
+    requires placed { All (λ n. n.0 < (circuit net.now).nets) asked.now.nets.now }
+    requires driven { All (λ n. has_net (circuit net.now).inputs n ≡ false) asked.now.nets.now }
+    requires some_layer { 1 ≤ asked.now.question.now.depth }
+    ensures { IfOk result (AnswersOn net.now report.now (question_in asked.now.question.now) asked.now.nets.now asked.now.at) }
 {
     let moments = Moments::of(alloc, net, &report.states, &report.inputs)?;
-    let answer = answer_at(alloc, &moments, report, question, at, nets);
+    let answer = answer_at(alloc, &moments, report, asked);
     drop(moments);
     let why = answer?;
     Ok(why)
 }
 
-/// The answer of a report's trace, if it leads on.
-#[tactic(auto, using(crate::proofs::WhyLemmas::text_answers, crate::proofs::WhyLemmas::break_answers))]
+/// The answer of a report's trace, if there are nets and it leads on.
+#[tactic(auto, using(crate::proofs::WhyLemmas::none_asked, crate::proofs::WhyLemmas::some_asked, crate::proofs::WhyLemmas::text_answers, crate::proofs::WhyLemmas::break_answers))]
 fn answer_of(
     alloc: Global,
     net: &Netlist,
     report: &Report,
-    question: &Question<'_>,
-    at: u32,
-    nets: &[NetId],
+    asked: &Asked<'_>,
 ) -> Result<Why, NoMemory>
     requires way { IsWayOf (circuit net.now) report.now.states report.now.inputs }
-    requires at { at ≡ moment_in (length report.now.states) question.now.at }
-    requires there { at < length report.now.states }
-    requires nets { nets.now ≡ nets_asked net.now.raw question.now.name.now }
-    requires some { 0 < length nets.now }
-    requires placed { All (λ n. n.0 < (circuit net.now).nets) nets.now }
-    requires driven { All (λ n. has_net (circuit net.now).inputs n ≡ false) nets.now }
-    requires some_layer { 1 ≤ question.now.depth }
-    ensures { IfOk result (Answers net.now.raw report.now (question_in question.now)) }
+    requires at { asked.now.at ≡ moment_in (length report.now.states) asked.now.question.now.at }
+    requires there { asked.now.at < length report.now.states }
+    requires nets { asked.now.nets.now ≡ nets_asked net.now.raw asked.now.question.now.name.now }
+    requires placed { All (λ n. n.0 < (circuit net.now).nets) asked.now.nets.now }
+    requires driven { All (λ n. has_net (circuit net.now).inputs n ≡ false) asked.now.nets.now }
+    requires some_layer { 1 ≤ asked.now.question.now.depth }
+    ensures { IfOk result (Answers net.now.raw report.now (question_in asked.now.question.now)) }
 {
+    if asked.nets.is_empty() {
+        return Ok(Why::Denied(Denial::Input));
+    }
     match first_break(alloc, net, &report.states, &report.inputs)? {
         Some(number) => Ok(Why::Denied(Denial::Trace(number))),
-        None => answer_on(alloc, net, report, question, at, nets),
+        None => answer_on(alloc, net, report, asked),
     }
 }
 
@@ -222,32 +223,6 @@ fn moment_of(count: usize, at: Option<u64>) -> Result<Option<u32>, NoMemory>
     }
 }
 
-/// The answer by the nets that are asked for.
-#[tactic(auto, using(crate::proofs::WhyLemmas::none_asked, crate::proofs::WhyLemmas::some_asked))]
-fn answer_among(
-    alloc: Global,
-    net: &Netlist,
-    report: &Report,
-    question: &Question<'_>,
-    at: u32,
-    nets: &[NetId],
-) -> Result<Why, NoMemory>
-    requires way { IsWayOf (circuit net.now) report.now.states report.now.inputs }
-    requires at { at ≡ moment_in (length report.now.states) question.now.at }
-    requires there { at < length report.now.states }
-    requires nets { nets.now ≡ nets_asked net.now.raw question.now.name.now }
-    requires placed { All (λ n. n.0 < (circuit net.now).nets) nets.now }
-    requires driven { All (λ n. has_net (circuit net.now).inputs n ≡ false) nets.now }
-    requires some_layer { 1 ≤ question.now.depth }
-    ensures { IfOk result (Answers net.now.raw report.now (question_in question.now)) }
-{
-    if nets.is_empty() {
-        return Ok(Why::Denied(Denial::Input));
-    }
-    let why = answer_of(alloc, net, report, question, at, nets)?;
-    Ok(why)
-}
-
 /// The answer at a moment of the trace.
 fn answer_then(
     alloc: Global,
@@ -263,7 +238,12 @@ fn answer_then(
     ensures { IfOk result (Answers net.now.raw report.now (question_in question.now)) }
 {
     let nets = asked_nets(alloc, net, question.name)?;
-    let why = answer_among(alloc, net, report, question, at, nets.as_slice())?;
+    let asked = Asked {
+        question,
+        at,
+        nets: nets.as_slice(),
+    };
+    let why = answer_of(alloc, net, report, &asked)?;
     Ok(why)
 }
 

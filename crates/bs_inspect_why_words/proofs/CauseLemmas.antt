@@ -1,8 +1,9 @@
 -- The lines of causes.
 use Rattle.std.proofs.Common.{◌≡◌, ℕ, ◌<◌, ◌≤◌, ◌+◌, ◌-◌, Bool, true, false, List, [], ◌∷◌, ◌++◌, length, map, take, get_or, refl, ap, sym, subst, ◌∙◌, arith, zero, suc}
-use Rattle.std.specs.Prelude.{nat_lt, ◌^◌, ◌==◌, ◌&&◌, if◌then◌else◌}
+use Rattle.std.specs.Prelude.{codes, nat_lt, ◌^◌, ◌==◌, ◌&&◌, if◌then◌else◌}
 use Rattle.std.specs.Bool.{beq}
 use Rattle.std.specs.List.{All, flat_map, range_with_len}
+use Rattle.std.specs.List.Sorted.{IsPermutation, IsSorted}
 use Rattle.std.proofs.lemmas.List.{append-nil, length-map}
 use Rattle.std.proofs.lemmas.List.Elements.{All-append, All-nil, All-take}
 use Rattle.std.proofs.lemmas.List.FromFn.{get_or-map-range_with_len, length-map-range_with_len}
@@ -16,14 +17,14 @@ use Rattle.bs_net_names.specs.declared.signal.Signal.{Signal as CodeSignal}
 use Rattle.bs_inspect_why_words.specs.declared.limits.Limits.{Limits}
 use Rattle.bs_inspect_why_words.specs.declared.row.Row.{Row}
 use Rattle.bs_inspect_why_words.specs.Blocks.{Appends}
-use Rattle.bs_inspect_why_words.specs.Causes.{HasRows, TellsRows, TellsRowsOf, by_line, first_cycle, is_old, old_line, old_row, old_rows, old_words, only_bit, row_line, row_name, rows_lines}
+use Rattle.bs_inspect_why_words.specs.Causes.{HasRows, TellsRows, TellsRowsOf, by_line, first_cycle, is_old, old_line, old_row, old_rows, old_words, only_bit, row_line, row_name, row_names, rows_lines}
 use Rattle.bs_inspect_why_words.specs.Facts.{fact_bits, fact_keys, signal_at}
-use Rattle.bs_inspect_why_words.specs.Rows.{AreRows, row_of, rows_of}
+use Rattle.bs_inspect_why_words.specs.Rows.{AreRows, row_cmp, row_of, rows_of}
 use Rattle.bs_inspect_accounts.specs.Since.{AreAges}
 use Rattle.bs_net_names.specs.Rtl.{rtl_text}
 use Rattle.bs_inspect_why_words.specs.declared.limits.TheConstants.{RECENT}
-use Rattle.bs_inspect_why_words.proofs.RowLemmas.{signal_is}
-use Rattle.bs_inspect_why_words.proofs.StepLemmas.{all_head, all_tail}
+use Rattle.bs_inspect_why_words.proofs.RowLemmas.{rows_are, signal_is}
+use Rattle.bs_inspect_why_words.proofs.StepLemmas.{all_head, all_tail, listed, listed_more}
 
 -- ---- the signals of rows are there
 
@@ -33,13 +34,6 @@ Placed count r = r.place < count
 pub row_placed : (signals : List CodeSignal) (rows : List Row) (i : ℕ) (r : Row) → All (λ r. r.place < length signals) rows → i < length rows →
     r ≡ get_or rows i r → r.place < length signals
 row_placed signals rows i r placed lt e = subst (λ (x : Row). x.place < length signals) (sym e) (placed i r lt)
-
-pub placed_first : (signals : List CodeSignal) (r : Row) (rest : List Row) → All (λ r. r.place < length signals) (r ∷ rest) → r.place < length signals
-placed_first signals r rest h = all_head (Placed (length signals)) r rest h
-
-pub placed_rest : (signals : List CodeSignal) (r : Row) (rest : List Row) → All (λ r. r.place < length signals) (r ∷ rest) →
-    All (λ r. r.place < length signals) rest
-placed_rest signals r rest h = all_tail (Placed (length signals)) r rest h
 
 pub first_placed : (signals : List CodeSignal) (rows few : List Row) (most : ℕ) → All (λ r. r.place < length signals) rows → few ≡ take most rows →
     All (λ r. r.place < length signals) few
@@ -86,10 +80,6 @@ placed_of c states inputs facts signals rows has =
 
 -- ---- the signal of a row
 
-pub narrow_here : (signals : List CodeSignal) (i : ℕ) (s : CodeSignal) → All (λ s. length s.places < 2 ^ 32) signals → i < length signals →
-    s ≡ get_or signals i s → length s.places < 2 ^ 32
-narrow_here signals i s narrow lt e = subst (λ (x : CodeSignal). length x.places < 2 ^ 32) (sym e) (narrow i s lt)
-
 pub old_is : (shares : Bool) (cycle : ℕ) (signals : List CodeSignal) (r : Row) (s : CodeSignal) (n : ℕ) (single older result : Bool) →
     r.place < length signals → s ≡ get_or signals r.place s → n ≡ length s.places → single ≡ (n == 1) → older ≡ nat_lt (r.since + RECENT) cycle →
     result ≡ (shares && (single && older)) → result ≡ is_old shares cycle (map signal_in signals) r
@@ -130,6 +120,17 @@ pub name_is : (signals : List CodeSignal) (r : Row) (s : CodeSignal) (text after
     after ≡ text ++ rtl_text (signal_in s) → after ≡ text ++ row_name (map signal_in signals) r
 name_is signals r s text after lt at goes = goes ∙ ap (λ (x : Signal). text ++ rtl_text x) (signal_is signals r.place s lt at)
 
+names_listed : (signals : List Signal) (rows : List Row) → row_names signals rows ≡ listed (row_name signals) rows
+names_listed signals [] = refl
+names_listed signals (r ∷ rows) = refl
+
+pub names_more : (signals : List Signal) (rows : List Row) (i : ℕ) (d : Row) (old text mid after : List ℕ) → i < length rows →
+    text ≡ old ++ row_names signals (take i rows) → mid ≡ text ++ (if i == 0 then [] else codes ", ") →
+    after ≡ mid ++ row_name signals (get_or rows i d) → after ≡ old ++ row_names signals (take (i + 1) rows)
+names_more signals rows i d old text mid after lt e comma goes =
+    listed_more (row_name signals) rows i d old text mid after lt (e ∙ ap (λ (t : List ℕ). old ++ t) (names_listed signals (take i rows))) comma goes
+    ∙ ap (λ (t : List ℕ). old ++ t) (sym (names_listed signals (take (i + 1) rows)))
+
 pub old_none : (most cycle : ℕ) (signals : List Signal) (bit : Bool) (rows : List Row) (empty : Bool) (text : List ℕ) → empty ≡ (length rows == 0) →
     empty ≡ true → text ≡ text ++ old_line most cycle signals bit rows
 old_none most cycle signals bit rows empty text e is =
@@ -147,9 +148,14 @@ old_some most cycle signals bit rows empty text after e off goes =
 
 -- ---- what is told
 
-pub has_rows : (c : Circuit) (states inputs : List (List Bool)) (facts : List Fact) (ages : List ℕ) (signals : List Signal) (rows : List Row) →
-    AreAges c states inputs facts (length facts) ages → AreRows ages signals rows → HasRows c states inputs facts signals rows
-has_rows c states inputs facts ages signals rows aged ordered = record { ages = ages; aged = aged; ordered = ordered }
+pub has_rows : (c : Circuit) (states inputs : List (List Bool)) (facts : List Fact) (ages slice : List ℕ) (signals : List CodeSignal) (rows ordered : List Row) →
+    AreAges c states inputs facts (length facts) ages → slice ≡ ages → rows ≡ rows_of slice (map signal_in signals) (length signals) →
+    IsPermutation rows ordered → IsSorted row_cmp ordered → HasRows c states inputs facts (map signal_in signals) ordered
+has_rows c states inputs facts ages slice signals rows ordered aged same e moved sorted = record {
+  ages = ages;
+  aged = aged;
+  ordered = subst (λ (own : List ℕ). AreRows own (map signal_in signals) ordered) same (rows_are slice signals rows ordered e moved sorted);
+}
 
 pub rows_told : (m : Seen) (limits : Limits) (facts : List Fact) (signals : List Signal) (rows : List Row) (count cycle : ℕ) (shares : Bool)
     (bits : List Bool) (old new : List ℕ) → HasRows (circuit m.net) m.states m.inputs facts signals rows → count ≡ length rows →

@@ -1,6 +1,6 @@
 -- Cycles of which the same is told.
 use Rattle.std.proofs.Common.{◌≡◌, ℕ, ◌<◌, ◌≤◌, ◌+◌, List, [], ◌∷◌, ◌++◌, length, take, get_or, set, refl, ap, sym, subst, ◌∙◌, arith, Option, Some, None}
-use Rattle.std.specs.Prelude.{◌==◌, Bool, true, false, IfSome, if◌then◌else◌}
+use Rattle.std.specs.Prelude.{◌==◌, Bool, true, false, if◌then◌else◌}
 use Rattle.std.specs.List.{position}
 use Rattle.std.specs.Str.{bytes_eq}
 use Rattle.std.proofs.lemmas.List.{get_or_default, length-take}
@@ -36,16 +36,13 @@ pub place_is : (groups few : List Group) (words : List ℕ) (found : Option ℕ)
     found ≡ position (λ g. bytes_eq g.words words) few → found ≡ place_of groups words
 place_is groups few words found e is = is ∙ ap (position (λ (g : Group). bytes_eq g.words words)) e
 
-pub place_there : (groups slice : List Group) (words given : List ℕ) (found : Option ℕ) → slice ≡ groups → given ≡ words →
-    found ≡ place_of slice given → IfSome found (λ i. i < length groups)
-place_there groups slice words given None same e is = tt
-place_there groups slice words given (Some i) same e is =
-    let at = position-Some (λ (g : Group). bytes_eq g.words given) (take MAX_APART slice) i none (sym is) in
+pub place_there : (groups slice : List Group) (words : List ℕ) (found : Option ℕ) (i : ℕ) → slice ≡ groups → found ≡ place_of slice words → found ≡ Some i →
+    i < length groups
+place_there groups slice words found i same e is =
+    let none : Group = made [] [] 0 0 in
+    let at = position-Some (λ (g : Group). bytes_eq g.words words) (take MAX_APART slice) i none (sym e ∙ is) in
     let long : length slice ≡ length groups = ap length same in
     omega (arith, at.0, length-take MAX_APART slice, long)
-  where
-    none : Group
-    none = made [] [] 0 0
 
 pub grown : (groups after : List Group) (r : Reason) (i : ℕ) (old new : Group) → i < length groups → old ≡ get_or groups i old →
     new ≡ longer old r.cycle → after ≡ set groups i new → after ≡ joined_at (Some i) groups r
@@ -62,7 +59,9 @@ joined_by groups slice after given r found same e is goes =
     ∙ ap (λ (o : Option ℕ). joined_at o groups r)
     (is ∙ (ap (λ (gs : List Group). place_of gs given) same ∙ ap (place_of groups) e))
 
-pub groups_more : (reasons : List Reason) (i : ℕ) (d : Reason) (groups after : List Group) → i < length reasons → groups ≡ groups_of (take i reasons) →
-    after ≡ joined groups (get_or reasons i d) → after ≡ groups_of (take (i + 1) reasons)
-groups_more reasons i d groups after lt e goes =
-    goes ∙ (ap (λ (gs : List Group). joined gs (get_or reasons i d)) e ∙ sym (fold_more joined [] reasons i d lt))
+pub groups_more : (reasons : List Reason) (i : ℕ) (d : Reason) (groups after : List Group) → i < length reasons → d ≡ get_or reasons i d →
+    groups ≡ groups_of (take i reasons) → after ≡ joined groups d → after ≡ groups_of (take (i + 1) reasons)
+groups_more reasons i d groups after lt at e goes =
+    goes
+    ∙ ap (joined groups) at
+    ∙ (ap (λ (gs : List Group). joined gs (get_or reasons i d)) e ∙ sym (fold_more joined [] reasons i d lt))

@@ -71,6 +71,17 @@ steps_told t a b c d e t₁ t₂ t₃ t₄ t₅ h₁ h₂ h₃ h₄ h₅ =
     ∙ (append_assoc (((t ++ a) ++ b) ++ c) d e
     ∙ (append_assoc ((t ++ a) ++ b) c (d ++ e) ∙ (append_assoc (t ++ a) b (c ++ (d ++ e)) ∙ append_assoc t a (b ++ (c ++ (d ++ e)))))))
 
+-- six pieces and a line feed
+pub line_put : (t a b c d e f t₁ t₂ t₃ t₄ t₅ t₆ t₇ : List ℕ) → t₁ ≡ t ++ a → t₂ ≡ t₁ ++ b → t₃ ≡ t₂ ++ c → t₄ ≡ t₃ ++ d → t₅ ≡ t₄ ++ e →
+    t₆ ≡ t₅ ++ f → t₇ ≡ t₆ ++ 10 ∷ [] → t₇ ≡ t ++ ((a ++ (b ++ (c ++ (d ++ (e ++ f))))) ++ 10 ∷ [])
+line_put t a b c d e f t₁ t₂ t₃ t₄ t₅ t₆ t₇ h₁ h₂ h₃ h₄ h₅ h₆ h₇ =
+    let six : t₆ ≡ t ++ (a ++ (b ++ (c ++ (d ++ (e ++ f))))) =
+    h₆ ∙ (ap (λ (x : List ℕ). x ++ f) (steps_told t a b c d e t₁ t₂ t₃ t₄ t₅ h₁ h₂ h₃ h₄ h₅) ∙ regroup t a b c d e f) in
+    h₇ ∙ (ap (λ (x : List ℕ). x ++ 10 ∷ []) six ∙ append_assoc t (a ++ (b ++ (c ++ (d ++ (e ++ f))))) (10 ∷ []))
+  where
+    regroup : (t a b c d e f : List ℕ) → (t ++ (a ++ (b ++ (c ++ (d ++ e))))) ++ f ≡ t ++ (a ++ (b ++ (c ++ (d ++ (e ++ f)))))
+    regroup t a b c d e f = simp append_assoc
+
 pub line_told : (m : Seen) (r : Report) (steps : ℕ) (signals : List Signal) (first last : Episode) (bits befores : List Bool)
     (old new : List ℕ) → bits ≡ fact_bits first.bits →
     AreBefore (circuit m.net) m.states m.inputs last.bits last.since (before_count last.since last.bits) befores →

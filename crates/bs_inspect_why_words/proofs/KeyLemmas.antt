@@ -15,13 +15,14 @@ pub key_past : (r : Parts) (n : ℕ) → length r.names ≤ n → [] ≡ key_at 
 key_past r n le = sym (get_or_past r.names n [] le)
 
 -- a key more
-pub keys_more : (r : Parts) (keys : List (Bor (List ℕ))) (key : Bor (List ℕ)) (fs : List Fact) (i : ℕ) (d : Fact) → i < length fs →
-    map (λ s. s.now) keys ≡ fact_keys r (take i fs) → key.now ≡ key_at r (get_or fs i d).net.0 →
-    map (λ s. s.now) (keys ++ key ∷ []) ≡ fact_keys r (take (i + 1) fs)
-keys_more r keys key fs i d lt e k =
-    map-append (λ (s : Bor (List ℕ)). s.now) keys (key ∷ [])
+pub keys_more : (r : Parts) (keys : List (Bor (List ℕ))) (key : Bor (List ℕ)) (fs : List Fact) (i : ℕ) (d : Fact) (after : List (Bor (List ℕ))) →
+    i < length fs → map (λ s. s.now) keys ≡ fact_keys r (take i fs) → key.now ≡ key_at r (get_or fs i d).net.0 → after ≡ keys ++ key ∷ [] →
+    map (λ s. s.now) after ≡ fact_keys r (take (i + 1) fs)
+keys_more r keys key fs i d after lt e k goes =
+    ap (map (λ (s : Bor (List ℕ)). s.now)) goes
+    ∙ (map-append (λ (s : Bor (List ℕ)). s.now) keys (key ∷ [])
     ∙ ((λ j. e j ++ k j ∷ [])
-    ∙ (sym (map-append (λ (f : Fact). key_at r f.net.0) (take i fs) (get_or fs i d ∷ [])) ∙ ap (fact_keys r) (sym (take_more fs i d lt))))
+    ∙ (sym (map-append (λ (f : Fact). key_at r f.net.0) (take i fs) (get_or fs i d ∷ [])) ∙ ap (fact_keys r) (sym (take_more fs i d lt)))))
 
 -- a bit more
 pub bits_more : (bits : List Bool) (fs : List Fact) (i : ℕ) (d : Fact) → i < length fs → bits ≡ fact_bits (take i fs) →

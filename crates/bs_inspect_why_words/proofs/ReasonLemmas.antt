@@ -22,13 +22,15 @@ pub reasons_begin : (raw : Parts) (most : ℕ) (facts : List Fact) (begins : Lis
     AreReasons raw most facts begins 0 reasons
 reasons_begin raw most facts begins reasons e = record { size = ap length e; each = λ j d lt. absurd (omega (arith, lt)) }
 
-pub reasons_more : (raw : Parts) (most : ℕ) (facts : List Fact) (begins : List ℕ) (j : ℕ) (part : List Fact) (r : Reason) (reasons : List Reason) →
-    part ≡ stretch_back facts begins j → AreReasons raw most facts begins j reasons → IsReason raw most part r →
-    AreReasons raw most facts begins (j + 1) (reasons ++ r ∷ [])
-reasons_more raw most facts begins j part r reasons at are is = record {
-  size = length_push reasons r ∙ (let h : length reasons + 1 ≡ j + 1 = omega (arith, are.size) in h);
-  each = λ k d less. by k d less (cases_lt k j);
-}
+pub reasons_more : (raw : Parts) (most : ℕ) (facts : List Fact) (begins : List ℕ) (j : ℕ) (part : List Fact) (r : Reason) (reasons after : List Reason) →
+    part ≡ stretch_back facts begins j → AreReasons raw most facts begins j reasons → IsReason raw most part r → after ≡ reasons ++ r ∷ [] →
+    AreReasons raw most facts begins (j + 1) after
+reasons_more raw most facts begins j part r reasons after at are is goes =
+    subst (AreReasons raw most facts begins (j + 1)) (sym goes)
+    (record {
+      size = length_push reasons r ∙ (let h : length reasons + 1 ≡ j + 1 = omega (arith, are.size) in h);
+      each = λ k d less. by k d less (cases_lt k j);
+    })
   where
     by : (k : ℕ) (d : Reason) → k < j + 1 → (k < j) ⊎ (j ≤ k) → IsReason raw most (stretch_back facts begins k) (get_or (reasons ++ r ∷ []) k d)
     by k d less (inl before) =

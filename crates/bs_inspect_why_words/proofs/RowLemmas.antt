@@ -19,13 +19,11 @@ age_there ages place age lt e = e ∙ get_or_default ages place age 0 lt
 pub age_past : (ages : List ℕ) (place : ℕ) → length ages ≤ place → 0 ≡ get_or ages place 0
 age_past ages place le = sym (get_or_past ages place 0 le)
 
-pub later_is : (ages : List ℕ) (cycle place age result : ℕ) → age ≡ get_or ages place 0 → result ≡ max cycle age → result ≡ later ages cycle place
-later_is ages cycle place age result e is = is ∙ ap (max cycle) e
-
-pub latest_more : (ages places : List ℕ) (i d cycle after : ℕ) → i < length places → cycle ≡ latest ages (take i places) →
-    after ≡ later ages cycle (get_or places i d) → after ≡ latest ages (take (i + 1) places)
-latest_more ages places i d cycle after lt e goes =
-    goes ∙ (ap (λ (n : ℕ). later ages n (get_or places i d)) e ∙ sym (fold_more (later ages) 0 places i d lt))
+pub latest_more : (ages places : List ℕ) (i d cycle age after : ℕ) → i < length places → cycle ≡ latest ages (take i places) →
+    age ≡ get_or ages (get_or places i d) 0 → after ≡ max cycle age → after ≡ latest ages (take (i + 1) places)
+latest_more ages places i d cycle age after lt e at goes =
+    goes
+    ∙ (ap (max cycle) at ∙ (ap (λ (n : ℕ). later ages n (get_or places i d)) e ∙ sym (fold_more (later ages) 0 places i d lt)))
 
 -- the signal at a place
 pub signal_is : (signals : List CodeSignal) (i : ℕ) (s : CodeSignal) → i < length signals → s ≡ get_or signals i s →

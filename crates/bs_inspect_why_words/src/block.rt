@@ -3,7 +3,6 @@ ghost use Rattle.std.specs.Prelude.{◌≡◌, ◌<◌, ◌≤◌, length, All, 
 ghost use Rattle.bs_net.specs.Netlist.{circuit};
 ghost use Rattle.bs_net_facts.specs.Facts.{IsReal, IsWayOf};
 ghost use Rattle.bs_inspect_why_words.specs.Blocks.{Appends, TellsBlock, TellsCauses};
-ghost use Rattle.bs_inspect_why_words.specs.Groups.{TellsGroups};
 ghost use Rattle.bs_inspect_why_words.specs.Heads.{episode_in};
 ghost use Rattle.bs_inspect_why_words.specs.Stretches.{starts as starts_of};
 
@@ -14,12 +13,11 @@ use crate::limits::Limits;
 use crate::span::push_by_cycles;
 use crate::stretch::{starts, stretch_back};
 use bs_bits::NoMemory;
-use bs_net::Raw;
 use bs_net_facts::{Fact, Moments};
 use bs_report::Report;
 
 /// Appends the lines of causes, by where their stretches begin.
-#[tactic(auto, using(crate::proofs::BlockLemmas::causes_begin, crate::proofs::BlockLemmas::causes_more, crate::proofs::BlockLemmas::causes_all, crate::proofs::BlockLemmas::stretch_real))]
+#[tactic(auto, using(crate::proofs::BlockLemmas::causes_begin, crate::proofs::BlockLemmas::causes_all, crate::proofs::BlockLemmas::stretch_real))]
 fn push_stretches(
     text: &mut Vec<u8>,
     moments: &Moments<'_>,
@@ -54,29 +52,6 @@ fn push_causes(
     Ok(())
 }
 
-/// Appends the lines of facts, which are told by cycles.
-fn push_told(
-    text: &mut Vec<u8>,
-    moments: &Moments<'_>,
-    limits: Limits,
-    lead: &[u8],
-    most: usize,
-    facts: &[Fact],
-) -> Result<(), NoMemory>
-    ensures { OnOk result (Appends (TellsGroups moments.now.net.raw lead.now most limits.reasons limits.spans facts.now) text.old.items text.new.items) }
-{
-    push_by_cycles(
-        text,
-        moments.net().raw(),
-        lead,
-        most,
-        limits.reasons,
-        limits.spans,
-        facts,
-    )?;
-    Ok(())
-}
-
 /// Appends the text of a block, or of a chain of so many, from the one that ends last to the first step.
 pub fn push_block(
     text: &mut Vec<u8>,
@@ -95,21 +70,8 @@ pub fn push_block(
 {
     push_head(text, moments, report, steps, first, last)?;
     push_causes(text, moments, limits, last.causes)?;
-    push_told(
-        text,
-        moments,
-        limits,
-        b"    kept by ",
-        limits.held,
-        first.holds,
-    )?;
-    push_told(
-        text,
-        moments,
-        limits,
-        b"    whatever ",
-        limits.idle,
-        last.idle,
-    )?;
+    let raw = moments.net().raw();
+    push_by_cycles(text, raw, b"    kept by ", limits, limits.held, first.holds)?;
+    push_by_cycles(text, raw, b"    whatever ", limits, limits.idle, last.idle)?;
     Ok(())
 }

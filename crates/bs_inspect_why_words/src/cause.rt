@@ -5,14 +5,14 @@ ghost use Rattle.std.specs.List.{flat_map};
 ghost use Rattle.bs_net.specs.Netlist.{circuit};
 ghost use Rattle.bs_net_names.specs.Signals.{signal_in};
 ghost use Rattle.bs_net_facts.specs.Facts.{IsReal, IsWayOf};
-ghost use Rattle.bs_inspect_why_words.specs.Causes.{age_words, behind_name, by_line, by_words, first_cycle, HasRows, is_old, old_line, old_row, old_rows, only_bit, row_line, row_name, row_names, rows_lines, TellsRows, TellsRowsOf};
+ghost use Rattle.bs_inspect_why_words.specs.Causes.{age_words, by_line, by_words, first_cycle, HasRows, is_old, old_line, old_row, old_rows, only_bit, row_line, row_name, row_names, rows_lines, TellsRows, TellsRowsOf};
 ghost use Rattle.bs_inspect_why_words.specs.Blocks.{Appends};
 ghost use Rattle.bs_inspect_why_words.specs.Facts.{signal_at};
 
 use crate::key::{fact_bits, fact_signals};
 use crate::limits::{Limits, RECENT};
-use crate::row::{Row, newest_rows};
-use crate::words::{first_of, push_more, push_signal};
+use crate::row::{Row, ordered, rows_of};
+use crate::words::{first_of, push_comma, push_more, push_signal};
 use bs_bits::{Bits, NoMemory, end_line, push_number, push_piece};
 use bs_inspect_accounts::ages;
 use bs_inspect_report::bit_at;
@@ -40,73 +40,67 @@ fn push_by(text: &mut Vec<u8>, cycle: u32) -> Result<(), NoMemory>
     push_piece(text, b" ")
 }
 
+/// The signals of the causes in one cycle, with their bits, and whether older single bits share a line.
+#[derive(Clone, Copy)]
+struct Causes<'a> {
+    cycle: u32,
+    shares: bool,
+    bits: &'a Bits,
+    signals: &'a [Signal<'a>],
+}
+
 /// Appends the line of a signal.
 fn push_cause(
     text: &mut Vec<u8>,
-    cycle: u32,
-    bits: &Bits,
+    causes: &Causes<'_>,
     signal: &Signal<'_>,
     since: u32,
 ) -> Result<(), NoMemory>
     requires { length signal.now.places < 2 ^ 32 }
-    ensures { OnOk result (text.new.items ≡ text.old.items ++ by_line cycle bits.now (signal_in signal.now) since) }
+    ensures { OnOk result (text.new.items ≡ text.old.items ++ by_line causes.now.cycle causes.now.bits.now (signal_in signal.now) since) }
 {
-    push_by(text, cycle)?;
-    push_signal(text, bits, signal)?;
-    push_age(text, cycle, since)?;
+    push_by(text, causes.cycle)?;
+    push_signal(text, causes.bits, signal)?;
+    push_age(text, causes.cycle, since)?;
     end_line(text)
 }
 
 /// Whether a signal stands in a line with others.
 #[tactic(auto, using(crate::proofs::CauseLemmas::old_is))]
-fn is_old(shares: bool, cycle: u32, signals: &[Signal<'_>], row: Row) -> bool
-    requires { row.place < length signals.now }
-    ensures { result ≡ is_old shares cycle (map signal_in signals.now) row }
+fn is_old(causes: &Causes<'_>, row: Row) -> bool
+    requires { row.place < length causes.now.signals.now }
+    ensures { result ≡ is_old causes.now.shares causes.now.cycle (map signal_in causes.now.signals.now) row }
 {
-    let signal = &signals[row.place];
+    let signal = &causes.signals[row.place];
     let single = signal.places.len() == 1;
-    let older = u64::from(row.since) + u64::from(RECENT) < u64::from(cycle);
-    shares && (single && older)
+    let older = u64::from(row.since) + u64::from(RECENT) < u64::from(causes.cycle);
+    causes.shares && (single && older)
 }
 
 /// Appends the line of a signal that has one of its own.
-#[tactic(auto, using(crate::proofs::CauseLemmas::row_old, crate::proofs::CauseLemmas::row_alone, crate::proofs::CauseLemmas::narrow_here))]
-fn push_row(
-    text: &mut Vec<u8>,
-    shares: bool,
-    cycle: u32,
-    bits: &Bits,
-    signals: &[Signal<'_>],
-    row: Row,
-) -> Result<(), NoMemory>
-    requires narrow { All (λ s. length s.places < 2 ^ 32) signals.now }
-    requires placed { row.place < length signals.now }
-    ensures { OnOk result (text.new.items ≡ text.old.items ++ row_line shares cycle bits.now (map signal_in signals.now) row) }
+#[tactic(auto, using(crate::proofs::CauseLemmas::row_old, crate::proofs::CauseLemmas::row_alone, crate::proofs::WordLemmas::narrow_here))]
+fn push_row(text: &mut Vec<u8>, causes: &Causes<'_>, row: Row) -> Result<(), NoMemory>
+    requires narrow { All (λ s. length s.places < 2 ^ 32) causes.now.signals.now }
+    requires placed { row.place < length causes.now.signals.now }
+    ensures { OnOk result (text.new.items ≡ text.old.items ++ row_line causes.now.shares causes.now.cycle causes.now.bits.now (map signal_in causes.now.signals.now) row) }
 {
-    if is_old(shares, cycle, signals, row) {
+    if is_old(causes, row) {
         return Ok(());
     }
-    let signal = &signals[row.place];
-    push_cause(text, cycle, bits, signal, row.since)?;
+    let signal = &causes.signals[row.place];
+    push_cause(text, causes, signal, row.since)?;
     Ok(())
 }
 
 /// Appends the lines of the signals that have one of their own.
-#[tactic(auto, using(crate::proofs::StepLemmas::step_more, crate::proofs::CauseLemmas::row_placed))]
-fn push_rows(
-    text: &mut Vec<u8>,
-    shares: bool,
-    cycle: u32,
-    bits: &Bits,
-    signals: &[Signal<'_>],
-    rows: &[Row],
-) -> Result<(), NoMemory>
-    requires narrow { All (λ s. length s.places < 2 ^ 32) signals.now }
-    requires placed { All (λ r. r.place < length signals.now) rows.now }
-    ensures { OnOk result (text.new.items ≡ text.old.items ++ flat_map (row_line shares cycle bits.now (map signal_in signals.now)) rows.now) }
+#[tactic(auto, using(crate::proofs::CauseLemmas::row_placed))]
+fn push_rows(text: &mut Vec<u8>, causes: &Causes<'_>, rows: &[Row]) -> Result<(), NoMemory>
+    requires narrow { All (λ s. length s.places < 2 ^ 32) causes.now.signals.now }
+    requires placed { All (λ r. r.place < length causes.now.signals.now) rows.now }
+    ensures { OnOk result (text.new.items ≡ text.old.items ++ flat_map (row_line causes.now.shares causes.now.cycle causes.now.bits.now (map signal_in causes.now.signals.now)) rows.now) }
 {
     'rows: for i in 0..rows.len() {
-        push_row(text, shares, cycle, bits, signals, rows[i])?;
+        push_row(text, causes, rows[i])?;
     }
     Ok(())
 }
@@ -128,68 +122,43 @@ fn only_bit(bits: &Bits, signal: &Signal<'_>) -> bool
     bit_at(bits, front(signal.places.slice()) as usize)
 }
 
-/// Whether two bits are the same.
-fn same(one: bool, other: bool) -> bool
-    ensures { result ≡ beq one other }
-{
-    one == other
-}
-
 /// Whether a signal stands in the line of a bit.
 #[tactic(auto, using(crate::proofs::CauseLemmas::old_with))]
-fn is_old_with(
-    shares: bool,
-    cycle: u32,
-    bits: &Bits,
-    signals: &[Signal<'_>],
-    bit: bool,
-    row: Row,
-) -> bool
-    requires { row.place < length signals.now }
-    ensures { result ≡ (is_old shares cycle (map signal_in signals.now) row && beq (only_bit bits.now (signal_at (map signal_in signals.now) row.place)) bit) }
+fn is_old_with(causes: &Causes<'_>, bit: bool, row: Row) -> bool
+    requires { row.place < length causes.now.signals.now }
+    ensures { result ≡ (is_old causes.now.shares causes.now.cycle (map signal_in causes.now.signals.now) row && beq (only_bit causes.now.bits.now (signal_at (map signal_in causes.now.signals.now) row.place)) bit) }
 {
-    let signal = &signals[row.place];
-    let old = is_old(shares, cycle, signals, row);
-    let agrees = same(only_bit(bits, signal), bit);
+    let signal = &causes.signals[row.place];
+    let old = is_old(causes, row);
+    let agrees = only_bit(causes.bits, signal) == bit;
     old && agrees
 }
 
 /// Puts a row at the end whose signal stands in the line of a bit.
-fn put_old(
-    olds: &mut Vec<Row>,
-    shares: bool,
-    cycle: u32,
-    bits: &Bits,
-    signals: &[Signal<'_>],
-    bit: bool,
-    row: Row,
-) -> Result<(), NoMemory>
-    requires { row.place < length signals.now }
-    ensures { OnOk result (olds.new.items ≡ olds.old.items ++ old_row shares cycle bits.now (map signal_in signals.now) bit row) }
+fn put_old(olds: &mut Vec<Row>, causes: &Causes<'_>, bit: bool, row: Row) -> Result<(), NoMemory>
+    requires { row.place < length causes.now.signals.now }
+    ensures { OnOk result (olds.new.items ≡ olds.old.items ++ old_row causes.now.shares causes.now.cycle causes.now.bits.now (map signal_in causes.now.signals.now) bit row) }
 {
-    if is_old_with(shares, cycle, bits, signals, bit, row) {
+    if is_old_with(causes, bit, row) {
         olds.push(row)?;
     }
     Ok(())
 }
 
 /// The rows whose signals stand in the line of a bit.
-#[tactic(auto, using(crate::proofs::StepLemmas::flat_more, crate::proofs::CauseLemmas::row_placed))]
+#[tactic(auto, using(crate::proofs::CauseLemmas::row_placed))]
 fn old_rows(
     alloc: Global,
-    shares: bool,
-    cycle: u32,
-    bits: &Bits,
-    signals: &[Signal<'_>],
+    causes: &Causes<'_>,
     bit: bool,
     rows: &[Row],
 ) -> Result<Vec<Row>, NoMemory>
-    requires { All (λ r. r.place < length signals.now) rows.now }
-    ensures are { IfOk result (λ olds. olds.items ≡ old_rows shares cycle bits.now (map signal_in signals.now) bit rows.now) }
+    requires { All (λ r. r.place < length causes.now.signals.now) rows.now }
+    ensures are { IfOk result (λ olds. olds.items ≡ old_rows causes.now.shares causes.now.cycle causes.now.bits.now (map signal_in causes.now.signals.now) bit rows.now) }
 {
     let mut olds = Vec::new(alloc);
     'rows: for i in 0..rows.len() {
-        put_old(&mut olds, shares, cycle, bits, signals, bit, rows[i])?;
+        put_old(&mut olds, causes, bit, rows[i])?;
     }
     Ok(olds)
 }
@@ -205,64 +174,36 @@ fn push_name(text: &mut Vec<u8>, signals: &[Signal<'_>], row: Row) -> Result<(),
     Ok(())
 }
 
-/// Appends the name of a signal behind another.
-fn push_name_behind(text: &mut Vec<u8>, signals: &[Signal<'_>], row: Row) -> Result<(), NoMemory>
-    requires { row.place < length signals.now }
-    ensures { OnOk result (text.new.items ≡ text.old.items ++ behind_name (map signal_in signals.now) row) }
-{
-    push_piece(text, b", ")?;
-    push_name(text, signals, row)
-}
-
-/// Appends the names of signals behind another.
-#[tactic(auto, using(crate::proofs::StepLemmas::step_more, crate::proofs::CauseLemmas::row_placed))]
-fn push_other_names(
-    text: &mut Vec<u8>,
-    signals: &[Signal<'_>],
-    rows: &[Row],
-) -> Result<(), NoMemory>
-    requires { All (λ r. r.place < length signals.now) rows.now }
-    ensures { OnOk result (text.new.items ≡ text.old.items ++ flat_map (behind_name (map signal_in signals.now)) rows.now) }
-{
-    'rows: for i in 0..rows.len() {
-        push_name_behind(text, signals, rows[i])?;
-    }
-    Ok(())
-}
-
 /// Appends the names of signals, one behind another.
-#[tactic(auto, using(crate::proofs::CauseLemmas::placed_first, crate::proofs::CauseLemmas::placed_rest))]
+#[tactic(auto, using(crate::proofs::CauseLemmas::row_placed))]
 fn push_names(text: &mut Vec<u8>, signals: &[Signal<'_>], rows: &[Row]) -> Result<(), NoMemory>
     requires { All (λ r. r.place < length signals.now) rows.now }
     ensures { OnOk result (text.new.items ≡ text.old.items ++ row_names (map signal_in signals.now) rows.now) }
 {
-    match rows {
-        [] => Ok(()),
-        [first, rest @ ..] => {
-            push_name(text, signals, *first)?;
-            push_other_names(text, signals, rest)
-        }
+    'rows: for i in 0..rows.len() {
+        push_comma(text, i)?;
+        push_name(text, signals, rows[i])?;
     }
+    Ok(())
 }
 
 /// Appends the line of the signals with a bit.
 #[tactic(auto, using(crate::proofs::CauseLemmas::first_placed, crate::proofs::CauseLemmas::old_none, crate::proofs::CauseLemmas::old_some))]
 fn push_old_line(
     text: &mut Vec<u8>,
+    causes: &Causes<'_>,
     most: usize,
-    cycle: u32,
-    signals: &[Signal<'_>],
     bit: bool,
     rows: &[Row],
 ) -> Result<(), NoMemory>
-    requires { All (λ r. r.place < length signals.now) rows.now }
-    ensures { OnOk result (text.new.items ≡ text.old.items ++ old_line most cycle (map signal_in signals.now) bit rows.now) }
+    requires { All (λ r. r.place < length causes.now.signals.now) rows.now }
+    ensures { OnOk result (text.new.items ≡ text.old.items ++ old_line most causes.now.cycle (map signal_in causes.now.signals.now) bit rows.now) }
 {
     if rows.is_empty() {
         return Ok(());
     }
-    push_by(text, cycle)?;
-    push_names(text, signals, first_of(rows, most))?;
+    push_by(text, causes.cycle)?;
+    push_names(text, causes.signals, first_of(rows, most))?;
     push_more(text, rows.len().saturating_sub(most))?;
     push_piece(text, b" = ")?;
     push_value(text, &[bit])?;
@@ -274,38 +215,32 @@ fn push_old_line(
 #[tactic(auto, using(crate::proofs::CauseLemmas::olds_placed))]
 fn push_olds(
     text: &mut Vec<u8>,
+    causes: &Causes<'_>,
     most: usize,
-    shares: bool,
-    cycle: u32,
-    bits: &Bits,
-    signals: &[Signal<'_>],
     bit: bool,
     rows: &[Row],
 ) -> Result<(), NoMemory>
-    requires { All (λ r. r.place < length signals.now) rows.now }
-    ensures { OnOk result (text.new.items ≡ text.old.items ++ old_line most cycle (map signal_in signals.now) bit (old_rows shares cycle bits.now (map signal_in signals.now) bit rows.now)) }
+    requires { All (λ r. r.place < length causes.now.signals.now) rows.now }
+    ensures { OnOk result (text.new.items ≡ text.old.items ++ old_line most causes.now.cycle (map signal_in causes.now.signals.now) bit (old_rows causes.now.shares causes.now.cycle causes.now.bits.now (map signal_in causes.now.signals.now) bit rows.now)) }
 {
-    let olds = old_rows(*text.allocator(), shares, cycle, bits, signals, bit, rows)?;
-    push_old_line(text, most, cycle, signals, bit, olds.as_slice())
+    let olds = old_rows(*text.allocator(), causes, bit, rows)?;
+    push_old_line(text, causes, most, bit, olds.as_slice())
 }
 
 /// Appends the lines of all signals.
 fn push_lines(
     text: &mut Vec<u8>,
+    causes: &Causes<'_>,
     most: usize,
-    shares: bool,
-    cycle: u32,
-    bits: &Bits,
-    signals: &[Signal<'_>],
     rows: &[Row],
 ) -> Result<(), NoMemory>
-    requires narrow { All (λ s. length s.places < 2 ^ 32) signals.now }
-    requires placed { All (λ r. r.place < length signals.now) rows.now }
-    ensures { OnOk result (text.new.items ≡ text.old.items ++ rows_lines most shares cycle bits.now (map signal_in signals.now) rows.now) }
+    requires narrow { All (λ s. length s.places < 2 ^ 32) causes.now.signals.now }
+    requires placed { All (λ r. r.place < length causes.now.signals.now) rows.now }
+    ensures { OnOk result (text.new.items ≡ text.old.items ++ rows_lines most causes.now.shares causes.now.cycle causes.now.bits.now (map signal_in causes.now.signals.now) rows.now) }
 {
-    push_rows(text, shares, cycle, bits, signals, rows)?;
-    push_olds(text, most, shares, cycle, bits, signals, false, rows)?;
-    push_olds(text, most, shares, cycle, bits, signals, true, rows)
+    push_rows(text, causes, rows)?;
+    push_olds(text, causes, most, false, rows)?;
+    push_olds(text, causes, most, true, rows)
 }
 
 /// The cycle of the first of some facts; 0 where there is none.
@@ -331,8 +266,9 @@ fn rows_told(
     ensures { IfOk result (λ rows. HasRows (circuit moments.now.net) moments.now.states moments.now.inputs facts.now (map signal_in signals.now) rows.items) }
 {
     let ages = ages(alloc, moments, facts)?;
-    let rows = newest_rows(alloc, ages.as_slice(), signals)?;
-    Ok(rows)
+    let rows = rows_of(alloc, ages.as_slice(), signals)?;
+    let ordered = ordered(rows)?;
+    Ok(ordered)
 }
 
 /// Appends the lines of some signals with the bits of facts.
@@ -351,16 +287,13 @@ fn push_signals_of(
 {
     let bits = fact_bits(*text.allocator(), facts)?;
     let rows = rows_told(*text.allocator(), moments, facts, signals)?;
-    let shares = limits.causes < rows.len();
-    push_lines(
-        text,
-        limits.names,
-        shares,
-        first_cycle(facts),
-        &bits,
+    let causes = Causes {
+        cycle: first_cycle(facts),
+        shares: limits.causes < rows.len(),
+        bits: &bits,
         signals,
-        rows.as_slice(),
-    )?;
+    };
+    push_lines(text, &causes, limits.names, rows.as_slice())?;
     Ok(())
 }
 

@@ -1,8 +1,6 @@
 //! Cycles of which the same is told.
-ghost use Rattle.std.specs.Prelude.{◌≡◌, ◌<◌, length, IfOk, IfSome, OnOk, None, Some};
-ghost use Rattle.std.specs.List.{position};
-ghost use Rattle.std.specs.Str.{bytes_eq};
-ghost use Rattle.bs_inspect_why_words.specs.Groups.{group_spans, groups_of, joined, joined_at, longer, place_of, single};
+ghost use Rattle.std.specs.Prelude.{◌≡◌, ◌<◌, length, IfOk, OnOk, None, Some};
+ghost use Rattle.bs_inspect_why_words.specs.Groups.{groups_of, joined, joined_at, longer, place_of, single};
 
 use crate::limits::MAX_APART;
 use crate::reason::Reason;
@@ -59,19 +57,13 @@ fn add_cycle(group: &mut Group, cycle: u32) -> Result<(), NoMemory>
     Ok(())
 }
 
-/// The place of the first of some groups with these words.
-fn place_in(groups: &[Group], words: &[u8]) -> Option<usize>
-    ensures { result ≡ position (λ g. bytes_eq g.words words.now) groups.now }
-{
-    groups.iter().position(|group| group.words.slice() == words)
-}
-
 /// The place of the first group with these words, among the first `MAX_APART`.
 #[tactic(auto, using(crate::proofs::GroupLemmas::place_is))]
 fn place_of(groups: &[Group], words: &[u8]) -> Option<usize>
     ensures { result ≡ place_of groups.now words.now }
 {
-    place_in(first_of(groups, MAX_APART), words)
+    let few = first_of(groups, MAX_APART);
+    few.iter().position(|group| group.words.slice() == words)
 }
 
 /// Puts a reason to the group at a place.
@@ -94,34 +86,18 @@ fn push_alone(alloc: Global, groups: &mut Vec<Group>, reason: &Reason) -> Result
     Ok(())
 }
 
-/// Puts a reason to the group at a place, or at the end as one of its own.
-fn join_at(
-    alloc: Global,
-    groups: &mut Vec<Group>,
-    found: Option<usize>,
-    reason: &Reason,
-) -> Result<(), NoMemory>
-    requires { IfSome found (λ place. place < length groups.old.items) }
-    ensures { OnOk result (groups.new.items ≡ joined_at found groups.old.items reason.now) }
+/// Puts a reason to the group with its words, or at the end as one of its own.
+#[tactic(auto, using(crate::proofs::GroupLemmas::joined_by))]
+fn join(alloc: Global, groups: &mut Vec<Group>, reason: &Reason) -> Result<(), NoMemory>
+    ensures { OnOk result (groups.new.items ≡ joined groups.old.items reason.now) }
 {
-    match found {
+    match place_of(groups.as_slice(), reason.words.slice()) {
         Some(place) => grow(groups, place, reason),
         None => push_alone(alloc, groups, reason),
     }
 }
 
-/// Puts a reason to the group with its words, or at the end as one of its own.
-#[tactic(auto, using(crate::proofs::GroupLemmas::place_there, crate::proofs::GroupLemmas::joined_by))]
-fn join(alloc: Global, groups: &mut Vec<Group>, reason: &Reason) -> Result<(), NoMemory>
-    ensures { OnOk result (groups.new.items ≡ joined groups.old.items reason.now) }
-{
-    let found = place_of(groups.as_slice(), reason.words.slice());
-    join_at(alloc, groups, found, reason)?;
-    Ok(())
-}
-
 /// The groups of reasons.
-#[tactic(auto, using(crate::proofs::GroupLemmas::groups_more))]
 pub(crate) fn groups_of(alloc: Global, reasons: &[Reason]) -> Result<Vec<Group>, NoMemory>
     ensures { IfOk result (λ groups. groups.items ≡ groups_of reasons.now) }
 {
@@ -130,16 +106,4 @@ pub(crate) fn groups_of(alloc: Global, reasons: &[Reason]) -> Result<Vec<Group>,
         join(alloc, &mut groups, reason)?;
     }
     Ok(groups)
-}
-
-/// All spans of a group, from the last one on.
-pub(crate) fn group_spans(alloc: Global, group: &Group) -> Result<Vec<Span>, NoMemory>
-    ensures { IfOk result (λ spans. spans.items ≡ group_spans group.now) }
-{
-    let mut spans = Vec::from_slice(alloc, group.closed.slice())?;
-    spans.push(Span {
-        from: group.from,
-        to: group.to,
-    })?;
-    Ok(spans)
 }

@@ -1,9 +1,9 @@
 //! The first line of a block.
-ghost use Rattle.std.specs.Prelude.{◌≡◌, ◌<◌, ◌≤◌, ◌+◌, ◌^◌, ◌++◌, length, map, All, IfOk, OnOk, option_map};
+ghost use Rattle.std.specs.Prelude.{◌≡◌, ◌<◌, ◌≤◌, ◌+◌, ◌-◌, ◌^◌, ◌++◌, length, map, All, IfOk, OnOk, option_map};
 ghost use Rattle.bs_net.specs.Netlist.{circuit};
 ghost use Rattle.bs_net_names.specs.Signals.{signal_in};
 ghost use Rattle.bs_inspect_why_words.specs.Blocks.{Appends};
-ghost use Rattle.bs_inspect_why_words.specs.Heads.{AreBefore, at_words, before_count, before_words, episode_in, found_moment, from_words, head_line, hit_moment, moment_words, since_words, step_moment, steps_words, TellsHead, TellsHeadOf, value_behind, values_words};
+ghost use Rattle.bs_inspect_why_words.specs.Heads.{AreBefore, at_words, before_count, before_words, episode_in, head_line, hit_moment, moment_words, since_words, step_moment, steps_words, TellsHead, TellsHeadOf, value_behind, values_words};
 
 use crate::episode::Episode;
 use crate::key::{fact_bits, fact_signals};
@@ -42,17 +42,6 @@ fn push_step(text: &mut Vec<u8>, step: Option<&Step>) -> Result<(), NoMemory>
     }
 }
 
-/// Appends where a state of a backtrace comes from.
-fn push_found(text: &mut Vec<u8>, report: &Report, i: usize) -> Result<(), NoMemory>
-    requires { i + 1 < 2 ^ 64 }
-    ensures { OnOk result (text.new.items ≡ text.old.items ++ found_moment report.now i) }
-{
-    if report.states.len() <= i + 1 {
-        return push_piece(text, b" (dump)");
-    }
-    push_step(text, member(&report.steps, report.states.len() - 2 - i))
-}
-
 /// Appends where a state of the trace comes from.
 fn push_moment(text: &mut Vec<u8>, report: &Report, i: usize) -> Result<(), NoMemory>
     requires { i + 1 < 2 ^ 64 }
@@ -61,7 +50,10 @@ fn push_moment(text: &mut Vec<u8>, report: &Report, i: usize) -> Result<(), NoMe
     if is_execution(report) {
         return Ok(());
     }
-    push_found(text, report, i)
+    if report.states.len() <= i + 1 {
+        return push_piece(text, b" (dump)");
+    }
+    push_step(text, member(&report.steps, report.states.len() - 2 - i))
 }
 
 /// Appends since when bits stand.
@@ -89,7 +81,6 @@ fn push_value_behind(text: &mut Vec<u8>, bits: &Bits, signal: &Signal<'_>) -> Re
 }
 
 /// Appends the values of signals.
-#[tactic(auto, using(crate::proofs::StepLemmas::signals_more))]
 fn push_values(text: &mut Vec<u8>, bits: &Bits, signals: &[Signal<'_>]) -> Result<(), NoMemory>
     requires { All (λ s. length s.places < 2 ^ 32) signals.now }
     ensures { OnOk result (text.new.items ≡ text.old.items ++ values_words bits.now (map signal_in signals.now)) }
@@ -108,88 +99,50 @@ fn push_at(text: &mut Vec<u8>, cycle: u32) -> Result<(), NoMemory>
     push_number(text, u64::from(cycle))
 }
 
-/// Appends the first value of a chain, and its cycle.
-fn push_steps(
-    text: &mut Vec<u8>,
+/// What the line of a block, or of a chain of so many steps, tells of its signals: their bits, and the bits before a cycle.
+#[derive(Clone, Copy)]
+struct Change<'a> {
     steps: usize,
-    signals: &[Signal<'_>],
-    befores: &Bits,
-    cycle: u32,
-) -> Result<(), NoMemory>
-    requires { All (λ s. length s.places < 2 ^ 32) signals.now }
-    ensures { OnOk result (text.new.items ≡ text.old.items ++ steps_words steps (map signal_in signals.now) befores.now cycle) }
+    signals: &'a [Signal<'a>],
+    bits: &'a Bits,
+    befores: &'a Bits,
+    since: u32,
+}
+
+/// Appends the first value of a chain, and its cycle.
+fn push_steps(text: &mut Vec<u8>, change: &Change<'_>) -> Result<(), NoMemory>
+    requires narrow { All (λ s. length s.places < 2 ^ 32) change.now.signals.now }
+    requires since { 0 < change.now.since }
+    ensures { OnOk result (text.new.items ≡ text.old.items ++ steps_words change.now.steps (map signal_in change.now.signals.now) change.now.befores.now (change.now.since - 1)) }
 {
     push_piece(text, b", in ")?;
-    push_number(text, steps as u64)?;
+    push_number(text, change.steps as u64)?;
     push_piece(text, b" steps from")?;
-    push_values(text, befores, signals)?;
-    push_at(text, cycle)?;
+    push_values(text, change.befores, change.signals)?;
+    push_at(text, change.since - 1)?;
     Ok(())
 }
 
-/// Appends the first value of a chain of so many steps, or the value before.
-fn push_from(
-    text: &mut Vec<u8>,
-    steps: usize,
-    signals: &[Signal<'_>],
-    bits: &Bits,
-    befores: &Bits,
-    since: u32,
-) -> Result<(), NoMemory>
-    requires narrow { All (λ s. length s.places < 2 ^ 32) signals.now }
-    requires since { 0 < since }
-    ensures { OnOk result (text.new.items ≡ text.old.items ++ from_words steps (map signal_in signals.now) bits.now befores.now since) }
+/// Appends what bits were before, where there is a before.
+fn push_before(text: &mut Vec<u8>, change: &Change<'_>) -> Result<(), NoMemory>
+    requires { All (λ s. length s.places < 2 ^ 32) change.now.signals.now }
+    ensures { OnOk result (text.new.items ≡ text.old.items ++ before_words change.now.steps (map signal_in change.now.signals.now) change.now.bits.now change.now.befores.now change.now.since) }
 {
-    if 1 < steps {
-        return push_steps(text, steps, signals, befores, since - 1);
+    if change.since == 0 {
+        return Ok(());
     }
-    if befores.equals(bits) {
+    if 1 < change.steps {
+        return push_steps(text, change);
+    }
+    if change.befores.equals(change.bits) {
         return push_piece(text, b", as before");
     }
     push_piece(text, b", before")?;
-    push_values(text, befores, signals)
-}
-
-/// Appends what bits were before, where there is a before.
-fn push_before(
-    text: &mut Vec<u8>,
-    steps: usize,
-    signals: &[Signal<'_>],
-    bits: &Bits,
-    befores: &Bits,
-    since: u32,
-) -> Result<(), NoMemory>
-    requires { All (λ s. length s.places < 2 ^ 32) signals.now }
-    ensures { OnOk result (text.new.items ≡ text.old.items ++ before_words steps (map signal_in signals.now) bits.now befores.now since) }
-{
-    if since == 0 {
-        return Ok(());
-    }
-    push_from(text, steps, signals, bits, befores, since)
-}
-
-/// The bits of nets in the cycle before one.
-#[tactic(auto, using(crate::proofs::HeadLemmas::befores_begin, crate::proofs::HeadLemmas::befores_more, crate::proofs::HeadLemmas::net_here))]
-fn some_before(
-    alloc: Global,
-    moments: &Moments<'_>,
-    facts: &[Fact],
-    since: u32,
-) -> Result<Bits, NoMemory>
-    requires placed { All (λ f. f.net.0 < (circuit moments.now.net).nets) facts.now }
-    requires some { 0 < since }
-    requires in_time { since ≤ length moments.now.inputs }
-    ensures { IfOk result (λ befores. AreBefore (circuit moments.now.net) moments.now.states moments.now.inputs facts.now since (length facts.now) befores) }
-{
-    let mut befores = Bits::new(alloc);
-    'facts: for i in 0..facts.len() {
-        befores.push(known_bit(moments, facts[i].net, since - 1))?;
-    }
-    Ok(befores)
+    push_values(text, change.befores, change.signals)
 }
 
 /// The bits of nets in the cycle before one, where there is such a one.
-#[tactic(auto, using(crate::proofs::HeadLemmas::befores_none, crate::proofs::HeadLemmas::befores_all))]
+#[tactic(auto, using(crate::proofs::HeadLemmas::befores_begin, crate::proofs::HeadLemmas::befores_more, crate::proofs::HeadLemmas::net_here, crate::proofs::HeadLemmas::befores_none, crate::proofs::HeadLemmas::befores_all))]
 fn bits_before(
     alloc: Global,
     moments: &Moments<'_>,
@@ -200,10 +153,13 @@ fn bits_before(
     requires in_time { since ≤ length moments.now.inputs }
     ensures { IfOk result (λ befores. AreBefore (circuit moments.now.net) moments.now.states moments.now.inputs facts.now since (before_count since facts.now) befores) }
 {
+    let mut befores = Bits::new(alloc);
     if since == 0 {
-        return Ok(Bits::new(alloc));
+        return Ok(befores);
     }
-    let befores = some_before(alloc, moments, facts, since)?;
+    'facts: for i in 0..facts.len() {
+        befores.push(known_bit(moments, facts[i].net, since - 1))?;
+    }
     Ok(befores)
 }
 
@@ -211,23 +167,20 @@ fn bits_before(
 fn push_line_with(
     text: &mut Vec<u8>,
     report: &Report,
-    steps: usize,
-    signals: &[Signal<'_>],
-    bits: &Bits,
-    befores: &Bits,
     first: &Episode<'_>,
-    since: u32,
+    change: &Change<'_>,
 ) -> Result<(), NoMemory>
-    requires { All (λ s. length s.places < 2 ^ 32) signals.now }
-    ensures { OnOk result (text.new.items ≡ text.old.items ++ head_line report.now steps (map signal_in signals.now) bits.now befores.now (episode_in first.now) since) }
+    requires { All (λ s. length s.places < 2 ^ 32) change.now.signals.now }
+    ensures { OnOk result (text.new.items ≡ text.old.items ++ head_line report.now change.now.steps (map signal_in change.now.signals.now) change.now.bits.now change.now.befores.now (episode_in first.now) change.now.since) }
 {
     push_number(text, u64::from(first.at))?;
     push_piece(text, b" ")?;
-    push_signals(text, bits, signals)?;
+    push_signals(text, change.bits, change.signals)?;
     push_since(text, first)?;
-    push_before(text, steps, signals, bits, befores, since)?;
+    push_before(text, change)?;
     push_moment(text, report, first.at as usize)?;
-    end_line(text)
+    end_line(text)?;
+    Ok(())
 }
 
 /// Appends the line of a block by its signals.
@@ -248,9 +201,14 @@ fn push_head_of(
 {
     let befores = bits_before(*text.allocator(), moments, last.bits, last.since)?;
     let bits = fact_bits(*text.allocator(), first.bits)?;
-    push_line_with(
-        text, report, steps, signals, &bits, &befores, first, last.since,
-    )?;
+    let change = Change {
+        steps,
+        signals,
+        bits: &bits,
+        befores: &befores,
+        since: last.since,
+    };
+    push_line_with(text, report, first, &change)?;
     Ok(())
 }
 

@@ -24,7 +24,6 @@ pub fn key_of(raw: &Raw, net: NetId) -> &str
 }
 
 /// The keys of the nets of facts.
-#[tactic(auto, using(crate::proofs::KeyLemmas::keys_more))]
 fn fact_keys<'a>(alloc: Global, raw: &'a Raw, facts: &[Fact]) -> Result<Vec<&'a str>, NoMemory>
     ensures { IfOk result (λ keys. map (λ s. s.now) keys.items ≡ fact_keys (parts_of raw.now) facts.now) }
 {
@@ -47,17 +46,19 @@ pub(crate) fn fact_bits(alloc: Global, facts: &[Fact]) -> Result<Bits, NoMemory>
     Ok(bits)
 }
 
-/// The signals of all keys.
+/// The signals of all keys. More than can be numbered are answered as out of memory.
 fn all_signals<'a>(alloc: Global, keys: &[&'a str]) -> Result<Vec<Signal<'a>>, NoMemory>
-    requires { length keys.now < 2 ^ 32 }
     ensures are { IfOk result (λ signals. AreSignals [] (map (λ s. s.now) keys.now) (map signal_in signals.items)) }
     ensures narrow { IfOk result (λ signals. All (λ s. length s.places < 2 ^ 32) signals.items) }
 {
+    if keys.len() > u32::MAX as usize {
+        return Err(NoMemory);
+    }
     let signals = signals(alloc, keys, &[])?;
     Ok(signals)
 }
 
-/// The signals of the nets of facts. More than can be numbered are answered as out of memory.
+/// The signals of the nets of facts.
 #[tactic(auto, using(crate::proofs::KeyLemmas::signals_are))]
 pub(crate) fn fact_signals<'a>(
     alloc: Global,
@@ -68,9 +69,6 @@ pub(crate) fn fact_signals<'a>(
     ensures narrow { IfOk result (λ signals. All (λ s. length s.places < 2 ^ 32) signals.items) }
 {
     let keys = fact_keys(alloc, raw, facts)?;
-    if keys.len() > u32::MAX as usize {
-        return Err(NoMemory);
-    }
     let signals = all_signals(alloc, keys.as_slice())?;
     Ok(signals)
 }

@@ -32,7 +32,7 @@ fn reason_of(alloc: Global, raw: &Raw, facts: &[Fact], most: usize) -> Result<Re
 }
 
 /// What is told of each stretch, from the last one on.
-#[tactic(auto, using(crate::proofs::ReasonLemmas::reasons_begin, crate::proofs::ReasonLemmas::reasons_more))]
+#[tactic(auto, using(crate::proofs::ReasonLemmas::reasons_begin))]
 fn reasons_by(
     alloc: Global,
     raw: &Raw,

@@ -2,7 +2,7 @@
 ghost use Rattle.std.specs.Prelude.{◌≡◌, length, map, IfOk, slice_index_or};
 ghost use Rattle.std.specs.List.Sorted.{IsPermutation, IsSorted};
 ghost use Rattle.bs_net_names.specs.Signals.{signal_in};
-ghost use Rattle.bs_inspect_why_words.specs.Rows.{AreRows, later, latest, row_cmp, rows_of};
+ghost use Rattle.bs_inspect_why_words.specs.Rows.{latest, row_cmp, rows_of};
 
 use bs_bits::NoMemory;
 use bs_net_names::Signal;
@@ -28,14 +28,6 @@ fn age_at(ages: &[u32], place: u32) -> u32
     }
 }
 
-/// The later of a cycle and that at a place.
-#[tactic(auto, using(crate::proofs::RowLemmas::later_is))]
-fn later(ages: &[u32], cycle: u32, place: u32) -> u32
-    ensures { result ≡ later ages.now cycle place }
-{
-    cycle.max(age_at(ages, place))
-}
-
 /// The latest of the cycles at some places.
 #[tactic(auto, using(crate::proofs::RowLemmas::latest_more))]
 fn latest(ages: &[u32], places: &[u32]) -> u32
@@ -43,14 +35,18 @@ fn latest(ages: &[u32], places: &[u32]) -> u32
 {
     let mut cycle = 0;
     'places: for place in places {
-        cycle = later(ages, cycle, *place);
+        cycle = cycle.max(age_at(ages, *place));
     }
     cycle
 }
 
 /// The signals with their last changes.
 #[tactic(auto, using(crate::proofs::RowLemmas::rows_more))]
-fn rows_of(alloc: Global, ages: &[u32], signals: &[Signal<'_>]) -> Result<Vec<Row>, NoMemory>
+pub(crate) fn rows_of(
+    alloc: Global,
+    ages: &[u32],
+    signals: &[Signal<'_>],
+) -> Result<Vec<Row>, NoMemory>
     ensures { IfOk result (λ rows. rows.items ≡ rows_of ages.now (map signal_in signals.now) (length signals.now)) }
 {
     let mut rows = Vec::new(alloc);
@@ -64,25 +60,11 @@ fn rows_of(alloc: Global, ages: &[u32], signals: &[Signal<'_>]) -> Result<Vec<Ro
 }
 
 /// Rows in order.
-fn ordered(rows: Vec<Row>) -> Result<Vec<Row>, NoMemory>
+pub(crate) fn ordered(rows: Vec<Row>) -> Result<Vec<Row>, NoMemory>
     ensures same { IfOk result (λ ordered. IsPermutation rows.items ordered.items) }
     ensures sorted { IfOk result (λ ordered. IsSorted row_cmp ordered.items) }
 {
     let mut rows = rows;
     rows.sort_by_key(|r| (Reverse(r.since), r.place))?;
     Ok(rows)
-}
-
-/// The signals, the last change first.
-#[tactic(auto, using(crate::proofs::RowLemmas::rows_are))]
-pub(crate) fn newest_rows(
-    alloc: Global,
-    ages: &[u32],
-    signals: &[Signal<'_>],
-) -> Result<Vec<Row>, NoMemory>
-    ensures { IfOk result (λ rows. AreRows ages.now (map signal_in signals.now) rows.items) }
-{
-    let rows = rows_of(alloc, ages, signals)?;
-    let ordered = ordered(rows)?;
-    Ok(ordered)
 }

@@ -1,11 +1,12 @@
 //! The lines of groups.
-ghost use Rattle.std.specs.Prelude.{◌≡◌, ◌-◌, ◌++◌, IfOk, OnOk};
+ghost use Rattle.std.specs.Prelude.{◌≡◌, ◌-◌, ◌++◌, [], nat_lt, IfOk, OnOk, if◌then◌else◌};
 ghost use Rattle.std.specs.List.{flat_map};
 ghost use Rattle.bs_net.specs.Netlist.{parts_of};
 ghost use Rattle.bs_inspect_why_words.specs.Blocks.{Appends};
-ghost use Rattle.bs_inspect_why_words.specs.Groups.{end_words, group_line, groups_lines, rest_line, span_words, spans_words, AreGroups, TellsGroups};
+ghost use Rattle.bs_inspect_why_words.specs.Groups.{end_words, group_line, group_spans, groups_lines, rest_line, span_words, spans_words, AreGroups, TellsGroups};
 
-use crate::group::{Group, Span, group_spans, groups_of};
+use crate::group::{Group, Span, groups_of};
+use crate::limits::Limits;
 use crate::reason::reasons;
 use crate::words::{first_of, push_more};
 use bs_bits::{NoMemory, end_line, push_number, push_piece};
@@ -35,7 +36,6 @@ fn push_span(text: &mut Vec<u8>, span: Span) -> Result<(), NoMemory>
 }
 
 /// Appends spans.
-#[tactic(auto, using(crate::proofs::StepLemmas::step_more))]
 fn push_all_spans(text: &mut Vec<u8>, spans: &[Span]) -> Result<(), NoMemory>
     ensures { OnOk result (text.new.items ≡ text.old.items ++ flat_map span_words spans.now) }
 {
@@ -45,28 +45,45 @@ fn push_all_spans(text: &mut Vec<u8>, spans: &[Span]) -> Result<(), NoMemory>
     Ok(())
 }
 
-/// Appends the first spans, and how many more there are.
-fn push_spans(text: &mut Vec<u8>, most: usize, spans: &[Span]) -> Result<(), NoMemory>
-    ensures { OnOk result (text.new.items ≡ text.old.items ++ spans_words most spans.now) }
+/// Appends the last span of a group behind so many closed ones, unless enough are told.
+fn push_last(text: &mut Vec<u8>, most: usize, closed: usize, span: Span) -> Result<(), NoMemory>
+    ensures { OnOk result (text.new.items ≡ text.old.items ++ (if nat_lt closed most then span_words span else [])) }
 {
-    push_all_spans(text, first_of(spans, most))?;
-    push_more(text, spans.len().saturating_sub(most))
+    if closed < most {
+        push_span(text, span)
+    } else {
+        Ok(())
+    }
+}
+
+/// Appends the first spans of a group, and how many more there are.
+#[tactic(auto, using(crate::proofs::SpanLemmas::spans_told))]
+fn push_spans(text: &mut Vec<u8>, most: usize, group: &Group) -> Result<(), NoMemory>
+    ensures { OnOk result (text.new.items ≡ text.old.items ++ spans_words most (group_spans group.now)) }
+{
+    let closed = group.closed.slice();
+    let last = Span {
+        from: group.from,
+        to: group.to,
+    };
+    push_all_spans(text, first_of(closed, most))?;
+    push_last(text, most, closed.len(), last)?;
+    push_more(text, (closed.len() + 1).saturating_sub(most))?;
+    Ok(())
 }
 
 /// Appends the line of a group.
 fn push_group(text: &mut Vec<u8>, lead: &[u8], most: usize, group: &Group) -> Result<(), NoMemory>
     ensures { OnOk result (text.new.items ≡ text.old.items ++ group_line lead.now most group.now) }
 {
-    let spans = group_spans(*text.allocator(), group)?;
     push_piece(text, lead)?;
     push_piece(text, group.words.slice())?;
     push_piece(text, b" ")?;
-    push_spans(text, most, spans.as_slice())?;
+    push_spans(text, most, group)?;
     end_line(text)
 }
 
 /// Appends the lines of groups.
-#[tactic(auto, using(crate::proofs::StepLemmas::step_more))]
 fn push_all_groups(
     text: &mut Vec<u8>,
     lead: &[u8],
@@ -123,20 +140,19 @@ fn fact_groups(
     Ok(groups)
 }
 
-/// Appends the lines of facts, which are told by cycles.
+/// Appends the lines of facts, so many of each cycle, which are told by cycles.
 #[tactic(auto, using(crate::proofs::SpanLemmas::groups_told))]
 pub(crate) fn push_by_cycles(
     text: &mut Vec<u8>,
     raw: &Raw,
     lead: &[u8],
-    facts_most: usize,
+    limits: Limits,
     most: usize,
-    spans: usize,
     facts: &[Fact],
 ) -> Result<(), NoMemory>
-    ensures { OnOk result (Appends (TellsGroups (parts_of raw.now) lead.now facts_most most spans facts.now) text.old.items text.new.items) }
+    ensures { OnOk result (Appends (TellsGroups (parts_of raw.now) lead.now most limits.reasons limits.spans facts.now) text.old.items text.new.items) }
 {
-    let groups = fact_groups(*text.allocator(), raw, facts, facts_most)?;
-    push_groups(text, lead, most, spans, groups.as_slice())?;
+    let groups = fact_groups(*text.allocator(), raw, facts, most)?;
+    push_groups(text, lead, limits.reasons, limits.spans, groups.as_slice())?;
     Ok(())
 }

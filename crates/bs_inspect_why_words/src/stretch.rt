@@ -1,6 +1,6 @@
 //! Facts that stand behind one another and are of one cycle.
 ghost use Rattle.std.specs.Prelude.{◌≡◌, ◌<◌, ◌++◌, length, IfOk, OnOk, slice_index_or};
-ghost use Rattle.bs_inspect_why_words.specs.Stretches.{cut, cycle_at, is_start, start_at, starts, stretch_at, stretch_back};
+ghost use Rattle.bs_inspect_why_words.specs.Stretches.{cut, cycle_at, is_start, start_at, starts, stretch_back};
 
 use bs_bits::NoMemory;
 use bs_net_facts::Fact;
@@ -69,22 +69,15 @@ fn number_at(numbers: &[usize], place: usize, other: usize) -> usize
     }
 }
 
-/// The stretch with a number.
-fn stretch_at<'a>(facts: &'a [Fact], begins: &[usize], number: usize) -> &'a [Fact]
-    requires { number < length begins.now }
-    ensures { result.now ≡ stretch_at facts.now begins.now number }
-{
-    cut(
-        number_at(begins, number, 0),
-        number_at(begins, number + 1, facts.len()),
-        facts,
-    )
-}
-
 /// The stretch with a number from the end.
 pub(crate) fn stretch_back<'a>(facts: &'a [Fact], begins: &[usize], number: usize) -> &'a [Fact]
     requires { number < length begins.now }
     ensures { result.now ≡ stretch_back facts.now begins.now number }
 {
-    stretch_at(facts, begins, begins.len() - (number + 1))
+    let place = begins.len() - (number + 1);
+    cut(
+        number_at(begins, place, 0),
+        number_at(begins, place + 1, facts.len()),
+        facts,
+    )
 }

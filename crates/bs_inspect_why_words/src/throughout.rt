@@ -23,7 +23,6 @@ fn push_still(text: &mut Vec<u8>, reason: &Reason) -> Result<(), NoMemory>
 }
 
 /// Appends the lines of facts that stand since several cycles.
-#[tactic(auto, using(crate::proofs::StepLemmas::step_more))]
 fn push_all_stills(text: &mut Vec<u8>, reasons: &[Reason]) -> Result<(), NoMemory>
     ensures { OnOk result (text.new.items ≡ text.old.items ++ flat_map still_line reasons.now) }
 {

@@ -1,9 +1,8 @@
 //! Signals and their values in words.
-ghost use Rattle.std.specs.Prelude.{◌≡◌, ◌<◌, ◌-◌, ◌^◌, ◌++◌, length, map, take, All, IfOk, OnOk};
-ghost use Rattle.std.specs.List.{flat_map};
+ghost use Rattle.std.specs.Prelude.{◌≡◌, ◌<◌, ◌-◌, ◌^◌, ◌==◌, [], ◌++◌, codes, length, map, take, All, IfOk, OnOk, if◌then◌else◌};
 ghost use Rattle.bs_net.specs.Netlist.{parts_of};
 ghost use Rattle.bs_net_names.specs.Signals.{signal_in};
-ghost use Rattle.bs_inspect_why_words.specs.Facts.{behind_words, fact_bits, more_words, signal_words, signals_words, TellsFacts, TellsFirst};
+ghost use Rattle.bs_inspect_why_words.specs.Facts.{fact_bits, more_words, signal_words, signals_words, TellsFacts, TellsFirst};
 
 use crate::key::{fact_bits, fact_signals};
 use bs_bits::{Bits, List, NoMemory, push_number, push_piece};
@@ -27,29 +26,19 @@ pub(crate) fn push_signal(
     push_signal_value(text, bits, signal.places.slice())
 }
 
-/// Appends a signal behind another.
-fn push_behind(text: &mut Vec<u8>, bits: &Bits, signal: &Signal<'_>) -> Result<(), NoMemory>
-    requires { length signal.now.places < 2 ^ 32 }
-    ensures { OnOk result (text.new.items ≡ text.old.items ++ behind_words bits.now (signal_in signal.now)) }
+/// Appends what stands before the member of a list at a place.
+pub(crate) fn push_comma(text: &mut Vec<u8>, place: usize) -> Result<(), NoMemory>
+    ensures { OnOk result (text.new.items ≡ text.old.items ++ (if place == 0 then [] else codes ", ")) }
 {
-    push_piece(text, b", ")?;
-    push_signal(text, bits, signal)
-}
-
-/// Appends signals behind another.
-#[tactic(auto, using(crate::proofs::StepLemmas::signals_more))]
-fn push_others(text: &mut Vec<u8>, bits: &Bits, signals: &[Signal<'_>]) -> Result<(), NoMemory>
-    requires { All (λ s. length s.places < 2 ^ 32) signals.now }
-    ensures { OnOk result (text.new.items ≡ text.old.items ++ flat_map (behind_words bits.now) (map signal_in signals.now)) }
-{
-    'signals: for signal in signals {
-        push_behind(text, bits, signal)?;
+    if place == 0 {
+        Ok(())
+    } else {
+        push_piece(text, b", ")
     }
-    Ok(())
 }
 
 /// Appends signals, one behind another.
-#[tactic(auto, using(crate::proofs::WordLemmas::narrow_first, crate::proofs::WordLemmas::narrow_rest))]
+#[tactic(auto, using(crate::proofs::WordLemmas::narrow_here))]
 pub(crate) fn push_signals(
     text: &mut Vec<u8>,
     bits: &Bits,
@@ -58,13 +47,12 @@ pub(crate) fn push_signals(
     requires { All (λ s. length s.places < 2 ^ 32) signals.now }
     ensures { OnOk result (text.new.items ≡ text.old.items ++ signals_words bits.now (map signal_in signals.now)) }
 {
-    match signals {
-        [] => Ok(()),
-        [first, rest @ ..] => {
-            push_signal(text, bits, first)?;
-            push_others(text, bits, rest)
-        }
+    'signals: for i in 0..signals.len() {
+        let signal = &signals[i];
+        push_comma(text, i)?;
+        push_signal(text, bits, signal)?;
     }
+    Ok(())
 }
 
 /// Appends how many more there are.

@@ -14,7 +14,7 @@ use Rattle.bs_inspect_words.specs.declared.request.Request.{Request as CodeReque
 use Rattle.bs_inspect_words.specs.Asked.{shown_request}
 use Rattle.bs_inspect_words.specs.Request.{LengthsRequest, lengths_behind, lengths_words}
 use Rattle.bs_inspect_words.specs.Request.{EvidenceRequest, Cnf, Lrat, cnf_request, evidence_words, lrat_request}
-use Rattle.bs_inspect_words.specs.Request.{Request, Keys, Stimulus, are_runs, bare, from_of, keys_of, keys_request, name_of, only_name, stimulus_for, trace_flags, trace_of}
+use Rattle.bs_inspect_words.specs.Request.{Request, Check, Keys, Stimulus, are_runs, bare, check_for, from_of, keys_of, keys_request, name_of, only_name, stimulus_for, trace_flags, trace_of}
 use Rattle.bs_inspect_words.specs.Request.{trace_words, unscan_of, unscan_request, wave_flags, wave_of, wave_words, drawn_most, page_flags, page_of, page_words}
 use Rattle.bs_inspect_words.specs.Settings.{fit, is_given, value_of, values_of}
 
@@ -102,6 +102,17 @@ runs_there netlist vcds copy clock scope names are is =
 pub runs_none : (netlist : List ℕ) (vcds : Words) (clock : List ℕ) (scope names : Option (List ℕ)) → are_runs vcds ≡ false →
     None ≡ stimulus_for netlist vcds clock scope names
 runs_none netlist vcds clock scope names not = sym (rw not refl)
+
+-- what `check` asks of files of values, where there are not too many
+pub beside_there : (netlist runs : List ℕ) (vcds copy : Words) (clock scope names : Option (List ℕ)) → are_runs vcds ≡ true → copy ≡ vcds →
+    Some (Check record { netlist = netlist; runs = runs; vcds = copy; clock = clock; scope = scope; names = names })
+    ≡ check_for netlist runs vcds clock scope names
+beside_there netlist runs vcds copy clock scope names are is =
+    ap (λ (vs : Words). Some (Check record { netlist = netlist; runs = runs; vcds = vs; clock = clock; scope = scope; names = names })) is ∙ sym (rw are refl)
+
+pub beside_none : (netlist runs : List ℕ) (vcds : Words) (clock scope names : Option (List ℕ)) → are_runs vcds ≡ false →
+    None ≡ check_for netlist runs vcds clock scope names
+beside_none netlist runs vcds clock scope names not = sym (rw not refl)
 
 -- ---- lengths of an answer
 

@@ -6,6 +6,7 @@ use Rattle.bs_inspect_words.specs.declared.request.TraceRequest.{TraceRequest as
 use Rattle.bs_inspect_words.specs.declared.request.WaveRequest.{WaveRequest as CodeWaveRequest}
 use Rattle.bs_inspect_words.specs.declared.request.StimulusRequest.{StimulusRequest as CodeStimulusRequest}
 use Rattle.bs_inspect_words.specs.declared.request.DumpRequest.{DumpRequest as CodeDumpRequest}
+use Rattle.bs_inspect_words.specs.declared.request.CheckRequest.{CheckRequest as CodeCheckRequest}
 use Rattle.bs_inspect_words.specs.declared.request.UnscanRequest.{UnscanRequest as CodeUnscanRequest}
 use Rattle.bs_inspect_words.specs.declared.paged.PageRequest.{PageRequest as CodePageRequest}
 use Rattle.bs_inspect_words.specs.declared.proposed.NovelRequest.{NovelRequest as CodeNovelRequest}
@@ -15,8 +16,8 @@ use Rattle.bs_inspect_words.specs.declared.request.EvidenceRequest.{EvidenceRequ
 use Rattle.bs_inspect_words.specs.declared.request.LengthsRequest.{LengthsRequest as CodeLengthsRequest}
 use Rattle.bs_inspect_words.specs.declared.request.Request.{Request as CodeRequest}
 use Rattle.bs_inspect_words.specs.declared.request.Request.TheVariants as R
-use Rattle.bs_inspect_words.specs.Request.{KeysRequest, TraceRequest, WaveRequest, StimulusRequest, DumpRequest, SignatureRequest, UnscanRequest, EvidenceRequest, LengthsRequest, PageRequest, NovelRequest, Request, WhyRequest}
-use Rattle.bs_inspect_words.specs.Request.{Help, Version, Flops, Inputs, Stats, Keys, Trace, TraceTable, Steps, StepsTable, Wave, Stimulus, Dump, Signature, Unscan, Cnf, Lrat, ReachCnf, ReachLrat, Page, Novel, Why}
+use Rattle.bs_inspect_words.specs.Request.{KeysRequest, TraceRequest, WaveRequest, StimulusRequest, CheckRequest, DumpRequest, SignatureRequest, UnscanRequest, EvidenceRequest, LengthsRequest, PageRequest, NovelRequest, Request, WhyRequest}
+use Rattle.bs_inspect_words.specs.Request.{Help, Version, Flops, Inputs, Stats, Keys, Trace, TraceTable, Steps, StepsTable, Wave, Stimulus, Check, Dump, Signature, Unscan, Cnf, Lrat, ReachCnf, ReachLrat, Page, Novel, Why}
 
 abbrev pub keys_in : CodeKeysRequest → KeysRequest
 keys_in t = record { netlist = t.netlist.now; names = map (λ s. s.now) t.names.items }
@@ -45,6 +46,16 @@ dump_in t = record {
   scope = option_map (λ s. s.now) t.scope;
   names = option_map (λ s. s.now) t.names;
   signature = option_map (λ s. s.now) t.signature;
+}
+
+abbrev pub check_in : CodeCheckRequest → CheckRequest
+check_in t = record {
+  netlist = t.netlist.now;
+  runs = t.runs.now;
+  vcds = map (λ s. s.now) t.vcds.items;
+  clock = option_map (λ s. s.now) t.clock;
+  scope = option_map (λ s. s.now) t.scope;
+  names = option_map (λ s. s.now) t.names;
 }
 
 abbrev pub signature_in : CodeSignatureRequest → SignatureRequest
@@ -97,6 +108,7 @@ request_in (R.StepsTable report) = StepsTable report.now
 request_in (R.Wave t) = Wave (wave_in t)
 request_in (R.Stimulus t) = Stimulus (stimulus_in t)
 request_in (R.Dump t) = Dump (dump_in t)
+request_in (R.Check t) = Check (check_in t)
 request_in (R.Signature t) = Signature (signature_in t)
 request_in (R.Unscan t) = Unscan (unscan_in t)
 request_in (R.Cnf t) = Cnf (evidence_in t)

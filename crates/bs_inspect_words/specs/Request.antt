@@ -66,6 +66,15 @@ pub record DumpRequest : Type 0 where
   pub names : Option (List ℕ)
   pub signature : Option (List ℕ)
 
+-- the files of `check`, one of values or more, with the file of names, where there is one; the clock and the scope, where they are given
+pub record CheckRequest : Type 0 where
+  pub netlist : List ℕ
+  pub runs : List ℕ
+  pub vcds : List (List ℕ)
+  pub clock : Option (List ℕ)
+  pub scope : Option (List ℕ)
+  pub names : Option (List ℕ)
+
 -- the files of `signature`, and how many items it is to have
 pub record SignatureRequest : Type 0 where
   pub netlist : List ℕ
@@ -126,6 +135,7 @@ pub data Request : Type 0 where
   Wave : WaveRequest → Request
   Stimulus : StimulusRequest → Request
   Dump : DumpRequest → Request
+  Check : CheckRequest → Request
   Signature : SignatureRequest → Request
   Unscan : UnscanRequest → Request
   Cnf : EvidenceRequest → Request
@@ -292,6 +302,26 @@ stimulus_words positions settings =
 
 abbrev pub stimulus_request : Given → Option Request
 stimulus_request given = stimulus_words given.positions given.settings
+
+abbrev pub check_for : (netlist runs : List ℕ) → (vcds : List (List ℕ)) → (clock scope names : Option (List ℕ)) → Option Request
+check_for netlist runs vcds clock scope names =
+    if are_runs vcds
+    then Some (Check record { netlist = netlist; runs = runs; vcds = vcds; clock = clock; scope = scope; names = names })
+    else None
+
+-- `check` has the names of a netlist and of recorded runs, and those of values
+abbrev pub check_of : List (List ℕ) → (clock scope names : Option (List ℕ)) → Option Request
+check_of (netlist ∷ runs ∷ vcds) clock scope names = check_for netlist runs vcds clock scope names
+check_of _ clock scope names = None
+
+abbrev pub check_words : List (List ℕ) → List Setting → Option Request
+check_words positions settings =
+    if fit stimulus_flags settings
+    then check_of positions (value_of F.Clock settings) (value_of F.Scope settings) (value_of F.Map settings)
+    else None
+
+abbrev pub check_request : Given → Option Request
+check_request given = check_words given.positions given.settings
 
 abbrev pub dump_flags : List Flag
 dump_flags = F.Time ∷ F.Cycle ∷ F.Clock ∷ F.Scope ∷ F.Map ∷ F.Signature ∷ []
@@ -537,9 +567,10 @@ command_request command given =
     if bytes_eq command (codes "trace") then trace_request given
     else (if bytes_eq command (codes "wave") then wave_request given
     else (if bytes_eq command (codes "stimulus") then stimulus_request given
+    else (if bytes_eq command (codes "check") then check_request given
     else (if bytes_eq command (codes "keys") then keys_request given
     else (if bytes_eq command (codes "page") then page_request given
-    else other_request command given))))
+    else other_request command given)))))
 
 -- the request of a command whose options stand anywhere behind it
 abbrev pub given_request : List ℕ → List (List ℕ) → Option Request

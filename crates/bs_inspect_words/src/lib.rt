@@ -4,7 +4,7 @@
 //! `signature`, `novel`, `evidence`, `lengths`, `page`, `why` (the commands; what the last two ask: `paged`, `causes`),
 //! `reading` (`read_request`). Words by position and
 //! options are parted by bs_top_words. Used above:
-//! `read_request` answers `request_of` (`specs/Request`). A command: a record and a variant of `Request` in code and
+//! `read_request` answers `request_of`, `given_words` `read_all all_flags` (`specs/Request`). A command: a record and a variant of `Request` in code and
 //! specs, its words in a module, and a line in `command_request` or its kin; an option: a variant of `Flag` (bs_top_words), and a
 //! place in `all_flags`.
 #![tactic(auto)]
@@ -29,8 +29,8 @@ pub use causes::{DEFAULT_DEPTH, MAX_DEPTH, WhyRequest};
 pub use novel::MAX_LINES;
 pub use paged::{DEFAULT_DRAWN, MAX_DRAWN, PageRequest};
 pub use proposed::{NovelRequest, SignatureRequest};
-pub use reading::read_request;
+pub use reading::{given_words, read_request};
 pub use request::{
-    DumpRequest, EvidenceRequest, KeysRequest, LengthsRequest, Request, StimulusRequest,
-    TraceRequest, UnscanRequest, WaveRequest,
+    CheckRequest, DumpRequest, EvidenceRequest, KeysRequest, LengthsRequest, Request,
+    StimulusRequest, TraceRequest, UnscanRequest, WaveRequest,
 };

@@ -16,7 +16,7 @@ use crate::page::page_request;
 use crate::report::{steps_request, trace_request, wave_request};
 use crate::request::Request;
 use crate::signature::signature_request;
-use crate::simulation::{dump_request, stimulus_request};
+use crate::simulation::{check_request, dump_request, stimulus_request};
 use crate::why::why_request;
 use bs_bits::NoMemory;
 use bs_top_words::{Flag, Given, read_given};
@@ -106,6 +106,9 @@ fn command_request<'a>(
     if command == "stimulus" {
         return stimulus_request(alloc, given);
     }
+    if command == "check" {
+        return check_request(alloc, given);
+    }
     if command == "keys" {
         return keys_request(alloc, given);
     }
@@ -115,8 +118,8 @@ fn command_request<'a>(
     Ok(other_request(command, given))
 }
 
-/// The words by position and the options.
-fn read_shown<'a>(alloc: Global, words: &'a [String]) -> Result<Option<Given<'a>>, NoMemory>
+/// The words by position and the options behind a command, where no option is misspelt or lacks its value.
+pub fn given_words<'a>(alloc: Global, words: &'a [String]) -> Result<Option<Given<'a>>, NoMemory>
     ensures { IfOk result (λ given. shown given ≡ read_all all_flags (map string_bytes words.now) start) }
 {
     let flags = [
@@ -149,7 +152,7 @@ fn given_request<'a>(
 ) -> Result<Option<Request<'a>>, NoMemory>
     ensures { IfOk result (λ request. shown_request request ≡ given_request command.now (map string_bytes words.now)) }
 {
-    let Some(given) = read_shown(alloc, words)? else {
+    let Some(given) = given_words(alloc, words)? else {
         return Ok(None);
     };
     let request = command_request(alloc, command, &given)?;

@@ -56,6 +56,18 @@ pub struct DumpRequest<'a> {
     pub signature: Option<&'a str>,
 }
 
+/// `check`: the names of its files, of which those of values are one or more; the name of the clock, the path of a scope and the file of
+/// the names that the flip-flops have in a simulation, where they are given.
+#[derive(Drop)]
+pub struct CheckRequest<'a> {
+    pub netlist: &'a str,
+    pub runs: &'a str,
+    pub vcds: Vec<&'a str>,
+    pub clock: Option<&'a str>,
+    pub scope: Option<&'a str>,
+    pub names: Option<&'a str>,
+}
+
 /// `unscan`: the names of its files, and the bits of a pattern.
 #[derive(Clone, Copy)]
 pub struct UnscanRequest<'a> {
@@ -112,6 +124,8 @@ pub enum Request<'a> {
     Stimulus(StimulusRequest<'a>),
     /// A dump out of the values of a simulator.
     Dump(DumpRequest<'a>),
+    /// Recorded runs beside the values of a simulator, a file for each run.
+    Check(CheckRequest<'a>),
     /// A signature that recorded runs propose.
     Signature(SignatureRequest<'a>),
     /// The state that a pattern of a scan chain is.

@@ -1,13 +1,13 @@
-//! The requests about the values of a simulator: `stimulus` and `dump`.
+//! The requests about the values of a simulator: `stimulus`, `check` and `dump`.
 ghost use Rattle.std.specs.Prelude.{◌≡◌, ◌∷◌, map, option_map, IfOk};
 ghost use Rattle.bs_bits.specs.Lines.{number_in};
 ghost use Rattle.bs_top_words.specs.Asked.{given_in, setting_of};
 ghost use Rattle.bs_inspect_words.specs.Asked.{shown_request};
 ghost use Rattle.bs_inspect_words.specs.Settings.{fit};
-ghost use Rattle.bs_inspect_words.specs.Request.{are_runs, at_cycle, at_time, dump_flags, dump_of, dump_options, dump_request, dump_words, stimulus_for, stimulus_of, stimulus_request, stimulus_words, when_of};
+ghost use Rattle.bs_inspect_words.specs.Request.{are_runs, at_cycle, at_time, check_for, check_of, check_request, check_words, dump_flags, dump_of, dump_options, dump_request, dump_words, stimulus_for, stimulus_of, stimulus_request, stimulus_words, when_of};
 
 use crate::named::copied;
-use crate::request::{DumpRequest, Request, StimulusRequest};
+use crate::request::{CheckRequest, DumpRequest, Request, StimulusRequest};
 use crate::settings::{fit, value_of};
 use bs_bits::{NoMemory, read_number};
 use bs_stim::{MAX_CYCLES, MAX_RUNS};
@@ -92,6 +92,76 @@ pub fn stimulus_request<'a>(
     ensures { IfOk result (λ request. shown_request request ≡ stimulus_request (given_in given.now)) }
 {
     let request = stimulus_words(alloc, &given.positions, &given.settings)?;
+    Ok(request)
+}
+
+// ---- runs beside a simulation
+
+/// The request of `check` for a netlist and recorded runs.
+#[tactic(auto, using(crate::proofs::RequestLemmas::beside_there, crate::proofs::RequestLemmas::beside_none))]
+fn check_for<'a>(
+    alloc: Global,
+    netlist: &'a str,
+    runs: &'a str,
+    vcds: &[&'a str],
+    clock: Option<&'a str>,
+    scope: Option<&'a str>,
+    names: Option<&'a str>,
+) -> Result<Option<Request<'a>>, NoMemory>
+    ensures { IfOk result (λ request. shown_request request ≡ check_for netlist.now runs.now (map (λ s. s.now) vcds.now) (option_map (λ s. s.now) clock.entry) (option_map (λ s. s.now) scope.entry) (option_map (λ s. s.now) names.entry)) }
+{
+    if !are_runs(vcds) {
+        return Ok(None);
+    }
+    let vcds = copied(alloc, vcds)?;
+    Ok(Some(Request::Check(CheckRequest {
+        netlist,
+        runs,
+        vcds,
+        clock,
+        scope,
+        names,
+    })))
+}
+
+/// The request of `check` by what its words say.
+fn check_at<'a>(
+    alloc: Global,
+    positions: &[&'a str],
+    clock: Option<&'a str>,
+    scope: Option<&'a str>,
+    names: Option<&'a str>,
+) -> Result<Option<Request<'a>>, NoMemory>
+    ensures { IfOk result (λ request. shown_request request ≡ check_of (map (λ s. s.now) positions.now) (option_map (λ s. s.now) clock.entry) (option_map (λ s. s.now) scope.entry) (option_map (λ s. s.now) names.entry)) }
+{
+    match positions {
+        [netlist, runs, vcds @ ..] => check_for(alloc, netlist, runs, vcds, clock, scope, names),
+        _ => Ok(None),
+    }
+}
+
+/// The request of `check` by its words by position and its options.
+fn check_words<'a>(
+    alloc: Global,
+    positions: &[&'a str],
+    settings: &[Setting<'a>],
+) -> Result<Option<Request<'a>>, NoMemory>
+    ensures { IfOk result (λ request. shown_request request ≡ check_words (map (λ s. s.now) positions.now) (map setting_of settings.now)) }
+{
+    if !fit(&[Flag::Clock, Flag::Scope, Flag::Map], settings) {
+        return Ok(None);
+    }
+    let clock = value_of(Flag::Clock, settings);
+    let scope = value_of(Flag::Scope, settings);
+    let names = value_of(Flag::Map, settings);
+    check_at(alloc, positions, clock, scope, names)
+}
+
+/// `check`.
+pub fn check_request<'a>(alloc: Global, given: &Given<'a>) -> Result<Option<Request<'a>>, NoMemory>
+    ensures { IfOk result (λ request. shown_request request ≡ check_request (given_in given.now)) }
+{
+    let request = check_words(alloc, &given.positions, &given.settings)?;
     Ok(request)
 }
 

@@ -1,36 +1,15 @@
 -- The text of what stands behind the clauses.
-use Rattle.std.proofs.Common.{◌≡◌, ℕ, zero, suc, ◌+◌, ◌-◌, arith, List, [], ◌∷◌, ◌++◌, map, length, reverse, sym, ap, ◌∙◌, Result, Ok, Err}
+use Rattle.std.proofs.Common.{◌≡◌, ℕ, ◌+◌, ◌-◌, List, ◌++◌, map, length, reverse, sym, ap, ◌∙◌, Result, Ok, Err}
 use Rattle.std.specs.Prelude.{OnOk}
 use Rattle.std.specs.List.{flat_map, range_with_len}
-use Rattle.std.proofs.lemmas.List.{append-nil, append_assoc, map-append}
+use Rattle.std.proofs.lemmas.List.{append_assoc, map-append}
 use Rattle.std.proofs.lemmas.Grind.{flat_map-append}
 use Rattle.bs_clause.specs.Literal.{Clause}
 use Rattle.bs_log.specs.History.{Problem, History}
 use Rattle.bs_log.specs.Refusal.{assumptions_of}
 use Rattle.bs_log.specs.Refutation.{blocks_of}
-use Rattle.bs_log_dimacs.specs.Cnf.{behind, clause_text, closed, others, units}
-use Rattle.bs_log_dimacs.specs.Walk.{closed_from, off}
-
-pub range_push : (a n : ℕ) → range_with_len a (suc n) ≡ range_with_len a n ++ (a + n) ∷ []
-range_push a zero = let same : a ≡ a + 0 = omega arith in ap (λ (x : ℕ). x ∷ []) same
-range_push a (suc n) =
-    ap (λ (xs : List ℕ). a ∷ xs)
-    (range_push (a + 1) n ∙ (let same : a + 1 + n ≡ a + suc n = omega arith in ap (λ (x : ℕ). range_with_len (a + 1) n ++ x ∷ []) same))
-
-pub closed_texts_more : (vars first i : ℕ) (start before after : List ℕ) → before ≡ start ++ flat_map clause_text (closed_from vars first i) →
-    after ≡ before ++ clause_text (off vars (first + i) ∷ []) → after ≡ start ++ flat_map clause_text (closed_from vars first (i + 1))
-closed_texts_more vars first i start before after texts new =
-    let next : i + 1 ≡ suc i = omega arith in
-    let own : List ℕ = clause_text (off vars (first + i) ∷ []) in
-    new
-    ∙ (ap (λ t. t ++ own) texts
-    ∙ (append_assoc start (flat_map clause_text (closed_from vars first i)) own
-    ∙ ap (λ t. start ++ t)
-    (ap (λ t. flat_map clause_text (closed_from vars first i) ++ t) (sym (append-nil own))
-    ∙ (sym (flat_map-append clause_text (closed_from vars first i) ((off vars (first + i) ∷ []) ∷ []))
-    ∙ ap (flat_map clause_text)
-    (sym (map-append (λ step. off vars step ∷ []) (range_with_len first i) ((first + i) ∷ []))
-    ∙ (ap (map (λ step. off vars step ∷ [])) (sym (range_push first i)) ∙ ap (λ n. closed_from vars first n) (sym next)))))))
+use Rattle.bs_log_words.specs.Clauses.{clause_text, closed_from}
+use Rattle.bs_log_dimacs.specs.Cnf.{units, behind, closed, others}
 
 -- the parts one behind another
 texts_of : (p : Problem) (h : History) (step : ℕ) → flat_map clause_text (behind p h step) ≡

@@ -10,3 +10,14 @@ pub mod Texts
 pub mod Rooms
 pub mod Examples
 pub mod Behind
+pub mod Giving
+pub mod Finishes
+pub mod Propagating
+pub mod Sound
+pub mod Same
+pub mod Ended
+pub mod Right
+pub mod Unlisted
+pub mod Bounds
+pub mod WholeTexts
+pub mod WholeExamples

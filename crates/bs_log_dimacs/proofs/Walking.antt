@@ -13,10 +13,10 @@ use Rattle.bs_log.specs.declared.line.Line.TheVariants.{Solve, Lemma, Block, Fin
 use Rattle.bs_log.specs.History.{History, step_of}
 use Rattle.bs_log.specs.Refusal.{history_of}
 use Rattle.bs_log.specs.Refutation.{blocks_of}
-use Rattle.bs_log_dimacs.specs.Cnf.{clause_text}
+use Rattle.bs_log_words.specs.Clauses.{clause_text, block_at}
 use Rattle.bs_log_dimacs.specs.Law.{IsFinishAt, HasNoFinish}
 use Rattle.bs_log_dimacs.specs.Proof.{lemma_in}
-use Rattle.bs_log_dimacs.specs.Walk.{step_behind, block_at, finish_in, lemma_named, named_finish}
+use Rattle.bs_log_dimacs.specs.Walk.{step_behind, finish_in, lemma_named, named_finish}
 
 pub history_more : (lines : List Line) (i : ℕ) (line : Line) → i < length lines → line ≡ get_or lines i line →
     history_of (take (i + 1) lines) ≡ line ∷ history_of (take i lines)

@@ -4,9 +4,9 @@ use Rattle.std.specs.List.{flat_map, range_with_len}
 use Rattle.bs_bits.specs.Lines.{line}
 use Rattle.bs_clause.specs.Literal.{Clause, negation}
 use Rattle.bs_log.specs.History.{Problem, History, activation_of}
-use Rattle.bs_log.specs.LineText.{literal_text}
 use Rattle.bs_log.specs.Refusal.{assumptions_of}
 use Rattle.bs_log.specs.Refutation.{blocks_of}
+use Rattle.bs_log_words.specs.Clauses.{clause_text}
 
 -- each literal as a clause of its own
 abbrev pub units : Clause → List Clause
@@ -29,9 +29,6 @@ abbrev pub cnf_of : Problem → History → ℕ → List Clause
 cnf_of p h step = p.clauses ++ behind p h step
 
 -- ---- the text
-
-abbrev pub clause_text : Clause → List ℕ
-clause_text c = flat_map literal_text c ++ line (codes "0")
 
 abbrev pub header_text : (vars count : ℕ) → List ℕ
 header_text vars count = line (codes "p cnf " ++ (decimal vars ++ (codes " " ++ decimal count)))

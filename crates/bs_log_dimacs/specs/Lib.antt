@@ -2,5 +2,9 @@
 pub mod Cnf
 pub mod Proof
 pub mod Law
+pub mod WholeCnf
+pub mod WholeProof
+pub mod WholeLaw
 -- what inner functions promise each other
 pub mod Walk
+pub mod WholeWalk

@@ -1,16 +1,15 @@
 -- The proof of a step's list over its clauses, and its text as LRAT has it (docs/FORMATS.md, "Clauses for other checkers").
-use Rattle.std.specs.Prelude.{◌≡◌, ℕ, ◌+◌, ◌==◌, nat_le, cond, List, [], ◌∷◌, ◌++◌, length, map, codes, IsTrue, unwrap_or}
-use Rattle.std.specs.List.{flat_map, position}
-use Rattle.bs_bits.specs.Lines.{line}
+use Rattle.std.specs.Prelude.{◌≡◌, ℕ, ◌+◌, ◌==◌, cond, List, [], ◌∷◌, ◌++◌, length, map, IsTrue, unwrap_or}
+use Rattle.std.specs.List.{position}
 use Rattle.bs_clause.specs.Literal.{Literal, Clause, negation, same_literal}
 use Rattle.bs_log.specs.declared.line.Line.{Line}
 use Rattle.bs_log.specs.declared.line.Line.TheVariants.{Lemma, Block, Retire, Delete}
 use Rattle.bs_log.specs.History.{Problem, History, step_of, last_id, state_of}
-use Rattle.bs_log.specs.LineText.{id_text, line_text}
 use Rattle.bs_log.specs.Refusal.{assumptions_of, names_stand, lemma_is_unit, lemma_is_false}
 use Rattle.bs_log.specs.Refutation.{blocks_of}
+use Rattle.bs_log_words.specs.Lines.{proof_line, raised}
+use Rattle.bs_log_words.specs.declared.frame.Frame.{Frame}
 use Rattle.bs_log_dimacs.specs.Cnf.{behind, closed, cnf_of}
-use Rattle.bs_log_dimacs.specs.declared.frame.Frame.{Frame}
 
 -- ---- what a proof is
 
@@ -43,10 +42,6 @@ pub record IsRefutation (clauses : List Clause) (h : History) : Type 0 where
   pub last : EndsEmpty h
 
 -- ---- the proof of a list
-
--- the clauses keep their ids, and the ids that the log gives go up
-abbrev pub raised : Frame → ℕ → ℕ
-raised f id = cond (nat_le id f.front) id (id + f.by)
 
 -- the clause from which a block follows: the same block of the step itself, or the clause that turns the other step off
 abbrev pub block_hint : Frame → History → ℕ
@@ -97,11 +92,6 @@ abbrev pub proof_of : Problem → History → (step id : ℕ) → History
 proof_of p h step id = proof_with (frame_of p h step) p h (cnf_of p h step) (assumptions_of p step) id
 
 -- ---- the text
-
--- the text of a line that stands behind the clause of this id
-abbrev pub proof_line : ℕ → Line → List ℕ
-proof_line last (Delete ids) = line (id_text last ++ (codes "d " ++ (flat_map id_text ids ++ codes "0")))
-proof_line last other = line (line_text other)
 
 -- the lines in their order
 abbrev pub proof_text : Problem → History → List ℕ

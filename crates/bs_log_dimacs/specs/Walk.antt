@@ -1,18 +1,19 @@
 -- A walk over the lines of a log, and what a step must be for its proof.
-use Rattle.std.specs.Prelude.{◌≡◌, ℕ, ◌+◌, ◌<◌, ◌≤◌, ◌^◌, ◌==◌, false, cond, List, [], ◌∷◌, ◌++◌, length, map, All, Option, Some, None, if◌then◌else◌}
-use Rattle.std.specs.List.{range_with_len}
+use Rattle.std.specs.Prelude.{◌≡◌, ℕ, ◌+◌, ◌<◌, ◌≤◌, ◌^◌, ◌==◌, cond, List, [], ◌∷◌, ◌++◌, length, map, All, Option, Some, None, if◌then◌else◌}
 use Rattle.bs_clause.specs.declared.literal.TheConstants.{VARIABLE_LIMIT}
-use Rattle.bs_clause.specs.Literal.{Literal, Clause}
+use Rattle.bs_clause.specs.Literal.{Clause}
 use Rattle.bs_log.specs.declared.line.Line.{Line}
 use Rattle.bs_log.specs.declared.line.Line.TheVariants.{Lemma, Block, Finish, Retire, Delete}
 use Rattle.bs_log.specs.History.{Problem, History, step_of, last_id}
 use Rattle.bs_log.specs.Refusal.{NoneRefused, assumptions_of, history_of}
 use Rattle.bs_log.specs.Refutation.{blocks_of}
+use Rattle.bs_log_words.specs.Clauses.{block_at, off}
+use Rattle.bs_log_words.specs.Lines.{proof_line, raised, IdFits}
+use Rattle.bs_log_words.specs.declared.frame.Frame.{Frame}
 use Rattle.bs_log_dimacs.specs.Cnf.{cnf_of}
-use Rattle.bs_log_dimacs.specs.Proof.{alone, proof_line, raised, shown}
-use Rattle.bs_log_dimacs.specs.declared.frame.TheConstants.{FEW}
-use Rattle.bs_log_dimacs.specs.declared.frame.Frame.{Frame}
-use Rattle.bs_log_dimacs.specs.declared.frame.Refuted.{Refuted}
+use Rattle.bs_log_dimacs.specs.Proof.{alone, shown}
+use Rattle.bs_log_dimacs.specs.declared.asked.TheConstants.{FEW}
+use Rattle.bs_log_dimacs.specs.declared.asked.Refuted.{Refuted}
 use Rattle.bs_log_dimacs.specs.declared.walk.At.{At}
 
 -- ---- a step
@@ -53,11 +54,6 @@ abbrev pub step_behind : Line → ℕ → ℕ
 step_behind (Retire id) step = step + 1
 step_behind line step = step
 
--- the block that a line adds to the step, where this step is under way
-abbrev pub block_at : Line → (now step : ℕ) → List Clause
-block_at (Block id lits) now step = cond (now == step) (lits ∷ []) []
-block_at line now step = []
-
 -- the lemma that a finish line names
 abbrev pub named_finish : Line → Option ℕ
 named_finish (Finish id) = Some id
@@ -72,18 +68,7 @@ lemma_named line id = None
 abbrev pub finish_in : Line → (now step : ℕ) → Option ℕ
 finish_in line now step = if now == step then named_finish line else None
 
--- the literal that turns a step off
-abbrev pub off : (vars step : ℕ) → Literal
-off vars step = record { variable = vars + step; positive = false }
-
--- the clauses that turn so many steps off, from one on
-abbrev pub closed_from : (vars first count : ℕ) → List Clause
-closed_from vars first count = map (λ step. off vars step ∷ []) (range_with_len first count)
-
 -- ---- room
-
-abbrev pub IdFits : Frame → ℕ → Type 0
-IdFits f id = id + f.by < 2 ^ 64
 
 -- the ids of the line can go up
 abbrev pub LineFits : Frame → Line → Type 0

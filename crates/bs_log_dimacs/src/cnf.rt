@@ -1,19 +1,20 @@
 //! The clauses that a step's list stands on, as text.
-ghost use Rattle.std.specs.Prelude.{◌≡◌, ◌≤◌, ◌<◌, ◌+◌, ◌-◌, ◌^◌, ◌++◌, length, map, reverse, cond, [], ◌∷◌, OnOk};
-ghost use Rattle.std.specs.List.{flat_map, range_with_len};
+ghost use Rattle.std.specs.Prelude.{◌≡◌, ◌≤◌, ◌<◌, ◌+◌, ◌^◌, ◌++◌, length, reverse, OnOk};
+ghost use Rattle.std.specs.List.{flat_map};
 ghost use Rattle.bs_clause.specs.declared.literal.TheConstants.{VARIABLE_LIMIT};
 ghost use Rattle.bs_log.specs.History.{step_of};
 ghost use Rattle.bs_log.specs.Refusal.{assumptions_of, history_of};
 ghost use Rattle.bs_log.specs.Refutation.{blocks_of};
-ghost use Rattle.bs_log_dimacs.specs.Cnf.{behind, clause_text, closed, cnf_of, cnf_text, header_text};
-ghost use Rattle.bs_log_dimacs.specs.Walk.{block_at, closed_from, problem_in, IsAsked, IsOneOf};
+ghost use Rattle.bs_log_words.specs.Clauses.{block_at, clause_text};
+ghost use Rattle.bs_log_dimacs.specs.Cnf.{behind, cnf_text, header_text, units};
+ghost use Rattle.bs_log_dimacs.specs.Walk.{problem_in, IsAsked, IsOneOf};
 
+use crate::asked::Refuted;
 use crate::finish::step_behind;
-use crate::frame::Refuted;
-use crate::words::{push_clause, push_clauses, push_unit, push_units};
 use bs_bits::{NoMemory, end_line, push_number, push_piece};
-use bs_clause::{Lit, Var};
+use bs_clause::{Lit, Lits};
 use bs_log::Line;
+use bs_log_words::{push_block, push_clause, push_closed, push_unit};
 
 /// What a step assumes.
 pub fn assumptions_at<'a>(asked: &Refuted<'a>) -> &'a [Lit]
@@ -49,26 +50,6 @@ pub fn count_blocks(lines: &[Line], step: u64) -> u64
     count
 }
 
-/// Appends a clause that is wanted.
-fn push_if(text: &mut Vec<u8>, wanted: bool, clause: &[Lit]) -> Result<(), NoMemory>
-    ensures { OnOk result (text.new.items ≡ text.old.items ++ flat_map clause_text (cond wanted (clause.now ∷ []) [])) }
-{
-    if wanted {
-        push_clause(text, clause)?;
-    }
-    Ok(())
-}
-
-/// Appends the block that a line adds to a step, where this step is under way.
-fn push_block(text: &mut Vec<u8>, line: &Line, now: u64, step: u64) -> Result<(), NoMemory>
-    ensures { OnOk result (text.new.items ≡ text.old.items ++ flat_map clause_text (block_at line.now now step)) }
-{
-    match line {
-        Line::Block { lits, .. } => push_if(text, now == step, lits.slice()),
-        _ => Ok(()),
-    }
-}
-
 /// Appends the blocks that lines add to a step.
 fn push_blocks(text: &mut Vec<u8>, lines: &[Line], step: u64) -> Result<(), NoMemory>
     ensures { OnOk result (text.new.items ≡ text.old.items ++ flat_map clause_text (reverse (blocks_of (history_of lines.now) step))) }
@@ -82,18 +63,6 @@ fn push_blocks(text: &mut Vec<u8>, lines: &[Line], step: u64) -> Result<(), NoMe
     Ok(())
 }
 
-/// Appends the clauses that turn so many steps off, from one on.
-fn push_closed(text: &mut Vec<u8>, vars: u32, first: u64, count: u64) -> Result<(), NoMemory>
-    requires first { 1 ≤ first }
-    requires room { vars + (first + count) ≤ VARIABLE_LIMIT }
-    ensures { OnOk result (text.new.items ≡ text.old.items ++ flat_map clause_text (closed_from vars first count)) }
-{
-    'steps: for i in 0..count {
-        push_unit(text, Lit::new(Var(vars + (first + i) as u32), false))?;
-    }
-    Ok(())
-}
-
 /// How many clauses stand behind the netlist's.
 pub fn count_behind(asked: &Refuted<'_>) -> u64
     requires step { IsOneOf (length asked.now.steps.now) asked.now.step }
@@ -103,6 +72,26 @@ pub fn count_behind(asked: &Refuted<'_>) -> u64
     let assumed = assumptions_at(asked).len() as u64;
     let blocks = count_blocks(asked.lines, asked.step);
     assumed + (blocks + (asked.steps.len() as u64 - 1))
+}
+
+/// Appends clauses.
+pub fn push_clauses(text: &mut Vec<u8>, clauses: &[Lits]) -> Result<(), NoMemory>
+    ensures { OnOk result (text.new.items ≡ text.old.items ++ flat_map clause_text clauses.now) }
+{
+    'clauses: for clause in clauses {
+        push_clause(text, clause.slice())?;
+    }
+    Ok(())
+}
+
+/// Appends each literal as a clause of its own.
+pub fn push_units(text: &mut Vec<u8>, literals: &[Lit]) -> Result<(), NoMemory>
+    ensures { OnOk result (text.new.items ≡ text.old.items ++ flat_map clause_text (units literals.now)) }
+{
+    'literals: for literal in literals {
+        push_unit(text, *literal)?;
+    }
+    Ok(())
 }
 
 /// Appends the header.

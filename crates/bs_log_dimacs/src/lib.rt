@@ -1,25 +1,35 @@
-//! The list of a step for other checkers: the clauses that it stands on as DIMACS text, and its proof as LRAT text.
+//! A log for other checkers: the clauses that the list of one step stands on, or those of all finished steps, as DIMACS text, and the
+//! proof that nothing meets them as LRAT text.
 //!
-//! It knows no netlist and no report. Modules: `finish` (where a log finishes a step), `words`
-//! (literals, ids, clauses), `cnf` (`push_cnf`), `frame` and `walk` (where ids go), `steps` and
-//! `lrat` (`push_lrat`), `law`. Used above: both texts are those of `specs/Cnf` and `specs/Proof`,
-//! and `step_lists_are_shown`. What the clauses are: `cnf_of`; what a right proof is:
-//! `IsRefutation`. Used by bs_log_whole too: the words, ids and lines of such texts.
+//! It knows no netlist and no report. Of one step: `asked` (`Refuted`), `finish` (where a log finishes a step), `cnf` (`push_cnf`),
+//! `walk`, `steps` and `lrat` (`push_lrat`), `law` (`step_lists_are_shown`). Of all finished steps: `whole` (`WholeLog`),
+//! `whole_walk` (where a walk over the lines stands), `parts` (what is said of a step), `whole_cnf` (`push_whole_cnf`),
+//! `whole_lines` and `whole_lrat` (`push_whole_lrat`), `whole_law` (`finished_lists_are_shown`). What the clauses are: `cnf_of`
+//! (`specs/Cnf`) and `whole_cnf_of` (`specs/WholeCnf`); what a right proof is: `IsRefutation` (`specs/Proof`). The words of such
+//! texts: bs_log_words.
 #![tactic(auto)]
 
+mod asked;
 mod cnf;
 mod finish;
-mod frame;
 mod law;
 mod lrat;
+mod parts;
 mod steps;
 mod walk;
-mod words;
+mod whole;
+mod whole_cnf;
+mod whole_law;
+mod whole_lines;
+mod whole_lrat;
+mod whole_walk;
 
-pub use cnf::{push_cnf, push_header};
-pub use finish::{finish_place, lemma_of};
-pub use frame::{FEW, Frame, Refuted};
+pub use asked::{FEW, Refuted};
+pub use cnf::push_cnf;
+pub use finish::finish_place;
 pub use law::step_lists_are_shown;
-pub use lrat::{push_lrat, unit_id};
-pub use steps::{last_behind, off, push_copy, push_deletion, push_lemma, raised};
-pub use words::{push_clause, push_clauses, push_id, push_literal, push_literals, push_unit};
+pub use lrat::push_lrat;
+pub use whole::{WholeLog, has_finish};
+pub use whole_cnf::push_whole_cnf;
+pub use whole_law::finished_lists_are_shown;
+pub use whole_lrat::push_whole_lrat;

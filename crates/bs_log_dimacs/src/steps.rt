@@ -1,29 +1,19 @@
 //! The lines of a proof, one for each line of the log that adds a clause or takes some away.
-ghost use Rattle.std.specs.Prelude.{◌≡◌, ◌<◌, ◌+◌, ◌-◌, ◌^◌, ◌++◌, ◌∷◌, [], false, length, map, All, OnOk};
+ghost use Rattle.std.specs.Prelude.{◌≡◌, ◌<◌, ◌+◌, ◌^◌, ◌++◌, false, map, All, OnOk};
 ghost use Rattle.std.specs.List.{flat_map};
-ghost use Rattle.bs_bits.specs.Lines.{line};
 ghost use Rattle.bs_clause.specs.Literal.{IsVariable};
 ghost use Rattle.bs_log.specs.LineText.{id_text};
 ghost use Rattle.bs_log.specs.declared.line.Line.TheVariants.{Lemma, Delete};
-ghost use Rattle.bs_log_dimacs.specs.Proof.{proof_line, raised};
-ghost use Rattle.bs_log_dimacs.specs.Walk.{at_behind, block_hint_at, last_behind, lines_text, shown_at, IdFits, LineFits, HasRoom};
+ghost use Rattle.bs_log_words.specs.Lines.{proof_line, raised, IdFits};
+ghost use Rattle.bs_log_dimacs.specs.Walk.{at_behind, block_hint_at, last_behind, lines_text, shown_at, LineFits, HasRoom};
 
 use crate::cnf::blocks_at;
 use crate::finish::step_behind;
-use crate::frame::Frame;
 use crate::walk::At;
-use crate::words::{push_id, push_literals};
 use bs_bits::{NoMemory, push_line, push_piece};
 use bs_clause::{Lit, Var};
 use bs_log::Line;
-
-/// Where an id goes.
-pub fn raised(f: &Frame, id: u64) -> u64
-    requires { IdFits f.now id }
-    ensures { result ≡ raised f.now id }
-{
-    if id <= f.front { id } else { id + f.by }
-}
+use bs_log_words::{Frame, push_copy, push_id, push_literals, raised};
 
 /// Appends where ids go, each with a space.
 pub fn push_raised(text: &mut Vec<u8>, f: &Frame, ids: &[u64]) -> Result<(), NoMemory>
@@ -52,17 +42,6 @@ pub fn push_lemma(
     push_literals(text, lits)?;
     push_piece(text, b"0 ")?;
     push_raised(text, f, hints)?;
-    push_line(text, b"0")
-}
-
-/// Appends a lemma that one clause gives.
-pub fn push_copy(text: &mut Vec<u8>, id: u64, lits: &[Lit], hint: u64) -> Result<(), NoMemory>
-    ensures { OnOk result (text.new.items ≡ text.old.items ++ proof_line 0 (Lemma id lits.now (hint ∷ []))) }
-{
-    push_id(text, id)?;
-    push_literals(text, lits)?;
-    push_piece(text, b"0 ")?;
-    push_id(text, hint)?;
     push_line(text, b"0")
 }
 

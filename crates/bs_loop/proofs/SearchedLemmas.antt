@@ -21,7 +21,7 @@ use Rattle.bs_loop.specs.declared.known.SearchAnswer.{SearchAnswer}
 use Rattle.bs_loop.specs.declared.known.Reach.{Reach}
 use Rattle.bs_loop.specs.declared.known.Reach.TheVariants.{Whole, Limited, Unanswered}
 use Rattle.bs_loop.specs.KnownCand.{reach_by, IsAsked, Reaches}
-use Rattle.bs_loop.specs.Searched.{HitsBy, HitsFirst, AreSearched, WereSearched, IsOneSearched, IsTurnSearched}
+use Rattle.bs_loop.specs.Searched.{HitsBy, HitsFirst, AreSearched, WereSearched, IsOneSearched, IsTurnSearched, is_last_cut, TellsCut}
 use Rattle.bs_loop.specs.Turn.{step_of, HasLookedFrom}
 use Rattle.bs_loop.proofs.KnownLemmas.{met_finished, met_counted}
 
@@ -137,3 +137,9 @@ pub were_searched : {A E : Type 0} (r : Recording) (b : ℕ) (steps : A → List
     IfOk result (λ way. AreSearched r b (steps way) reaches) → IfOk result (λ way. WereSearched r b (steps way))
 were_searched r b steps reaches (Ok way) are = record { reaches = reaches; are = are }
 were_searched r b steps reaches (Err want) are = tt
+
+-- and whether the search for the last of them was cut
+pub tells_cut : {A E : Type 0} (r : Recording) (b : ℕ) (steps : A → List Step) (reaches : List Reach) (cut : Bool) (result : Result A E) →
+    cut ≡ is_last_cut reaches → IfOk result (λ way. AreSearched r b (steps way) reaches) → IfOk result (λ way. TellsCut r b (steps way) cut)
+tells_cut r b steps reaches cut (Ok way) is are = record { searched = record { reaches = reaches; are = are }; last = is }
+tells_cut r b steps reaches cut (Err want) is are = tt

@@ -1,5 +1,5 @@
 -- Where the steps of a backtrace hit, and how far the recorded moments were searched for each.
-use Rattle.std.specs.Prelude.{◌≡◌, ◌≢◌, ◌⊎◌, ℕ, Bool, List, [], ◌∷◌, ◌++◌, length, Option, Some, option_map, slice_get}
+use Rattle.std.specs.Prelude.{◌≡◌, ◌≢◌, ◌⊎◌, ℕ, ◌-◌, Bool, true, false, List, [], ◌∷◌, ◌++◌, length, Option, Some, None, option_map, slice_get}
 use Rattle.bs_scan.specs.Crash.{Recording}
 use Rattle.bs_scan.specs.Moments.{first_moment, state_of}
 use Rattle.bs_scan.specs.Signature.{predecessors}
@@ -42,6 +42,25 @@ pub record AreSearched (r : Recording) (b : ℕ) (steps : List Step) (reaches : 
 pub record WereSearched (r : Recording) (b : ℕ) (steps : List Step) : Type 0 where
   pub reaches : List Reach
   pub are : AreSearched r b steps reaches
+
+-- whether a search was cut
+abbrev pub is_cut : Reach → Bool
+is_cut Whole = false
+is_cut (Limited m) = true
+is_cut (Unanswered m) = true
+
+abbrev pub is_cut_at : Option Reach → Bool
+is_cut_at None = false
+is_cut_at (Some reach) = is_cut reach
+
+-- the same of the last of some searches; none is not cut
+abbrev pub is_last_cut : List Reach → Bool
+is_last_cut reaches = is_cut_at (slice_get reaches (length reaches - 1))
+
+-- the steps were searched, and the bit tells whether the search for the last one was cut
+pub record TellsCut (r : Recording) (b : ℕ) (steps : List Step) (cut : Bool) : Type 0 where
+  pub searched : WereSearched r b steps
+  pub last : cut ≡ is_last_cut searched.reaches
 
 -- one more step, and how far was searched for it
 pub record IsOneSearched (r : Recording) (b : ℕ) (steps more : List Step) (reaches longer : List Reach) : Type 0 where

@@ -4,7 +4,7 @@
 //! predecessors from `first_recorded`. Modules: `known` (the candidate that a search makes known), `lookout` (what a list asks for it),
 //! `recorded` (the moment before the present), `steps` (one step back; one turn), `stop` (the cause after a step without a hit), `trace`
 //! (states and inputs from the last hit to the dump), `way` (turns until a stop: `backtrace`). Used above: `backtrace`, clauses `good`,
-//! `valid` and `searched`. When a backtrace stops: `stop` and bs_report_good's `specs/Stop`; what holds between two turns: `specs/Made`,
+//! `valid`, `searched` and `cut`. When a backtrace stops: `stop` and bs_report_good's `specs/Stop`; what holds between two turns: `specs/Made`,
 //! `specs/Way`.
 #![tactic(auto)]
 

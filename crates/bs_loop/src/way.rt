@@ -19,7 +19,7 @@ ghost use Rattle.bs_loop.specs.Made.{HasMade};
 ghost use Rattle.bs_loop.specs.Way.{HasEnded};
 ghost use Rattle.bs_loop.specs.Report.{IsAlikeButLog, IsOfWay, IsWithLog};
 ghost use Rattle.bs_loop.specs.Bound.{HasBound};
-ghost use Rattle.bs_loop.specs.Searched.{AreSearched, WereSearched};
+ghost use Rattle.bs_loop.specs.Searched.{AreSearched, is_cut, is_last_cut, TellsCut, WereSearched};
 
 use crate::known::Reach;
 use crate::steps::turn;
@@ -102,18 +102,41 @@ fn finder_of<'a, 'p>(
     }
 }
 
-/// Turn after turn from the dump until a stop.
+/// Whether a search was cut.
+fn is_cut(reach: Reach) -> bool
+    ensures { result ≡ is_cut reach }
+{
+    match reach {
+        Reach::Whole => false,
+        Reach::Limited(_) => true,
+        Reach::Unanswered(_) => true,
+    }
+}
+
+/// Whether the last of some searches was cut.
+fn is_last_cut(reaches: &[Reach]) -> bool
+    ensures { result ≡ is_last_cut reaches.now }
+{
+    match reaches.last() {
+        None => false,
+        Some(reach) => is_cut(*reach),
+    }
+}
+
+/// Turn after turn from the dump until a stop, and whether the search for the last step was cut.
 fn walk(
     alloc: Global,
     chip: &mut Chip<'_>,
     preimage: &mut Preimage<'_>,
     dump: &Dump,
     budgets: &Budgets,
+    cut: &mut bool,
 ) -> Result<Way, NoMemory>
     requires fresh { preimage.old ≡ fresh chip.old.recording.circuit chip.old.recording.choice }
     requires dump { DumpFits chip.old.recording.circuit chip.old.recording.choice dump.now }
     requires budgets { IsBudget budgets.now }
     ensures searched { IfOk result (λ way. WereSearched chip.old.recording budgets.now.conflicts way.steps) }
+    ensures cut { IfOk result (λ way. TellsCut chip.old.recording budgets.now.conflicts way.steps cut.new) }
     ensures made { IfOk result (λ way. HasMade (crash_of chip.old.recording dump.now) budgets.now way.steps preimage.new) }
     ensures few { IfOk result (λ way. length way.steps ≤ budgets.now.steps) }
     ensures stop { IfOk result (λ way. StopsFor (crash_of chip.old.recording dump.now) budgets.now way.steps way.stop) }
@@ -132,6 +155,7 @@ fn walk(
                 budgets,
                 &mut searched,
             );
+            *cut = is_last_cut(searched.slice());
             drop(searched);
             drop(finder);
             way
@@ -184,23 +208,25 @@ fn reported(alloc: Global, way: Way, dump: &Dump, budgets: &Budgets) -> Result<R
     }
 }
 
-/// The way back from a dump, and its report with no line of a log.
+/// The way back from a dump, its report with no line of a log, and whether the search for the last step was cut.
 fn unlogged(
     alloc: Global,
     chip: &mut Chip<'_>,
     preimage: &mut Preimage<'_>,
     dump: &Dump,
     budgets: &Budgets,
+    cut: &mut bool,
 ) -> Result<Report, NoMemory>
     requires fresh { preimage.old ≡ fresh chip.old.recording.circuit chip.old.recording.choice }
     requires dump { DumpFits chip.old.recording.circuit chip.old.recording.choice dump.now }
     requires budgets { IsBudget budgets.now }
     ensures searched { IfOk result (λ r. WereSearched chip.old.recording budgets.now.conflicts r.steps) }
+    ensures cut { IfOk result (λ r. TellsCut chip.old.recording budgets.now.conflicts r.steps cut.new) }
     ensures way { IfOk result (λ r. IsOfWay dump.now budgets.now r.steps r.stop r) }
     ensures ended { IfOk result (λ r. HasEnded (crash_of chip.old.recording dump.now) budgets.now r.steps preimage.new r.stop) }
     ensures chip { chip.new.recording ≡ chip.old.recording }
 {
-    match walk(alloc, chip, preimage, dump, budgets) {
+    match walk(alloc, chip, preimage, dump, budgets, cut) {
         Ok(way) => reported(alloc, way, dump, budgets),
         Err(want) => Err(want),
     }
@@ -251,12 +277,14 @@ fn logged(report: Result<Report, NoMemory>, preimage: Preimage<'_>) -> Result<Re
 /// state is a predecessor that agrees with the stored signatures, of all predecessors and not only of the listed ones, unless its list
 /// ends with conflicts; and where it was cut, no moment before the one that it came to is in a predecessor. It was cut where it had asked
 /// about as many states as it may, or where a solve about that moment's state spent its budget, or the state cannot be asked about.
+/// Behind the call `cut` tells whether the search for the last step was cut.
 pub fn backtrace(
     alloc: Global,
     chip: &mut Chip<'_>,
     preimage: Preimage<'_>,
     dump: &Dump,
     budgets: &Budgets,
+    cut: &mut bool,
 ) -> Result<Report, NoMemory>
     requires fresh { preimage ≡ fresh chip.old.recording.circuit chip.old.recording.choice }
     requires dump { DumpFits chip.old.recording.circuit chip.old.recording.choice dump.now }
@@ -270,10 +298,11 @@ pub fn backtrace(
     ensures trace { IfOk result (λ r. length r.states ≡ length r.inputs + 1) }
     ensures lean { IfOk result (λ r. IsLean (basis_of chip.old.recording.circuit chip.old.recording.choice (map present_of r.steps)).problem (history_of r.log)) }
     ensures searched { IfOk result (λ r. WereSearched chip.old.recording budgets.now.conflicts r.steps) }
+    ensures cut { IfOk result (λ r. TellsCut chip.old.recording budgets.now.conflicts r.steps cut.new) }
     ensures chip { chip.new.recording ≡ chip.old.recording }
 {
     chip.is_recording();
     let mut preimage = preimage;
-    let report = unlogged(alloc, chip, &mut preimage, dump, budgets);
+    let report = unlogged(alloc, chip, &mut preimage, dump, budgets, cut);
     logged(report, preimage)
 }

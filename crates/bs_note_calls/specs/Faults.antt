@@ -1,6 +1,7 @@
 -- Notes on files that do not read, on an output that does not take the answer, and on a moment that no run has.
 use Rattle.std.specs.Prelude.{◌≡◌, ℕ, List, [], ◌++◌, codes, decimal, length, nat_le, ◌&&◌, Option, Some, None, if◌then◌else◌}
 use Rattle.std.specs.declared.io.ErrorKind.{ErrorKind}
+use Rattle.std.specs.declared.io.ErrorKind.TheVariants.{BrokenPipe}
 use Rattle.bs_stim.specs.Runs.{Stimulus, run_at}
 use Rattle.bs_top_plan.specs.declared.file.File.{File}
 use Rattle.bs_top_plan.specs.Files.{file_word, limit_of}
@@ -32,9 +33,21 @@ output_text lines reason =
     pair_text (output_sentence lines reason)
     (codes "what went out is the front of the answer; send it to a file with room, or let the reader read on")
 
+-- a reader that closed the output, as `head` does, which is no mistake
+abbrev pub closed_sentence : ℕ → List ℕ
+closed_sentence lines = codes "the reader closed standard output after " ++ (decimal lines ++ codes " whole lines")
+
+abbrev pub kind_text : ℕ → ErrorKind → List ℕ
+kind_text lines BrokenPipe = plain_text (closed_sentence lines)
+kind_text lines kind = output_text lines (output_reason (Some kind))
+
+abbrev pub stopped_text : ℕ → Option ErrorKind → List ℕ
+stopped_text lines None = output_text lines (output_reason None)
+stopped_text lines (Some kind) = kind_text lines kind
+
 -- the note is on an output that took so many whole lines, by this kind of error
 abbrev pub IsOutputNote : ℕ → Option ErrorKind → List ℕ → Type 0
-IsOutputNote lines kind note = note ≡ output_text lines (output_reason kind)
+IsOutputNote lines kind note = note ≡ stopped_text lines kind
 
 -- out of memory
 abbrev pub memory_text : List ℕ

@@ -1,5 +1,5 @@
 -- Notes on the stops of a run.
-use Rattle.std.specs.Prelude.{◌==◌, ℕ, List, ◌++◌, codes, decimal, Option, Some, None, if◌then◌else◌}
+use Rattle.std.specs.Prelude.{◌==◌, ℕ, Bool, List, ◌++◌, codes, decimal, Option, Some, None, if◌then◌else◌}
 use Rattle.bs_report.specs.declared.report.Stop.{Stop}
 use Rattle.bs_report.specs.declared.report.Stop.TheVariants as S
 use Rattle.bs_note_files.specs.Notes.{pair_text}
@@ -16,19 +16,26 @@ empty_text steps =
     else step_text (codes "no state with the stored signature leads to the state of the hit before step") steps
     (codes "a recorded run reached that state another way: are the netlist and the signature those of the chip?")
 
--- why a run stopped, after so many steps, and which budget to raise; none where it came to reset
-abbrev pub text_of : ℕ → Stop → Option (List ℕ)
-text_of steps S.Reset = None
-text_of steps S.Length =
+-- a stop behind a list that was cut: the search for a recorded moment was cut as well, or no such moment is there
+abbrev pub cut_text : ℕ → Bool → List ℕ
+cut_text steps cut =
+    if cut then step_text (codes "the list was cut, and so was the search for a recorded moment that leads to the state in one cycle, in step") steps
+    (codes "ask for more with --candidates K, up to 65536, or --conflicts B, up to 2^40, or choose a signature that tells more states apart")
+    else step_text (codes "the list was cut, and no recorded moment with the stored signature leads to the state in one cycle, in step") steps
+    (codes "record more or longer runs of what the chip did, or choose a signature that tells more states apart")
+
+-- why a run stopped, after so many steps, the last one with a search that was cut or was not, and which budget to raise; none where it
+-- came to reset
+abbrev pub text_of : ℕ → Stop → Bool → Option (List ℕ)
+text_of steps S.Reset cut = None
+text_of steps S.Length cut =
     Some (step_text (codes "the budget of steps is spent: this many were made:") steps
     (codes "ask for more with --steps L, up to 65536; the trace so far is right"))
-text_of steps S.Nohit =
+text_of steps S.Nohit cut =
     Some (step_text (codes "no recorded run comes to a state that is listed in step") steps
     (codes "record more or longer runs of what the chip did, or choose a signature that tells more states apart"))
-text_of steps S.Empty = Some (empty_text steps)
-text_of steps S.Candidates =
-    Some (step_text (codes "the list was cut, and no recorded moment leads to the state in one cycle, or the search for one was cut, in step") steps
-    (codes "record more or longer runs of what the chip did, or choose a signature that tells more states apart"))
-text_of steps S.Conflicts =
+text_of steps S.Empty cut = Some (empty_text steps)
+text_of steps S.Candidates cut = Some (cut_text steps cut)
+text_of steps S.Conflicts cut =
     Some (step_text (codes "the budget of conflicts is spent, and no run comes to a listed state, in step") steps
     (codes "ask for more with --conflicts B, up to 2^40, or choose a signature that tells more states apart"))

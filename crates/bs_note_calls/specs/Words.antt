@@ -1,22 +1,31 @@
 -- Notes on words that are no job.
-use Rattle.std.specs.Prelude.{◌≡◌, ℕ, ◌+◌, List, [], ◌++◌, codes, decimal, slice_index_or, if◌then◌else◌}
+use Rattle.std.specs.Prelude.{◌≡◌, ℕ, ◌+◌, Bool, List, [], ◌∷◌, ◌++◌, codes, decimal, slice_index_or, if◌then◌else◌}
+use Rattle.std.specs.List.{list_any}
 use Rattle.std.specs.Str.{bytes_eq}
+use Rattle.std.specs.Borrow.{Bor}
 use Rattle.bs_note_places.specs.Quotes.{shown_line}
 use Rattle.bs_top_words.specs.declared.fault.WordFault.{WordFault}
 use Rattle.bs_top_words.specs.declared.fault.WordFault.TheVariants as W
 use Rattle.bs_top_words.specs.Faults.{command_of, IsWordFault}
-use Rattle.bs_note_files.specs.Notes.{pair_text, plain_text}
+use Rattle.bs_note_files.specs.Notes.{pair_text}
 
--- a word with its number from 1, what is said of it, and how the command is used
+-- a word with its number from 1, and what is said of it
+abbrev pub named_sentence : ℕ → List ℕ → List ℕ → List ℕ
+named_sentence at word sentence =
+    codes "word " ++ (decimal (at + 1) ++ (codes ", `" ++ (shown_line word ++ (codes "`, " ++ sentence))))
+
+-- the same, and how the command is used
 abbrev pub named_text : ℕ → List ℕ → List ℕ → List ℕ → List ℕ
-named_text at word sentence usage =
-    plain_text (codes "word " ++ (decimal (at + 1) ++ (codes ", `" ++ (shown_line word ++ (codes "`, " ++ sentence))))) ++ plain_text usage
+named_text at word sentence usage = pair_text (named_sentence at word sentence) usage
 
--- the number of words by position, and how the command is used
+-- the number of words by position
+abbrev pub counted_sentence : ℕ → List ℕ
+counted_sentence given =
+    codes "the number of words by position behind the command is " ++ (decimal given ++ codes "; a file name with a space in it stands in quotes")
+
+-- the same, and how the command is used
 abbrev pub counted_text : ℕ → List ℕ → List ℕ
-counted_text given usage =
-    plain_text (codes "the number of words by position behind the command is " ++ (decimal given ++ codes "; a file name with a space in it stands in quotes"))
-    ++ plain_text usage
+counted_text given usage = pair_text (counted_sentence given) usage
 
 -- how a command is used, or all of them
 abbrev pub usage : List ℕ → List ℕ
@@ -39,10 +48,27 @@ rest_sentence command =
     then codes "STATE is one or more characters 0 and 1, CYCLES lies between 0 and 1024, in digits alone, and an option is given once"
     else codes "NUMBER lies below 2^64, in digits alone"))
 
+-- the commands of the program `backspace_inspect` that are none here
+abbrev pub companions : List (List ℕ)
+companions =
+    codes "flops" ∷ codes "keys" ∷ codes "inputs" ∷ codes "stats" ∷ codes "trace" ∷ codes "steps" ∷ codes "page" ∷ codes "stimulus" ∷ codes "check"
+    ∷ codes "signature" ∷ codes "unscan" ∷ codes "cnf" ∷ codes "lrat" ∷ codes "reach-cnf" ∷ codes "reach-lrat" ∷ codes "novel" ∷ codes "why" ∷ []
+
+-- a word stands in a table of the code
+abbrev pub listed_in : List ℕ → List (Bor (List ℕ)) → Bool
+listed_in word table = list_any (λ o. bytes_eq o.now word) table
+
+abbrev pub is_companions : List ℕ → Bool
+is_companions command = list_any (λ o. bytes_eq o command) companions
+
+-- what is said of a first word that is no command
+abbrev pub command_sentence : List ℕ → List ℕ
+command_sentence command = if is_companions command then codes "is a command of the program `backspace_inspect`" else codes "is no command"
+
 -- the note on what is wrong with words
 abbrev pub fault_text : List (List ℕ) → WordFault → List ℕ
 fault_text words W.Absent = pair_text (codes "there are no words") (usage (command_of words))
-fault_text words W.Command = named_text 0 (command_of words) (codes "is no command") (usage (command_of words))
+fault_text words W.Command = named_text 0 (command_of words) (command_sentence (command_of words)) (usage (command_of words))
 fault_text words (W.Option at) = named_text at (slice_index_or words at []) (codes "is no option of this command") (usage (command_of words))
 fault_text words (W.Value at) =
     named_text at (slice_index_or words at [])

@@ -11,7 +11,7 @@ use itoa::Buffer;
 use std::marker::Model;
 
 /// The most bytes of such a note.
-pub const ROOM: usize = 1_024;
+pub const ROOM: usize = 1_280;
 
 /// A note, or a sentence of one, of at most `ROOM` bytes. Contracts see its bytes.
 #[derive(Drop)]
@@ -109,7 +109,7 @@ impl Brief {
     }
 
     /// Appends the first `SHOWN` bytes of a line, each byte outside ` ` to `~` as `\xHH`.
-    fn push_shown(&mut self, line: &[u8])
+    pub(crate) fn push_shown(&mut self, line: &[u8])
         requires { length self.old + 640 ≤ ROOM }
         ensures text { self.new ≡ self.old ++ shown_line line.now }
         ensures longer { length self.new ≤ length self.old + 640 }

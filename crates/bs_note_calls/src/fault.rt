@@ -2,10 +2,10 @@
 //! run has.
 ghost use Rattle.std.specs.Prelude.{◌≡◌, ◌≤◌, ◌++◌, codes, decimal, length, IfOk, OnOk};
 ghost use Rattle.bs_top_plan.specs.Files.{file_word};
-ghost use Rattle.bs_note_calls.specs.Faults.{cycles_of, cycles_text, IsOutputNote, large_text, long_sentence, long_text};
+ghost use Rattle.bs_note_calls.specs.Faults.{closed_sentence, cycles_of, cycles_text, IsOutputNote, kind_text, large_text, long_sentence, long_text};
 ghost use Rattle.bs_note_calls.specs.Faults.{output_sentence, output_text, range_text, rejected_text, unread_text};
 
-use crate::brief::{Brief, brief_on_file, brief_pair};
+use crate::brief::{Brief, brief_on_file, brief_pair, brief_plain};
 use crate::reason::{output_reason, unread_reason};
 use bs_bits::{NoMemory, push_number, push_piece};
 use bs_note_files::{file_note, pair_note};
@@ -95,19 +95,42 @@ fn reason_note(lines: u64, reason: &[u8]) -> Brief
     )
 }
 
+/// What is said of an output that its reader closed.
+fn closed_sentence(lines: u64) -> Brief
+    ensures text { result ≡ closed_sentence lines }
+    ensures short { length result ≤ 100 }
+{
+    let mut said = Brief::of(b"the reader closed standard output after ");
+    said.push_number(lines);
+    said.push(b" whole lines");
+    said
+}
+
+/// A note on an output that did not take a line, by the kind of the error.
+fn kind_note(lines: u64, kind: ErrorKind) -> Brief
+    ensures { result ≡ kind_text lines kind }
+{
+    match kind {
+        ErrorKind::BrokenPipe => brief_plain(closed_sentence(lines).bytes()),
+        _ => reason_note(lines, output_reason(Some(kind)).as_bytes()),
+    }
+}
+
 /// A note on an output that did not take a line: how many lines it took before, and the system's reason where one is known.
 pub fn output_note(lines: u64, kind: Option<ErrorKind>) -> Brief
     ensures { IsOutputNote lines kind result }
 {
-    reason_note(lines, output_reason(kind).as_bytes())
+    match kind {
+        Some(kind) => kind_note(lines, kind),
+        None => reason_note(lines, output_reason(None).as_bytes()),
+    }
 }
 
 /// A note on a report that is not valid.
-pub fn rejected_note(alloc: Global) -> Result<Vec<u8>, NoMemory>
-    ensures { IfOk result (λ note. note.items ≡ rejected_text) }
+pub fn rejected_note() -> Brief
+    ensures { result ≡ rejected_text }
 {
-    pair_note(
-        alloc,
+    brief_pair(
         b"the line names the first part of the report that fails (docs/FORMATS.md, Validity)",
         b"is the report of these very files, in this order, and unchanged?",
     )

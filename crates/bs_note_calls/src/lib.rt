@@ -1,9 +1,9 @@
 //! Notes on a call of the program that are on no text: on its words, on files and an output that fail, and on how it stopped.
 //!
 //! Modules: `word` (wrong words), `fault` (files and outputs that fail), `reason` (the words for a kind of error), `stop` (the stops of a
-//! run), `search` and `miss` (a search and what it misses), `brief` (`Brief`, a note that takes no memory: those on stops, on files that
-//! do not read or are too long, and on an output that fails). Used above: the text of each note (`specs/Words`, `specs/Stops`,
-//! `specs/Faults`, `specs/Searches`); the words of each reason (`specs/Reasons`). A sentence: its text in specs and its module.
+//! run), `search` and `miss` (a search and what it misses), `brief` (`Brief`, a note that takes no memory: all but those on a moment, a
+//! state, a search or a waveform that can't be). Used above: the text of each note (`specs/Words`, `specs/Stops`, `specs/Faults`,
+//! `specs/Searches`); the words of each reason (`specs/Reasons`). A sentence: its text in specs and its module.
 #![tactic(auto)]
 
 mod brief;

@@ -2,6 +2,7 @@
 ghost use Rattle.std.specs.Prelude.{◌≡◌, IfOk};
 ghost use Rattle.bs_note_calls.specs.Searches.{miss_text, room_sentence, room_text, state_sentence, state_text};
 
+use crate::brief::{Brief, brief_pair};
 use crate::miss::Miss;
 use bs_bits::{NoMemory, push_number, push_piece};
 use bs_note_files::{pair_note, width_sentence};
@@ -9,17 +10,15 @@ use bs_note_places::push_quoted;
 use std::alloc::Global;
 
 /// A note on a search that has no execution.
-pub fn miss_note(alloc: Global, miss: Miss) -> Result<Vec<u8>, NoMemory>
-    ensures { IfOk result (λ note. note.items ≡ miss_text miss) }
+pub fn miss_note(miss: Miss) -> Brief
+    ensures { result ≡ miss_text miss }
 {
     match miss {
-        Miss::Unreached => pair_note(
-            alloc,
+        Miss::Unreached => brief_pair(
             b"no execution of so many cycles from reset, or of fewer, ends in this state, whatever the inputs",
             b"ask for more cycles, up to 1024; the state's bits are in the order of the netlist's flip-flops, the first on the left",
         ),
-        Miss::Unknown => pair_note(
-            alloc,
+        Miss::Unknown => brief_pair(
             b"the budget of conflicts is spent on this number of cycles, and each smaller one is refuted",
             b"ask for more with --conflicts B, up to 2^40",
         ),

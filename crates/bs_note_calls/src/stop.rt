@@ -1,6 +1,6 @@
 //! Notes on the stops of a run.
 ghost use Rattle.std.specs.Prelude.{◌≡◌, ◌≤◌, ◌+◌, ◌++◌, codes, decimal, length, IfSome};
-ghost use Rattle.bs_note_calls.specs.Stops.{empty_text, step_text, text_of};
+ghost use Rattle.bs_note_calls.specs.Stops.{cut_text, empty_text, step_text, text_of};
 
 use crate::brief::{Brief, brief_pair};
 use bs_report::Stop;
@@ -46,9 +46,29 @@ fn empty_note(steps: u64) -> Brief
     )
 }
 
-/// A note on why a run stopped after so many steps; none where it came to reset.
-pub fn stop_note(steps: u64, stop: Stop) -> Option<Brief>
-    ensures text { result ≡ text_of steps stop }
+/// A note on a stop behind a list that was cut, by whether the search for a recorded moment was cut as well.
+fn cut_note(steps: u64, cut: bool) -> Brief
+    ensures text { result ≡ cut_text steps cut }
+    ensures short { length result ≤ 675 }
+{
+    if cut {
+        return step_note(
+            b"the list was cut, and so was the search for a recorded moment that leads to the state in one cycle, in step",
+            steps,
+            b"ask for more with --candidates K, up to 65536, or --conflicts B, up to 2^40, or choose a signature that tells more states apart",
+        );
+    }
+    step_note(
+        b"the list was cut, and no recorded moment with the stored signature leads to the state in one cycle, in step",
+        steps,
+        b"record more or longer runs of what the chip did, or choose a signature that tells more states apart",
+    )
+}
+
+/// A note on why a run stopped after so many steps; none where it came to reset. `cut` is whether the search for a recorded moment was cut
+/// in the last step.
+pub fn stop_note(steps: u64, stop: Stop, cut: bool) -> Option<Brief>
+    ensures text { result ≡ text_of steps stop cut }
     ensures short { IfSome result (λ note. length note ≤ 675) }
 {
     match stop {
@@ -64,11 +84,7 @@ pub fn stop_note(steps: u64, stop: Stop) -> Option<Brief>
             b"record more or longer runs of what the chip did, or choose a signature that tells more states apart",
         )),
         Stop::Empty => Some(empty_note(steps)),
-        Stop::Candidates => Some(step_note(
-            b"the list was cut, and no recorded moment leads to the state in one cycle, or the search for one was cut, in step",
-            steps,
-            b"record more or longer runs of what the chip did, or choose a signature that tells more states apart",
-        )),
+        Stop::Candidates => Some(cut_note(steps, cut)),
         Stop::Conflicts => Some(step_note(
             b"the budget of conflicts is spent, and no run comes to a listed state, in step",
             steps,

@@ -1,17 +1,37 @@
 //! Words that are no job: what is wrong, at which word, and how the command is used.
-ghost use Rattle.std.specs.Prelude.{◌≡◌, ◌<◌, ◌^◌, [], length, map, slice_index_or, string_bytes, IfOk};
+ghost use Rattle.std.specs.Prelude.{◌≡◌, ◌<◌, ◌≤◌, ◌^◌, [], length, map, slice_index_or, string_bytes};
+ghost use Rattle.std.specs.Str.{bytes_eq};
 ghost use Rattle.bs_top_words.specs.Faults.{command_of, IsWordFault};
-ghost use Rattle.bs_note_calls.specs.Words.{counted_text, fault_text, IsWordsNote, named_text, rest_sentence, unread_text, usage};
+ghost use Rattle.bs_note_calls.specs.Words.{command_sentence, counted_sentence, counted_text, fault_text, is_companions, IsWordsNote, listed_in, named_sentence, named_text, rest_sentence, unread_text, usage};
 
-use bs_bits::{NoMemory, push_number, push_piece};
-use bs_note_files::pair_note;
-use bs_note_places::push_quoted;
+use crate::brief::{Brief, brief_pair};
 use bs_top_words::{WordFault, word_fault};
-use std::alloc::Global;
+
+/// The commands of the program `backspace_inspect` that are none here.
+const COMPANIONS: [&str; 17] = [
+    "flops",
+    "keys",
+    "inputs",
+    "stats",
+    "trace",
+    "steps",
+    "page",
+    "stimulus",
+    "check",
+    "signature",
+    "unscan",
+    "cnf",
+    "lrat",
+    "reach-cnf",
+    "reach-lrat",
+    "novel",
+    "why",
+];
 
 /// How a command is used, or all of them.
 fn usage(command: &str) -> &'static str
-    ensures { result.now ≡ usage command.now }
+    ensures text { result.now ≡ usage command.now }
+    ensures short { length result.now ≤ 256 }
 {
     if command == "run" {
         return "usage: backspace run NETLIST SIGNATURE STIMULUS DUMP [--steps L] [--candidates K] [--conflicts B]";
@@ -36,7 +56,8 @@ fn usage(command: &str) -> &'static str
 
 /// What else may be wrong where each word is of its form and their number is right.
 fn rest_sentence(command: &str) -> &'static str
-    ensures { result.now ≡ rest_sentence command.now }
+    ensures text { result.now ≡ rest_sentence command.now }
+    ensures short { length result.now ≤ 128 }
 {
     if command == "run" {
         return "an option is given twice";
@@ -50,37 +71,84 @@ fn rest_sentence(command: &str) -> &'static str
     "NUMBER lies below 2^64, in digits alone"
 }
 
-/// A note on a word: its number from 1, the word, and a sentence; then how the command is used.
-fn named_note(
-    alloc: Global,
-    at: usize,
-    word: &str,
-    sentence: &str,
-    usage: &str,
-) -> Result<Vec<u8>, NoMemory>
-    requires { at < 2 ^ 63 }
-    ensures { IfOk result (λ note. note.items ≡ named_text at word.now sentence.now usage.now) }
+/// Whether these are the same word.
+fn is_same(one: &str, other: &str) -> bool
+    ensures { result ≡ bytes_eq one.now other.now }
 {
-    let mut said = b"word ".to_vec(alloc)?;
-    push_number(&mut said, at as u64 + 1)?;
-    push_piece(&mut said, b", `")?;
-    push_quoted(&mut said, word.as_bytes())?;
-    push_piece(&mut said, b"`, ")?;
-    push_piece(&mut said, sentence.as_bytes())?;
-    pair_note(alloc, &said, usage.as_bytes())
+    one == other
+}
+
+/// Whether a word stands in a table.
+fn listed_in(word: &str, table: &[&str]) -> bool
+    ensures { result ≡ listed_in word.now table.now }
+{
+    table.iter().any(|other| is_same(*other, word))
+}
+
+/// Whether a word is a command of the program `backspace_inspect` that is none here.
+fn is_companions(command: &str) -> bool
+    ensures { result ≡ is_companions command.now }
+{
+    listed_in(command, &COMPANIONS)
+}
+
+/// What is said of a first word that is no command.
+fn command_sentence(command: &str) -> &'static str
+    ensures text { result.now ≡ command_sentence command.now }
+    ensures short { length result.now ≤ 96 }
+{
+    if is_companions(command) {
+        "is a command of the program `backspace_inspect`"
+    } else {
+        "is no command"
+    }
+}
+
+/// What is said of a word: its number from 1, the word, and a sentence.
+fn named_sentence(at: usize, word: &str, sentence: &str) -> Brief
+    requires at { at < 2 ^ 63 }
+    requires short { length sentence.now ≤ 96 }
+    ensures text { result ≡ named_sentence at word.now sentence.now }
+    ensures short { length result ≤ 767 }
+{
+    let mut said = Brief::of(b"word ");
+    said.push_number(at as u64 + 1);
+    said.push(b", `");
+    said.push_shown(word.as_bytes());
+    said.push(b"`, ");
+    said.push(sentence.as_bytes());
+    said
+}
+
+/// A note on a word; then how the command is used.
+fn named_note(at: usize, word: &str, sentence: &str, usage: &str) -> Brief
+    requires at { at < 2 ^ 63 }
+    requires sentence { length sentence.now ≤ 96 }
+    requires usage { length usage.now ≤ 256 }
+    ensures { result ≡ named_text at word.now sentence.now usage.now }
+{
+    let said = named_sentence(at, word, sentence);
+    brief_pair(said.bytes(), usage.as_bytes())
+}
+
+/// What is said of the number of words by position.
+fn counted_sentence(given: usize) -> Brief
+    ensures text { result ≡ counted_sentence given }
+    ensures short { length result ≤ 128 }
+{
+    let mut said = Brief::of(b"the number of words by position behind the command is ");
+    said.push_number(given as u64);
+    said.push(b"; a file name with a space in it stands in quotes");
+    said
 }
 
 /// A note on the number of words by position.
-fn counted_note(alloc: Global, given: usize, usage: &str) -> Result<Vec<u8>, NoMemory>
-    ensures { IfOk result (λ note. note.items ≡ counted_text given usage.now) }
+fn counted_note(given: usize, usage: &str) -> Brief
+    requires { length usage.now ≤ 256 }
+    ensures { result ≡ counted_text given usage.now }
 {
-    let mut said = b"the number of words by position behind the command is ".to_vec(alloc)?;
-    push_number(&mut said, given as u64)?;
-    push_piece(
-        &mut said,
-        b"; a file name with a space in it stands in quotes",
-    )?;
-    pair_note(alloc, &said, usage.as_bytes())
+    let said = counted_sentence(given);
+    brief_pair(said.bytes(), usage.as_bytes())
 }
 
 /// The first word, or none.
@@ -103,49 +171,45 @@ fn word_at(words: &[String], at: usize) -> &str
 
 /// A note on what is wrong with words.
 #[tactic(auto, using(bs_top_words::proofs::FaultLemmas::option_there, bs_top_words::proofs::FaultLemmas::value_there))]
-fn fault_note(alloc: Global, words: &[String], fault: WordFault) -> Result<Vec<u8>, NoMemory>
+fn fault_note(words: &[String], fault: WordFault) -> Brief
     requires { IsWordFault (map string_bytes words.now) fault }
-    ensures { IfOk result (λ note. note.items ≡ fault_text (map string_bytes words.now) fault) }
+    ensures { result ≡ fault_text (map string_bytes words.now) fault }
 {
     let command = command_of(words);
     let usage = usage(command);
     match fault {
-        WordFault::Absent => pair_note(alloc, b"there are no words", usage.as_bytes()),
-        WordFault::Command => named_note(alloc, 0, command, "is no command", usage),
+        WordFault::Absent => brief_pair(b"there are no words", usage.as_bytes()),
+        WordFault::Command => named_note(0, command, command_sentence(command), usage),
         WordFault::Option(at) => named_note(
-            alloc,
             at,
             word_at(words, at),
             "is no option of this command",
             usage,
         ),
         WordFault::Value(at) => named_note(
-            alloc,
             at,
             word_at(words, at),
             "wants a number in digits: --steps and --candidates 1 to 65536, --conflicts 1 to 2^40",
             usage,
         ),
-        WordFault::Positions(given) => counted_note(alloc, given, usage),
-        WordFault::Rest => pair_note(alloc, rest_sentence(command).as_bytes(), usage.as_bytes()),
+        WordFault::Positions(given) => counted_note(given, usage),
+        WordFault::Rest => brief_pair(rest_sentence(command).as_bytes(), usage.as_bytes()),
     }
 }
 
 /// A note on words that are no job.
-pub fn words_note(alloc: Global, words: &[String]) -> Result<Vec<u8>, NoMemory>
-    ensures { IfOk result (λ note. IsWordsNote (map string_bytes words.now) note.items) }
+pub fn words_note(words: &[String]) -> Brief
+    ensures { IsWordsNote (map string_bytes words.now) result }
 {
     let fault = word_fault(words);
-    let note = fault_note(alloc, words, fault)?;
-    Ok(note)
+    fault_note(words, fault)
 }
 
 /// A note on words that are no text.
-pub fn unread_words_note(alloc: Global) -> Result<Vec<u8>, NoMemory>
-    ensures { IfOk result (λ note. note.items ≡ unread_text) }
+pub fn unread_words_note() -> Brief
+    ensures { result ≡ unread_text }
 {
-    pair_note(
-        alloc,
+    brief_pair(
         b"the words of the command line are no text in UTF-8",
         usage("").as_bytes(),
     )

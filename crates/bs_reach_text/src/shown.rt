@@ -9,9 +9,6 @@ use bs_reach::{Outcome, Reach};
 use bs_report::{Budgets, Report, Stop};
 use std::alloc::Global;
 
-/// Lets a log go.
-fn drop_log(_log: Log) {}
-
 /// A report of no step with the states and inputs of an answer as its trace. Nothing is copied.
 fn report_in(alloc: Global, answer: Reach) -> Report
     ensures { result ≡ report_in answer }
@@ -24,7 +21,7 @@ fn report_in(alloc: Global, answer: Reach) -> Report
         inputs,
         log,
     } = answer;
-    drop_log(log);
+    drop(log);
     Report {
         depth: 1,
         budgets: Budgets {
@@ -50,9 +47,6 @@ fn is_reached(outcome: Outcome) -> bool
     }
 }
 
-/// Lets an answer go.
-fn drop_answer(_answer: Reach) {}
-
 /// The execution of an answer, where it has one, as a report that asked for no step: what shows the trace of a report shows it too.
 /// Nothing is copied.
 #[tactic(auto, using(crate::proofs::ShownLemmas::reached_shown, crate::proofs::ShownLemmas::unreached_shown, crate::proofs::ShownLemmas::shown_trace))]
@@ -65,7 +59,7 @@ pub fn execution_report(alloc: Global, answer: Reach) -> Option<Report>
         let report = report_in(alloc, answer);
         Some(report)
     } else {
-        drop_answer(answer);
+        drop(answer);
         None
     }
 }

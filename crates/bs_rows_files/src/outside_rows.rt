@@ -1,6 +1,5 @@
 //! Shelves and sinks at work: in memory, on real files and standard output, and over readers and writers that give and take little at
 //! a time and fail in the middle.
-use crate::job_rows::push_file;
 use bs_outside::{
     Fetch, FileShelf, MemShelf, MemSink, NoMemory, Put, Shelf, Sink, StdSink, SureShelf, SureSink,
     fetch_opened, write_whole,
@@ -10,6 +9,17 @@ use std::io::{ErrorKind, Read, Write};
 use std::os::fd::AsRawFd;
 use std::test::Fail;
 use std::{fs, io};
+
+/// Puts a file behind others.
+fn push_file(
+    alloc: Global,
+    files: &mut Vec<(String, Vec<u8>)>,
+    name: &str,
+    bytes: Vec<u8>,
+) -> Result<(), NoMemory> {
+    let name = String::from_str(alloc, name)?;
+    Ok(files.push((name, bytes))?)
+}
 
 /// The names of the files in memory, and their texts: of two of one name the first one counts.
 static FILES: [(&str, &str); 3] = [("a", "abc"), ("a", "x"), ("b", "")];

@@ -1,5 +1,5 @@
 -- What is answered for a report, a finding, a search or a backtrace, where memory sufficed for its text.
-use Rattle.std.proofs.Common.{◌≡◌, ℕ, List, length, Bool, Result, Ok, Err, Vec, refl, Option, ap, subst, sym, ◌∙◌}
+use Rattle.std.proofs.Common.{◌≡◌, ◌≢◌, ℕ, List, length, Bool, false, Result, Ok, Err, Vec, refl, Option, ap, subst, sym, ◌∙◌}
 use Rattle.std.specs.Prelude.{IfOk}
 use Rattle.std.specs.declared.alloc.Global.{Global}
 use Rattle.bs_bits.specs.declared.memory.NoMemory.{NoMemory}
@@ -14,15 +14,17 @@ use Rattle.bs_report.specs.declared.report.Budgets.{Budgets}
 use Rattle.bs_report.specs.declared.report.Report.{Report}
 use Rattle.bs_report.specs.Text.{report_text}
 use Rattle.bs_report_good.specs.declared.part.Part.{Part}
+use Rattle.bs_loop.specs.Searched.{TellsCut}
 use Rattle.bs_reach.specs.declared.reach.Reach.{Reach}
 use Rattle.bs_reach.specs.Reach.{IsReach}
 use Rattle.bs_reach.specs.Text.{reach_text}
 use Rattle.bs_wave.specs.declared.wave.Wave.{Wave}
 use Rattle.bs_wave.specs.Wave.{IsWaveOf}
 use Rattle.bs_wave.specs.WaveText.{wave_text}
+use Rattle.bs_top_answer.specs.declared.note.Note.TheVariants.{Wanting}
 use Rattle.bs_top_answer.specs.declared.note.Response.{Response}
-use Rattle.bs_top_answer.specs.Endings.{miss_text_of, rejected_text_if, run_text}
-use Rattle.bs_top_answer.specs.Note.{DueText}
+use Rattle.bs_top_answer.specs.Endings.{is_looked, miss_text_of, rejected_text_if, run_text}
+use Rattle.bs_top_answer.specs.Note.{DueText, SureText}
 use Rattle.bs_top_files.specs.Entry.{CrashFiles, recording_in}
 use Rattle.bs_top_plan.specs.declared.status.Status.TheVariants.{Done}
 use Rattle.bs_top.specs.Drawn.{IsDrawn, IsTraceWave}
@@ -67,16 +69,21 @@ summarises_told number report (Err want) is written = tt
 
 -- ---- what is said besides
 
-pub reports_said : (crash_files : CrashFiles) (report : Report) (r : Result Response NoMemory) (chip : Recording) → chip ≡ recording_in crash_files.setup →
+pub reports_said : (budgets : Budgets) (crash_files : CrashFiles) (report : Report) (cut : Bool) (r : Result Response NoMemory) (before chip : Recording) →
+    before ≡ recording_in crash_files.setup → chip ≡ recording_in crash_files.setup → TellsCut before budgets.conflicts report.steps cut →
     IfOk r (λ a. a.reply.text.items ≡ report_text report) →
-    IfOk r (λ a. DueText (run_text chip crash_files.dump crash_files.setup.runs (length report.steps) report.stop) a.note) →
-    IfOk r (λ a. RunSaid crash_files a.reply.text.items a.note)
-reports_said crash_files report (Ok a) chip is text says = record {
+    IfOk r (λ a. DueText (run_text chip crash_files.dump crash_files.setup.runs (length report.steps) report.stop cut) a.note) →
+    IfOk r (λ a. is_looked (length report.steps) report.stop ≡ false → a.note ≢ Wanting) →
+    IfOk r (λ a. RunSaid budgets crash_files a.reply.text.items a.note)
+reports_said budgets crash_files report cut (Ok a) before chip was is tells text says sure = record {
   report = report;
   written = text;
-  says = subst (λ (q : Recording). DueText (run_text q crash_files.dump crash_files.setup.runs (length report.steps) report.stop) a.note) is says;
+  cut = cut;
+  tells = subst (λ (q : Recording). TellsCut q budgets.conflicts report.steps cut) was tells;
+  says = subst (λ (q : Recording). DueText (run_text q crash_files.dump crash_files.setup.runs (length report.steps) report.stop cut) a.note) is says;
+  sure = sure;
 }
-reports_said crash_files report (Err want) chip is text says = tt
+reports_said budgets crash_files report cut (Err want) before chip was is tells text says sure = tt
 
 -- the dump has the width of a chip of its setup, whatever was asked of it
 pub fits_chip : (c : Circuit) (raw : Parts) (choice : Chosen) (runs : Stimulus) (dump : Dump) (before chip : Recording) → DumpFits c choice dump →
@@ -85,16 +92,16 @@ fits_chip c raw choice runs dump before chip fits same is still =
     fits.state ∙ ap (λ (q : Circuit). length q.flops) same ∙ ap (λ (q : Recording). length q.circuit.flops) (sym (still ∙ is))
 
 pub audits_said : (part : Option Part) (r : Result Response NoMemory) → IfOk r (λ a. a.reply.text.items ≡ finding_text part) →
-    IfOk r (λ a. DueText (rejected_text_if (is_rejected part)) a.note) → IfOk r (λ a. AuditSaid a.reply.text.items a.note)
+    IfOk r (λ a. SureText (rejected_text_if (is_rejected part)) a.note) → IfOk r (λ a. AuditSaid a.reply.text.items a.note)
 audits_said part (Ok a) text says = record { part = part; written = text; says = says }
 audits_said part (Err want) text says = tt
 
 pub draws_said : (raw : Parts) (report : Report) (part : Option Part) (r : Result Response NoMemory) → IfOk r (λ a. IsDrawn raw report part a.reply.text.items) →
-    IfOk r (λ a. DueText (rejected_text_if (is_rejected part)) a.note) → IfOk r (λ a. DrawSaid raw report a.reply.text.items a.note)
+    IfOk r (λ a. SureText (rejected_text_if (is_rejected part)) a.note) → IfOk r (λ a. DrawSaid raw report a.reply.text.items a.note)
 draws_said raw report part (Ok a) text says = record { part = part; written = text; says = says }
 draws_said raw report part (Err want) text says = tt
 
 pub answers_said : (reach : Reach) (r : Result Response NoMemory) → IfOk r (λ a. a.reply.text.items ≡ reach_text reach) →
-    IfOk r (λ a. DueText (miss_text_of (miss_of reach.outcome)) a.note) → IfOk r (λ a. ReachSaid a.reply.text.items a.note)
+    IfOk r (λ a. SureText (miss_text_of (miss_of reach.outcome)) a.note) → IfOk r (λ a. ReachSaid a.reply.text.items a.note)
 answers_said reach (Ok a) text says = record { reach = reach; written = text; says = says }
 answers_said reach (Err want) text says = tt

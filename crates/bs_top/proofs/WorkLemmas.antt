@@ -11,7 +11,7 @@ use Rattle.bs_top.specs.Rejected.{finding_status}
 use Rattle.bs_top_plan.specs.declared.status.Status.{Status}
 use Rattle.bs_note_calls.specs.Words.{IsWordsNote}
 use Rattle.bs_top_answer.specs.declared.note.Response.{Response}
-use Rattle.bs_top_answer.specs.Note.{Due}
+use Rattle.bs_top_answer.specs.Note.{Sure}
 use Rattle.bs_top_answer.specs.Prepared.{PreparedNoted}
 use Rattle.bs_top_answer.proofs.AnswerLemmas.{noted_nothing, noted_words}
 use Rattle.bs_top_plan.specs.Answers.{RefusesWords}
@@ -71,7 +71,7 @@ prepared_for {held = held} {faults = faults} {leads = leads} {before = before} {
 -- the answer to words that are no job
 pub prepared_none : {S : Type 0} {held : S → Tells} {faults : S → Counts} {leads : S → FetchCall → S → Type 0} {before : S} (words : List (List ℕ))
     (asked : Option Job) (r : Result Response NoMemory) → None ≡ asked → IfOk r (λ a. RefusesWords a.reply.status a.reply.text.items) →
-    IfOk r (λ a. Due (IsWordsNote words) a.note) →
+    IfOk r (λ a. Sure (IsWordsNote words) a.note) →
     PreparedNoted CheckSays finishes (WordsSaid words asked) held faults leads before before (option_map plan_of asked) r
 prepared_none {held = held} {faults = faults} {leads = leads} {before = before} words asked r e refuses says =
     subst (λ (o : Option Job). PreparedNoted CheckSays finishes (WordsSaid words o) held faults leads before before (option_map plan_of o) r) e

@@ -22,7 +22,7 @@ use Rattle.bs_note_calls.specs.Faults.{memory_text}
 use Rattle.bs_note_calls.specs.Words.{unread_text}
 use Rattle.bs_outside.specs.Texts.{Output, PutsText}
 use Rattle.bs_top_answer.specs.declared.note.Note.{Note}
-use Rattle.bs_top_answer.specs.Note.{Due}
+use Rattle.bs_top_answer.specs.Note.{Sure}
 use Rattle.bs_top_answer.specs.Said.{CallNoted, PutsNote}
 
 -- the plan of the job that words ask for, if they are one
@@ -75,7 +75,7 @@ pub record EndsUnread (kind : ErrorKind) (code : ℕ) : Type 0 where
 -- what is said of words that are no text
 pub record SaysUnread {N : Type 0} (out : Output N) (before now : N) : Type 0 where
   pub note : Note
-  pub is : Due (λ text. text ≡ unread_text) note
+  pub is : Sure (λ text. text ≡ unread_text) note
   pub put : PutsNote out before now note
 
 -- the note where the words cannot be told

@@ -1,6 +1,7 @@
 -- What is said of an answer, besides.
-use Rattle.std.specs.Prelude.{◌≡◌, ℕ, List, [], length, Bool, true, false, Option, Some, None}
+use Rattle.std.specs.Prelude.{◌≡◌, ◌≢◌, ℕ, List, [], length, Bool, true, false, Option, Some, None}
 use Rattle.bs_net.specs.Parts.{Parts}
+use Rattle.bs_loop.specs.Searched.{TellsCut}
 use Rattle.bs_outside.specs.Calls.{FetchCall}
 use Rattle.bs_note_calls.specs.declared.miss.Miss.{Miss}
 use Rattle.bs_note_calls.specs.declared.miss.Miss.TheVariants as M
@@ -9,14 +10,15 @@ use Rattle.bs_reach.specs.declared.reach.Outcome.{Outcome}
 use Rattle.bs_reach.specs.declared.reach.Outcome.TheVariants.{Reached, Unreached, Unknown}
 use Rattle.bs_reach.specs.declared.reach.Reach.{Reach}
 use Rattle.bs_reach.specs.Text.{reach_text}
+use Rattle.bs_report.specs.declared.report.Budgets.{Budgets}
 use Rattle.bs_report.specs.declared.report.Report.{Report}
 use Rattle.bs_report.specs.Text.{report_text}
 use Rattle.bs_report_good.specs.declared.part.Part.{Part}
 use Rattle.bs_target.specs.Target.{target_looked}
 use Rattle.bs_top_answer.specs.declared.note.Note.{Note}
-use Rattle.bs_top_answer.specs.declared.note.Note.TheVariants.{Silent}
-use Rattle.bs_top_answer.specs.Endings.{miss_text_of, rejected_text_if, run_text}
-use Rattle.bs_top_answer.specs.Note.{Due, DueText}
+use Rattle.bs_top_answer.specs.declared.note.Note.TheVariants.{Silent, Wanting}
+use Rattle.bs_top_answer.specs.Endings.{is_looked, miss_text_of, rejected_text_if, run_text}
+use Rattle.bs_top_answer.specs.Note.{DueText, Sure, SureText}
 use Rattle.bs_top_answer.specs.Paths.{Paths, path_of}
 use Rattle.bs_top_answer.specs.Prepared.{NoteAlong}
 use Rattle.bs_top_files.specs.Entry.{CrashFiles, recording_in}
@@ -63,11 +65,15 @@ paths_of (Search j) = record { netlist = j.netlist; signature = []; stimulus = [
 -- ---- work that is done
 
 -- The text is a report's, and the note tells its stop, where it is not at reset; where no candidate of the first step is hit, it tells
--- what the recorded runs show of the dump.
-pub record RunSaid (crash_files : CrashFiles) (text : List ℕ) (note : Note) : Type 0 where
+-- what the recorded runs show of the dump. It tells whether the search for a recorded moment was cut in the last step, as it was. Memory
+-- may run out for it only where the runs are looked at.
+pub record RunSaid (budgets : Budgets) (crash_files : CrashFiles) (text : List ℕ) (note : Note) : Type 0 where
   pub report : Report
   pub written : text ≡ report_text report
-  pub says : DueText (run_text (recording_in crash_files.setup) crash_files.dump crash_files.setup.runs (length report.steps) report.stop) note
+  pub cut : Bool
+  pub tells : TellsCut (recording_in crash_files.setup) budgets.conflicts report.steps cut
+  pub says : DueText (run_text (recording_in crash_files.setup) crash_files.dump crash_files.setup.runs (length report.steps) report.stop cut) note
+  pub sure : is_looked (length report.steps) report.stop ≡ false → note ≢ Wanting
 
 abbrev pub is_rejected : Option Part → Bool
 is_rejected None = false
@@ -77,12 +83,12 @@ is_rejected (Some part) = true
 pub record AuditSaid (text : List ℕ) (note : Note) : Type 0 where
   pub part : Option Part
   pub written : text ≡ finding_text part
-  pub says : DueText (rejected_text_if (is_rejected part)) note
+  pub says : SureText (rejected_text_if (is_rejected part)) note
 
 pub record DrawSaid (raw : Parts) (report : Report) (text : List ℕ) (note : Note) : Type 0 where
   pub part : Option Part
   pub written : IsDrawn raw report part text
-  pub says : DueText (rejected_text_if (is_rejected part)) note
+  pub says : SureText (rejected_text_if (is_rejected part)) note
 
 -- what a search misses by its outcome
 abbrev pub miss_of : Outcome → Option Miss
@@ -94,11 +100,11 @@ miss_of (Unknown j) = Some M.Unknown
 pub record ReachSaid (text : List ℕ) (note : Note) : Type 0 where
   pub reach : Reach
   pub written : text ≡ reach_text reach
-  pub says : DueText (miss_text_of (miss_of reach.outcome)) note
+  pub says : SureText (miss_text_of (miss_of reach.outcome)) note
 
 -- what is said of work, by its text
 abbrev pub WorkSaid : Work → List ℕ → Note → Type 0
-WorkSaid (to_run budgets crash_files) text note = RunSaid crash_files text note
+WorkSaid (to_run budgets crash_files) text note = RunSaid budgets crash_files text note
 WorkSaid (to_audit audit_files) text note = AuditSaid text note
 WorkSaid (to_dump moment_files) text note = note ≡ Silent
 WorkSaid (to_demo number moment_files) text note = note ≡ Silent
@@ -113,5 +119,5 @@ JobSaid job = NoteAlong NoteSays WorkSaid (path_of (paths_of job)) (looked_of jo
 
 -- the same of words: those that are no job have a note on what is wrong with them
 abbrev pub WordsSaid : List (List ℕ) → Option Job → List FetchCall → Status → List ℕ → Note → Type 0
-WordsSaid words None = λ fetches status text note. Due (IsWordsNote words) note
+WordsSaid words None = λ fetches status text note. Sure (IsWordsNote words) note
 WordsSaid words (Some job) = JobSaid job

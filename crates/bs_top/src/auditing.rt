@@ -1,7 +1,7 @@
 //! The command `audit`: whether a report is valid, or the first part of it that fails.
 ghost use Rattle.std.specs.Prelude.{◌≡◌, ◌++◌, codes, decimal, IfOk, OnOk, Some};
 ghost use Rattle.bs_top_answer.specs.Endings.{rejected_text_if};
-ghost use Rattle.bs_top_answer.specs.Note.{DueText};
+ghost use Rattle.bs_top_answer.specs.Note.{SureText};
 ghost use Rattle.bs_top_answer.specs.Prepared.{PreparedNoted};
 ghost use Rattle.bs_audit.specs.Finding.{part_of};
 ghost use Rattle.bs_top_files.specs.Ready.{audit_files_in};
@@ -140,10 +140,10 @@ pub fn find(alloc: Global, audit_files: &AuditFiles) -> Result<Finding, NoMemory
 }
 
 /// The note on what an audit finds.
-pub fn finding_said(alloc: Global, finding: Finding) -> Note
-    ensures { DueText (rejected_text_if (is_rejected (part_of finding))) result }
+pub fn finding_said(finding: Finding) -> Note
+    ensures { SureText (rejected_text_if (is_rejected (part_of finding))) result }
 {
-    rejected_said(alloc, is_rejected(finding))
+    rejected_said(is_rejected(finding))
 }
 
 /// Whether a part fails.
@@ -160,10 +160,10 @@ fn is_rejected(finding: Finding) -> bool
 fn finding_answer(alloc: Global, finding: Finding) -> Result<Response, NoMemory>
     ensures status { IfOk result (λ answer. answer.reply.status ≡ finding_status (part_of finding)) }
     ensures text { IfOk result (λ answer. answer.reply.text.items ≡ finding_text (part_of finding)) }
-    ensures note { IfOk result (λ answer. DueText (rejected_text_if (is_rejected (part_of finding))) answer.note) }
+    ensures note { IfOk result (λ answer. SureText (rejected_text_if (is_rejected (part_of finding))) answer.note) }
 {
     let text = finding_text(alloc, finding)?;
-    let note = finding_said(alloc, finding);
+    let note = finding_said(finding);
     let status = finding_status(finding);
     Ok(Response {
         reply: Reply { status, text },

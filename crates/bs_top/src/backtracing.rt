@@ -1,9 +1,11 @@
 //! The command `run`: the backtrace of a dump, and its report.
-ghost use Rattle.std.specs.Prelude.{◌≡◌, ◌+◌, length, IfOk, Some};
-ghost use Rattle.bs_top_answer.specs.Endings.{run_text};
+ghost use Rattle.std.specs.Prelude.{◌≡◌, ◌≢◌, ◌+◌, false, length, IfOk, Some};
+ghost use Rattle.bs_top_answer.specs.declared.note.Note.TheVariants.{Wanting};
+ghost use Rattle.bs_top_answer.specs.Endings.{is_looked, run_text};
 ghost use Rattle.bs_top_answer.specs.Note.{DueText};
 ghost use Rattle.bs_top_answer.specs.Prepared.{PreparedNoted};
 ghost use Rattle.bs_loop.specs.Budget.{IsBudget};
+ghost use Rattle.bs_loop.specs.Searched.{TellsCut};
 ghost use Rattle.bs_top_files.specs.Ready.{crash_files_in, setup_in};
 ghost use Rattle.bs_top_files.specs.Refusals.{CheckSays};
 ghost use Rattle.bs_top_words.specs.Job.{Run as RunWords};
@@ -42,26 +44,28 @@ fn stop_status(stop: Stop) -> Status
     }
 }
 
-/// The report of the backtrace of a dump on a chip of a setup.
+/// The report of the backtrace of a dump on a chip of a setup, and whether the search for its last step was cut.
 fn trace(
     alloc: Global,
     chip: &mut Chip<'_>,
     setup: &Setup,
     dump: &Dump,
     budgets: &Budgets,
+    cut: &mut bool,
 ) -> Result<Report, NoMemory>
     requires chip { chip.old.recording ≡ recording_of setup.now.net.raw setup.now.choice setup.now.runs }
     requires dump { DumpFits (circuit setup.now.net) setup.now.choice dump.now }
     requires budgets { IsBudget budgets.now }
     ensures backtrace { IfOk result (IsBacktrace (crash_of (recording_in (setup_in setup.now)) dump.now) budgets.now) }
     ensures trace { IfOk result (λ report. length report.states ≡ length report.inputs + 1) }
+    ensures cut { IfOk result (λ report. TellsCut chip.old.recording budgets.now.conflicts report.steps cut.new) }
     ensures chip { chip.new.recording ≡ chip.old.recording }
 {
     let _order = setup.net.order();
     let _count = setup.runs.count();
     let _depth = setup.choice.depth();
     match Preimage::new(alloc, &setup.net, &setup.choice) {
-        Ok(preimage) => backtrace(alloc, chip, preimage, dump, budgets),
+        Ok(preimage) => backtrace(alloc, chip, preimage, dump, budgets, cut),
         Err(want) => Err(want),
     }
 }
@@ -81,7 +85,8 @@ fn trace_with(
     ensures trace { IfOk result (λ report. length report.states ≡ length report.inputs + 1) }
 {
     let mut chip = chip;
-    let report = trace(alloc, &mut chip, setup, dump, budgets);
+    let mut cut = false;
+    let report = trace(alloc, &mut chip, setup, dump, budgets, &mut cut);
     report
 }
 
@@ -117,18 +122,20 @@ fn written(alloc: Global, report: &Report) -> Result<Reply, NoMemory>
     })
 }
 
-/// What is written for a report that stays, and the note on its stop.
+/// What is written for a report that stays, and the note on its stop. `cut` is whether the search for its last step was cut.
 fn report_answer(
     alloc: Global,
     chip: &mut Chip<'_>,
     report: &Report,
+    cut: bool,
     crash_files: &CrashFiles,
 ) -> Result<Response, NoMemory>
     requires trace { length report.now.states ≡ length report.now.inputs + 1 }
     requires dump { length crash_files.now.dump.state ≡ length chip.old.recording.circuit.flops }
     ensures status { IfOk result (λ answer. answer.reply.status ≡ stop_status report.now.stop) }
     ensures text { IfOk result (λ answer. answer.reply.text.items ≡ report_text report.now) }
-    ensures note { IfOk result (λ answer. DueText (run_text chip.old.recording crash_files.now.dump crash_files.now.setup.runs (length report.now.steps) report.now.stop) answer.note) }
+    ensures note { IfOk result (λ answer. DueText (run_text chip.old.recording crash_files.now.dump crash_files.now.setup.runs (length report.now.steps) report.now.stop cut) answer.note) }
+    ensures sure { IfOk result (λ answer. is_looked (length report.now.steps) report.now.stop ≡ false → answer.note ≢ Wanting) }
 {
     let reply = written(alloc, report)?;
     let steps = report.steps.len() as u64;
@@ -139,6 +146,7 @@ fn report_answer(
         &crash_files.setup.runs,
         steps,
         report.stop,
+        cut,
     );
     Ok(Response { reply, note })
 }
@@ -148,15 +156,17 @@ fn answer_of(
     alloc: Global,
     chip: &mut Chip<'_>,
     report: Report,
+    cut: bool,
     crash_files: &CrashFiles,
 ) -> Result<Response, NoMemory>
     requires trace { length report.states ≡ length report.inputs + 1 }
     requires dump { length crash_files.now.dump.state ≡ length chip.old.recording.circuit.flops }
     ensures status { IfOk result (λ answer. answer.reply.status ≡ stop_status report.stop) }
     ensures text { IfOk result (λ answer. answer.reply.text.items ≡ report_text report) }
-    ensures note { IfOk result (λ answer. DueText (run_text chip.old.recording crash_files.now.dump crash_files.now.setup.runs (length report.steps) report.stop) answer.note) }
+    ensures note { IfOk result (λ answer. DueText (run_text chip.old.recording crash_files.now.dump crash_files.now.setup.runs (length report.steps) report.stop cut) answer.note) }
+    ensures sure { IfOk result (λ answer. is_looked (length report.steps) report.stop ≡ false → answer.note ≢ Wanting) }
 {
-    let answer = report_answer(alloc, chip, &report, crash_files);
+    let answer = report_answer(alloc, chip, &report, cut, crash_files);
     answer
 }
 
@@ -173,8 +183,16 @@ fn chip_answer(
     ensures done { IfOk result (λ answer. replies (to_run budgets.now (crash_files_in crash_files.now)) answer.reply.status answer.reply.text.items) }
     ensures said { IfOk result (λ answer. WorkSaid (to_run budgets.now (crash_files_in crash_files.now)) answer.reply.text.items answer.note) }
 {
-    match trace(alloc, chip, &crash_files.setup, &crash_files.dump, budgets) {
-        Ok(report) => answer_of(alloc, chip, report, crash_files),
+    let mut cut = false;
+    match trace(
+        alloc,
+        chip,
+        &crash_files.setup,
+        &crash_files.dump,
+        budgets,
+        &mut cut,
+    ) {
+        Ok(report) => answer_of(alloc, chip, report, cut, crash_files),
         Err(want) => Err(want),
     }
 }

@@ -2,7 +2,7 @@
 ghost use Rattle.std.specs.Prelude.{◌≡◌, IfOk, None, Some};
 ghost use Rattle.bs_net.specs.Netlist.{circuit};
 ghost use Rattle.bs_top_answer.specs.Endings.{rejected_text_if};
-ghost use Rattle.bs_top_answer.specs.Note.{DueText};
+ghost use Rattle.bs_top_answer.specs.Note.{SureText};
 ghost use Rattle.bs_top_answer.specs.Prepared.{PreparedNoted};
 ghost use Rattle.bs_audit.specs.Finding.{part_of};
 ghost use Rattle.bs_top_files.specs.Ready.{audit_files_in};
@@ -83,10 +83,10 @@ fn drawing_answer(
     requires { part_of finding ≡ None → IsWayOf (circuit audit_files.now.crash_files.setup.net) audit_files.now.report.states audit_files.now.report.inputs }
     ensures status { IfOk result (λ answer. answer.reply.status ≡ finding_status (part_of finding)) }
     ensures text { IfOk result (λ answer. IsDrawn audit_files.now.crash_files.setup.net.raw audit_files.now.report (part_of finding) answer.reply.text.items) }
-    ensures note { IfOk result (λ answer. DueText (rejected_text_if (is_rejected (part_of finding))) answer.note) }
+    ensures note { IfOk result (λ answer. SureText (rejected_text_if (is_rejected (part_of finding))) answer.note) }
 {
     let text = drawing(alloc, audit_files, finding)?;
-    let note = finding_said(alloc, finding);
+    let note = finding_said(finding);
     let status = finding_status(finding);
     Ok(Response {
         reply: Reply { status, text },

@@ -7,7 +7,7 @@ ghost use Rattle.bs_top.specs.Program.{EndsBy, EndsUnread, SaysUnread, UnreadSai
 use crate::top::backspace_noted;
 use bs_note_calls::unread_words_note;
 use bs_outside::{NoMemory, Shelf, Sink};
-use bs_top_answer::{note_made, put_note, say_memory};
+use bs_top_answer::{Note, put_note, say_memory};
 use bs_top_plan::{NO_MEMORY_CODE, Status};
 use std::alloc::Global;
 use std::io::ErrorKind;
@@ -23,15 +23,15 @@ fn exit_code(answer: Result<Status, NoMemory>) -> u8
 }
 
 /// Says that the words of the command line are no text.
-fn say_unread<N: Sink>(alloc: Global, notes: &mut N)
+fn say_unread<N: Sink>(notes: &mut N)
     ensures { SaysUnread (output N.written N.faults N.leads) notes.old notes.new }
 {
-    let note = note_made(unread_words_note(alloc));
+    let note = Note::Brief(unread_words_note());
     put_note(notes, &note);
 }
 
 /// The exit code where the words can't be told, and the note on that.
-fn unread_code<N: Sink>(alloc: Global, kind: ErrorKind, notes: &mut N) -> u8
+fn unread_code<N: Sink>(kind: ErrorKind, notes: &mut N) -> u8
     ensures code { EndsUnread kind result }
     ensures said { UnreadSaid kind (output N.written N.faults N.leads) notes.old notes.new }
 {
@@ -39,7 +39,7 @@ fn unread_code<N: Sink>(alloc: Global, kind: ErrorKind, notes: &mut N) -> u8
         say_memory(notes);
         NO_MEMORY_CODE
     } else {
-        say_unread(alloc, notes);
+        say_unread(notes);
         Status::Words.code()
     }
 }
@@ -74,6 +74,6 @@ pub fn run_program<S: Shelf, K: Sink, N: Sink>(
 {
     match words {
         Ok(words) => answer_words(alloc, &words, shelf, out, notes),
-        Err(kind) => unread_code(alloc, kind, notes),
+        Err(kind) => unread_code(kind, notes),
     }
 }

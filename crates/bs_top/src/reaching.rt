@@ -1,7 +1,7 @@
 //! The command `reach`: whether a state is reached from reset within a number of cycles, with an execution or a refutation.
 ghost use Rattle.std.specs.Prelude.{◌≡◌, ◌≤◌, IfOk, Some};
 ghost use Rattle.bs_top_answer.specs.Endings.{miss_text_of};
-ghost use Rattle.bs_top_answer.specs.Note.{DueText};
+ghost use Rattle.bs_top_answer.specs.Note.{SureText};
 ghost use Rattle.bs_top_answer.specs.Prepared.{PreparedNoted};
 ghost use Rattle.bs_net.specs.Netlist.{circuit};
 ghost use Rattle.bs_top_files.specs.Refusals.{CheckSays};
@@ -76,10 +76,10 @@ fn search_answer(alloc: Global, reach: &Reach) -> Result<Response, NoMemory>
     requires { HasStates reach.now.outcome reach.now }
     ensures status { IfOk result (λ answer. answer.reply.status ≡ reach_status reach.now.outcome) }
     ensures text { IfOk result (λ answer. answer.reply.text.items ≡ reach_text reach.now) }
-    ensures note { IfOk result (λ answer. DueText (miss_text_of (miss_of reach.now.outcome)) answer.note) }
+    ensures note { IfOk result (λ answer. SureText (miss_text_of (miss_of reach.now.outcome)) answer.note) }
 {
     let reply = written(alloc, reach)?;
-    let note = miss_said(alloc, miss_of(reach.outcome));
+    let note = miss_said(miss_of(reach.outcome));
     Ok(Response { reply, note })
 }
 
@@ -88,7 +88,7 @@ fn answer_of(alloc: Global, reach: Reach) -> Result<Response, NoMemory>
     requires { HasStates reach.outcome reach }
     ensures status { IfOk result (λ answer. answer.reply.status ≡ reach_status reach.outcome) }
     ensures text { IfOk result (λ answer. answer.reply.text.items ≡ reach_text reach) }
-    ensures note { IfOk result (λ answer. DueText (miss_text_of (miss_of reach.outcome)) answer.note) }
+    ensures note { IfOk result (λ answer. SureText (miss_text_of (miss_of reach.outcome)) answer.note) }
 {
     let answer = search_answer(alloc, &reach);
     answer

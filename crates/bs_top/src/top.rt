@@ -7,7 +7,7 @@ ghost use Rattle.bs_top_plan.specs.Answers.{RefusesWords};
 ghost use Rattle.bs_note_calls.specs.Faults.{memory_text};
 ghost use Rattle.bs_note_calls.specs.Words.{IsWordsNote};
 ghost use Rattle.bs_outside.specs.Texts.{output, PutsText};
-ghost use Rattle.bs_top_answer.specs.Note.{Due};
+ghost use Rattle.bs_top_answer.specs.Note.{Sure};
 ghost use Rattle.bs_top_answer.specs.Prepared.{PreparedNoted};
 ghost use Rattle.bs_top_answer.specs.Said.{CallNoted};
 ghost use Rattle.bs_top_files.specs.Law.{NetlistsMeanDesigns};
@@ -25,7 +25,7 @@ use crate::reaching::reach;
 use crate::summing::demo;
 use bs_note_calls::words_note;
 use bs_outside::{Deaf, NoMemory, Shelf, Sink};
-use bs_top_answer::{Response, deliver_noted, note_made, say_memory};
+use bs_top_answer::{Note, Response, deliver_noted, say_memory};
 use bs_top_plan::{Status, refused_words};
 use bs_top_words::{Job, read_words};
 use std::alloc::Global;
@@ -33,10 +33,10 @@ use std::alloc::Global;
 /// The answer to words that are no job, and the note on what is wrong with them.
 fn words_answer(alloc: Global, words: &[String]) -> Result<Response, NoMemory>
     ensures reply { IfOk result (λ answer. RefusesWords answer.reply.status answer.reply.text.items) }
-    ensures note { IfOk result (λ answer. Due (IsWordsNote (map string_bytes words.now)) answer.note) }
+    ensures note { IfOk result (λ answer. Sure (IsWordsNote (map string_bytes words.now)) answer.note) }
 {
     let reply = refused_words(alloc)?;
-    let note = note_made(words_note(alloc, words));
+    let note = Note::Brief(words_note(words));
     Ok(Response { reply, note })
 }
 

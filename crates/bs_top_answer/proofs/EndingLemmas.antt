@@ -1,10 +1,8 @@
 -- The moments of recorded runs, and the notes on work that is done.
-use Rattle.std.proofs.Common.{◌≡◌, ◌≢◌, ℕ, suc, ◌+◌, ◌<◌, Bool, true, false, cond, List, [], ◌∷◌, ◌++◌, length, take, Option, Some, None, Result, Ok, Err, Vec, refl, sym, subst, ◌∙◌, ap, get_or, arith}
-use Rattle.std.specs.Prelude.{IfOk, option_map, sum_by}
-use Rattle.std.specs.declared.alloc.Global.{Global}
+use Rattle.std.proofs.Common.{◌≡◌, ◌≢◌, ℕ, suc, ◌+◌, ◌<◌, Bool, true, false, cond, List, [], ◌∷◌, ◌++◌, length, take, Option, Some, None, refl, sym, subst, ◌∙◌, ap, get_or, arith}
+use Rattle.std.specs.Prelude.{option_map, sum_by}
 use Rattle.std.proofs.Math.Seq.{take-suc}
 use Rattle.std.proofs.lemmas.List.Sums.{sum_by-append}
-use Rattle.bs_bits.specs.declared.memory.NoMemory.{NoMemory}
 use Rattle.bs_report.specs.declared.report.Stop.{Stop}
 use Rattle.bs_stim.specs.Runs.{Recorded, Stimulus, no_run}
 use Rattle.bs_scan.specs.declared.dump.Dump.{Dump}
@@ -15,8 +13,8 @@ use Rattle.bs_note_calls.specs.Searches.{miss_text}
 use Rattle.bs_note_calls.specs.Stops.{text_of}
 use Rattle.bs_note_calls.specs.declared.miss.Miss.{Miss}
 use Rattle.bs_top_answer.specs.declared.note.Note.{Note}
-use Rattle.bs_top_answer.specs.declared.note.Note.TheVariants.{Silent, Brief, Text, Wanting}
-use Rattle.bs_top_answer.specs.Note.{Due, DueText, note_made}
+use Rattle.bs_top_answer.specs.declared.note.Note.TheVariants.{Silent, Brief, Wanting}
+use Rattle.bs_top_answer.specs.Note.{Due, DueText, SureText}
 use Rattle.bs_top_answer.specs.Endings.{followed_text, is_looked, miss_text_of, rejected_text_if, run_text, stopped_text}
 
 -- the moments of one run
@@ -61,31 +59,24 @@ pub silent_sure : (steps : ℕ) (stop : Stop) (note : Note) → note ≡ Silent 
 silent_sure steps stop note same not = λ is. let e : Silent ≡ Wanting = sym same ∙ is in absurd cc
 
 -- nothing is said of a run that came to reset
-pub run_silent : (r : Recording) (dump : Dump) (runs : Stimulus) (steps : ℕ) (stop : Stop) (note : Note) → text_of steps stop ≡ None → note ≡ Silent →
-    DueText (run_text r dump runs steps stop) note
-run_silent r dump runs steps stop note none silent =
+pub run_silent : (r : Recording) (dump : Dump) (runs : Stimulus) (steps : ℕ) (stop : Stop) (cut : Bool) (note : Note) → text_of steps stop cut ≡ None →
+    note ≡ Silent → DueText (run_text r dump runs steps stop cut) note
+run_silent r dump runs steps stop cut note none silent =
     subst (λ (t : Option (List ℕ)). DueText (option_map (λ (text : List ℕ). stopped_text r dump steps stop (followed_text runs stop text)) t) note)
     (sym none) silent
 
 -- the note on a stop, from the text of its own
-pub run_due : (r : Recording) (dump : Dump) (runs : Stimulus) (steps : ℕ) (stop : Stop) (text : List ℕ) (note : Note) → text_of steps stop ≡ Some text →
-    Due (λ n. n ≡ stopped_text r dump steps stop (followed_text runs stop text)) note → DueText (run_text r dump runs steps stop) note
-run_due r dump runs steps stop text note some says =
+pub run_due : (r : Recording) (dump : Dump) (runs : Stimulus) (steps : ℕ) (stop : Stop) (cut : Bool) (text : List ℕ) (note : Note) →
+    text_of steps stop cut ≡ Some text → Due (λ n. n ≡ stopped_text r dump steps stop (followed_text runs stop text)) note →
+    DueText (run_text r dump runs steps stop cut) note
+run_due r dump runs steps stop cut text note some says =
     subst (λ (t : Option (List ℕ)). DueText (option_map (λ (text : List ℕ). stopped_text r dump steps stop (followed_text runs stop text)) t) note)
     (sym some) says
 
-pub miss_made : (miss : Option Miss) (one : Miss) (made : Result (Vec ℕ Global) NoMemory) (note : Note) → miss ≡ Some one → note ≡ note_made made →
-    IfOk made (λ n. n.items ≡ miss_text one) → DueText (miss_text_of miss) note
-miss_made miss one made note is same says = rw (is, same) (by made says)
-  where
-    by : (made : Result (Vec ℕ Global) NoMemory) → IfOk made (λ n. n.items ≡ miss_text one) → DueText (Some (miss_text one)) (note_made made)
-    by (Ok n) says = says
-    by (Err want) says = tt
+pub miss_made : (miss : Option Miss) (one : Miss) (said : List ℕ) (note : Note) → miss ≡ Some one → note ≡ Brief said → said ≡ miss_text one →
+    SureText (miss_text_of miss) note
+miss_made miss one said note is same says = rw (is, same) says
 
-pub rejected_made : (rejected : Bool) (made : Result (Vec ℕ Global) NoMemory) (note : Note) → rejected ≡ true → note ≡ note_made made →
-    IfOk made (λ n. n.items ≡ rejected_text) → DueText (rejected_text_if rejected) note
-rejected_made rejected made note is same says = rw (is, same) (by made says)
-  where
-    by : (made : Result (Vec ℕ Global) NoMemory) → IfOk made (λ n. n.items ≡ rejected_text) → DueText (Some rejected_text) (note_made made)
-    by (Ok n) says = says
-    by (Err want) says = tt
+pub rejected_made : (rejected : Bool) (said : List ℕ) (note : Note) → rejected ≡ true → note ≡ Brief said → said ≡ rejected_text →
+    SureText (rejected_text_if rejected) note
+rejected_made rejected said note is same says = rw (is, same) says

@@ -41,10 +41,11 @@ is_looked steps S.Conflicts = steps == 1
 abbrev pub stopped_text : Recording → Dump → ℕ → Stop → List ℕ → List ℕ
 stopped_text r dump steps stop text = if is_looked steps stop then looked_text r dump text else text
 
--- the note on why a run over these recorded runs stopped, after so many steps from a dump; none where it came to reset
-abbrev pub run_text : Recording → Dump → Stimulus → ℕ → Stop → Option (List ℕ)
-run_text r dump runs steps stop =
-    option_map (λ (text : List ℕ). stopped_text r dump steps stop (followed_text runs stop text)) (text_of steps stop)
+-- the note on why a run over these recorded runs stopped, after so many steps from a dump, the last one with a search that was cut or was
+-- not; none where it came to reset
+abbrev pub run_text : Recording → Dump → Stimulus → ℕ → Stop → Bool → Option (List ℕ)
+run_text r dump runs steps stop cut =
+    option_map (λ (text : List ℕ). stopped_text r dump steps stop (followed_text runs stop text)) (text_of steps stop cut)
 
 -- the note on a search, where it has no execution
 abbrev pub miss_text_of : Option Miss → Option (List ℕ)

@@ -28,3 +28,8 @@ Due is Wanting = Unit {0}
 abbrev pub DueText : Option (List ℕ) → Note → Type 0
 DueText None note = note ≡ Silent
 DueText (Some text) note = Due (λ said. said ≡ text) note
+
+-- a note with this text is there, where one is due
+abbrev pub SureText : Option (List ℕ) → Note → Type 0
+SureText None note = note ≡ Silent
+SureText (Some text) note = Sure (λ said. said ≡ text) note

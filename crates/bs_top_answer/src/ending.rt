@@ -2,7 +2,7 @@
 ghost use Rattle.std.specs.Prelude.{◌≡◌, ◌≢◌, ◌≤◌, ◌++◌, codes, decimal, false, length};
 ghost use Rattle.bs_top_answer.specs.Endings.{followed_text, is_looked, miss_text_of, moments, rejected_text_if, run_text, searched_text, stopped_text};
 ghost use Rattle.bs_top_answer.specs.Looks.{looked_text};
-ghost use Rattle.bs_top_answer.specs.Note.{Due, DueText};
+ghost use Rattle.bs_top_answer.specs.Note.{Due, DueText, SureText};
 
 use crate::look::looked_note;
 use crate::note::{Note, note_made};
@@ -134,8 +134,8 @@ fn noted(
     stopped(alloc, chip, dump, steps, stop, text)
 }
 
-/// The note on why a run from a dump stopped after so many steps, where it did not come to reset. The chip is that of the runs. Memory
-/// may run out for it only where the runs are looked at.
+/// The note on why a run from a dump stopped after so many steps, where it did not come to reset. The chip is that of the runs. `cut` is
+/// whether the search for a recorded moment was cut in the last step. Memory may run out for the note only where the runs are looked at.
 #[tactic(auto, using(crate::proofs::EndingLemmas::run_silent, crate::proofs::EndingLemmas::run_due, crate::proofs::EndingLemmas::silent_sure))]
 pub fn run_said(
     alloc: Global,
@@ -144,35 +144,36 @@ pub fn run_said(
     runs: &Runs,
     steps: u64,
     stop: Stop,
+    cut: bool,
 ) -> Note
     requires { length dump.now.state ≡ length chip.old.recording.circuit.flops }
-    ensures text { DueText (run_text chip.old.recording dump.now runs.now steps stop) result }
+    ensures text { DueText (run_text chip.old.recording dump.now runs.now steps stop cut) result }
     ensures sure { is_looked steps stop ≡ false → result ≢ Note.Wanting }
 {
-    match stop_note(steps, stop) {
+    match stop_note(steps, stop, cut) {
         Some(text) => noted(alloc, chip, dump, runs, steps, stop, text),
         None => Note::Silent,
     }
 }
 
-/// The note on a search, where it has no execution.
+/// The note on a search, where it has no execution. It takes no memory.
 #[tactic(auto, using(crate::proofs::EndingLemmas::miss_made))]
-pub fn miss_said(alloc: Global, miss: Option<Miss>) -> Note
-    ensures { DueText (miss_text_of miss) result }
+pub fn miss_said(miss: Option<Miss>) -> Note
+    ensures { SureText (miss_text_of miss) result }
 {
     match miss {
-        Some(miss) => note_made(miss_note(alloc, miss)),
+        Some(miss) => Note::Brief(miss_note(miss)),
         None => Note::Silent,
     }
 }
 
-/// The note on an audit, where the report is not valid.
+/// The note on an audit, where the report is not valid. It takes no memory.
 #[tactic(auto, using(crate::proofs::EndingLemmas::rejected_made))]
-pub fn rejected_said(alloc: Global, rejected: bool) -> Note
-    ensures { DueText (rejected_text_if rejected) result }
+pub fn rejected_said(rejected: bool) -> Note
+    ensures { SureText (rejected_text_if rejected) result }
 {
     if rejected {
-        note_made(rejected_note(alloc))
+        Note::Brief(rejected_note())
     } else {
         Note::Silent
     }

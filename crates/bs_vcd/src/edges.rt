@@ -24,7 +24,7 @@ pub struct ClockAndInputs {
 }
 
 /// The path of the clock's scope.
-fn clock_scope<'a>(
+pub fn clock_scope<'a>(
     scope: Option<&'a [u8]>,
     clock: KeyParts<'_>,
     declared: &'a HeaderDeclarations<'_>,
@@ -38,7 +38,7 @@ fn clock_scope<'a>(
 }
 
 /// The bit of the clock.
-fn clock_source(
+pub fn clock_source(
     declared: &HeaderDeclarations<'_>,
     path: &[u8],
     clock: KeyParts<'_>,

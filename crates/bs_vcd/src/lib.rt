@@ -12,6 +12,8 @@ mod edges;
 mod levels;
 mod sampling;
 
+pub use changes::{ValueChange, WordEffect, WordPlace, word_step};
 pub use cycles::{When, begin_in, states};
-pub use edges::stimulus;
+pub use edges::{clock_scope, clock_source, stimulus};
+pub use levels::{apply, level, rises};
 pub use sampling::SampledLines;

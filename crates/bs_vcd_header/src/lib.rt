@@ -21,6 +21,7 @@ mod words;
 
 pub use fault::VcdFault;
 pub use header::{Behind, HeaderDeclarations, HeaderState, Variable, nothing, take_words};
+pub use index::{TagIndex, index_of, source_by};
 pub use inputs::take_inputs;
 pub use scopes::{declared, names_of, scopes_of};
 pub use sources::{BitSource, scope_of, source_in};

@@ -1,17 +1,19 @@
 use Rattle.std.proofs.Common.{refl}
-use Rattle.bs_top_answer.proofs.AnswerLemmas.{diagnosed_as}
+use Rattle.bs_inspect_values.specs.Dumped.{dumped_looked, dumped_of}
+use Rattle.bs_inspect.specs.Asked.{dump_files}
 use Rattle.bs_inspect_words.specs.Asked.{dump_in}
 use Rattle.bs_inspect_words.specs.Request.{Dump as Asked}
 use Rattle.bs_inspect.specs.Sources.{source_of, sources_of}
 use Rattle.bs_inspect.specs.Work.{to_dump}
-use Rattle.bs_inspect.proofs.WorkLemmas.{diagnosed_done, diagnosed_stop_at}
+use Rattle.bs_inspect.proofs.WorkLemmas.{walked_done, walked_stop}
 use Rattle.bs_inspect.proofs.asking.dump.Goals as goal
 
 pub returns-in-Ok : goal.returns-in-Ok
 returns-in-Ok g c =
-    diagnosed_done (source_of (sources_of (Asked (dump_in c.args.asked.now)))) _ _ c.silent.ensures refl (diagnosed_as to_dump c.in-Ok.ensures) c.tell_dump.ensures
+    walked_done (dumped_of (dump_files (dump_in c.args.asked.now))) (dumped_looked (dump_files (dump_in c.args.asked.now))) to_dump
+    (source_of (sources_of (Asked (dump_in c.args.asked.now)))) _ _ c.silent.ensures refl c.in-Ok.ensures c.tell_dump.ensures
 
 pub returns-in-Err : goal.returns-in-Err
 returns-in-Err g c =
-    diagnosed_stop_at _ (sources_of (Asked (dump_in c.args.asked.now))) _ c.dump_sources.ensures (diagnosed_as to_dump c.in-Err.ensures)
-    c.stop_at.ensures.reply c.stop_at.ensures.note
+    walked_stop (dumped_of (dump_files (dump_in c.args.asked.now))) (dumped_looked (dump_files (dump_in c.args.asked.now))) to_dump
+    _ (sources_of (Asked (dump_in c.args.asked.now))) _ c.dump_sources.ensures c.in-Err.ensures c.stop_at.ensures.reply c.stop_at.ensures.note

@@ -1,9 +1,9 @@
-use Rattle.bs_top_answer.proofs.AnswerLemmas.{diagnosed_as}
+use Rattle.bs_inspect_files.specs.FlopFiles.{named_looked, named_of}
 use Rattle.std.proofs.Common.{ℕ, Bor, List, map, sym, refl}
 use Rattle.bs_inspect_words.specs.Request.{Request, Keys}
 use Rattle.bs_inspect.specs.Sources.{source_of, sources_of}
 use Rattle.bs_inspect.specs.Work.{to_keys}
-use Rattle.bs_inspect.proofs.WorkLemmas.{noted_with, diagnosed_done, diagnosed_stop_at}
+use Rattle.bs_inspect.proofs.WorkLemmas.{noted_with, walked_done, walked_stop}
 use Rattle.bs_inspect.proofs.asking.keys.Goals as goal
 
 pub returns-in-Ok : goal.returns-in-Ok
@@ -11,12 +11,17 @@ returns-in-Ok g c =
     let request : List (Bor (List ℕ)) → Request = λ xs. Keys (record { netlist = c.args.asked.now.netlist.now; names = map (λ s. s.now) xs }) in
     let slice : List (Bor (List ℕ)) = c.as_slice-names.result.now in
     noted_with request c.args.asked.now.names.items slice _ (sym c.as_slice-names.ensures.value)
-    (diagnosed_done (source_of (sources_of (request slice))) _ _ c.silent.ensures refl (diagnosed_as (to_keys (map (λ s. s.now) slice)) c.in-Ok.ensures) c.tell_keys.ensures)
+    (walked_done (named_of c.args.asked.now.netlist.now (map (λ s. s.now) slice))
+    (named_looked c.args.asked.now.netlist.now (map (λ s. s.now) slice)) (to_keys (map (λ s. s.now)
+    slice))
+    (source_of (sources_of (request slice))) _ _ c.silent.ensures refl c.in-Ok.ensures c.tell_keys.ensures)
 
 pub returns-in-Err : goal.returns-in-Err
 returns-in-Err g c =
     let request : List (Bor (List ℕ)) → Request = λ xs. Keys (record { netlist = c.args.asked.now.netlist.now; names = map (λ s. s.now) xs }) in
     let slice : List (Bor (List ℕ)) = c.as_slice-names.result.now in
     noted_with request c.args.asked.now.names.items slice _ (sym c.as_slice-names.ensures.value)
-    (diagnosed_stop_at _ (sources_of (request slice)) _ c.netlist_source.ensures (diagnosed_as (to_keys (map (λ s. s.now) slice)) c.in-Err.ensures)
-    c.stop_at.ensures.reply c.stop_at.ensures.note)
+    (walked_stop (named_of c.args.asked.now.netlist.now (map (λ s. s.now) slice))
+    (named_looked c.args.asked.now.netlist.now (map (λ s. s.now) slice)) (to_keys (map (λ s. s.now)
+    slice))
+    _ (sources_of (request slice)) _ c.netlist_source.ensures c.in-Err.ensures c.stop_at.ensures.reply c.stop_at.ensures.note)

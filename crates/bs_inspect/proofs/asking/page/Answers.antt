@@ -1,12 +1,11 @@
-use Rattle.bs_top_answer.proofs.AnswerLemmas.{diagnosed_as}
+use Rattle.bs_inspect_files.specs.Paged.{PageFiles, page_files_looked, page_files_of}
 use Rattle.std.proofs.Common.{ℕ, Bor, List, map, sym, refl, Option}
 use Rattle.std.specs.Option.{option_map}
-use Rattle.bs_inspect_files.specs.Paged.{PageFiles}
 use Rattle.bs_inspect_words.specs.Request.{Request, Page}
 use Rattle.bs_inspect.specs.Asked.{page_for}
 use Rattle.bs_inspect.specs.Sources.{source_of, sources_of}
 use Rattle.bs_inspect.specs.Work.{Work, to_page}
-use Rattle.bs_inspect.proofs.WorkLemmas.{noted_with, diagnosed_done, diagnosed_stop_at}
+use Rattle.bs_inspect.proofs.WorkLemmas.{noted_with, walked_done, walked_stop}
 use Rattle.bs_inspect.proofs.asking.page.Goals as goal
 
 pub returns-in-Ok : goal.returns-in-Ok
@@ -18,7 +17,9 @@ returns-in-Ok g c =
     let work : PageFiles → Work =
     λ f. to_page (page_for c.args.asked.now.netlist.now c.args.asked.now.report.now signature f.choice (map (λ s. s.now) slice) c.args.asked.now.most) f.trace_files in
     noted_with request c.args.asked.now.only.items slice _ (sym c.as_slice-only.ensures.value)
-    (diagnosed_done (source_of (sources_of (request slice))) _ _ c.silent.ensures refl (diagnosed_as work c.in-Ok.ensures) c.tell_page.ensures)
+    (walked_done (page_files_of c.args.asked.now.netlist.now signature c.args.asked.now.report.now (map (λ s. s.now) slice))
+    (page_files_looked c.args.asked.now.netlist.now signature c.args.asked.now.report.now (map (λ s. s.now) slice))
+    work (source_of (sources_of (request slice))) _ _ c.silent.ensures refl c.in-Ok.ensures c.tell_page.ensures)
 
 pub returns-in-Err : goal.returns-in-Err
 returns-in-Err g c =
@@ -29,4 +30,6 @@ returns-in-Err g c =
     let work : PageFiles → Work =
     λ f. to_page (page_for c.args.asked.now.netlist.now c.args.asked.now.report.now signature f.choice (map (λ s. s.now) slice) c.args.asked.now.most) f.trace_files in
     noted_with request c.args.asked.now.only.items slice _ (sym c.as_slice-only.ensures.value)
-    (diagnosed_stop_at _ (sources_of (request slice)) _ c.page_sources.ensures (diagnosed_as work c.in-Err.ensures) c.stop_at.ensures.reply c.stop_at.ensures.note)
+    (walked_stop (page_files_of c.args.asked.now.netlist.now signature c.args.asked.now.report.now (map (λ s. s.now) slice))
+    (page_files_looked c.args.asked.now.netlist.now signature c.args.asked.now.report.now (map (λ s. s.now) slice))
+    work _ (sources_of (request slice)) _ c.page_sources.ensures c.in-Err.ensures c.stop_at.ensures.reply c.stop_at.ensures.note)

@@ -73,3 +73,6 @@ returns-in-Novel g c = noted_asked _ _ _ (ap request_in c.in-Novel.is) c.novel.e
 
 pub returns-in-Why : goal.returns-in-Why
 returns-in-Why g c = noted_asked _ _ _ (ap request_in c.in-Why.is) c.why.ensures
+
+pub returns-in-Check : goal.returns-in-Check
+returns-in-Check g c = noted_asked _ _ _ (ap request_in c.in-Check.is) c.check.ensures

@@ -1,15 +1,18 @@
 use Rattle.std.proofs.Common.{refl}
-use Rattle.bs_top_answer.proofs.AnswerLemmas.{diagnosed_as}
+use Rattle.bs_top_files.specs.Entry.{report_of}
+use Rattle.bs_top_files.specs.Looking.{report_looked}
 use Rattle.bs_inspect.specs.Sources.{source_of, sources_of}
 use Rattle.bs_inspect.specs.Work.{to_steps}
-use Rattle.bs_inspect.proofs.WorkLemmas.{diagnosed_done, diagnosed_stop_at}
+use Rattle.bs_inspect.proofs.WorkLemmas.{walked_done, walked_stop}
 use Rattle.bs_inspect_words.specs.Request.{Steps as Asked}
 use Rattle.bs_inspect.proofs.asking.steps.Goals as goal
 
 pub returns-in-Ok : goal.returns-in-Ok
 returns-in-Ok g c =
-    diagnosed_done (source_of (sources_of (Asked c.args.report.now))) _ _ c.silent.ensures refl (diagnosed_as to_steps c.in-Ok.ensures.walks) c.tell_steps.ensures
+    walked_done (report_of c.args.report.now) (report_looked c.args.report.now) to_steps
+    (source_of (sources_of (Asked c.args.report.now))) _ _ c.silent.ensures refl c.in-Ok.ensures.walks c.tell_steps.ensures
 
 pub returns-in-Err : goal.returns-in-Err
 returns-in-Err g c =
-    diagnosed_stop_at _ (sources_of (Asked c.args.report.now)) _ c.report_source.ensures (diagnosed_as to_steps c.in-Err.ensures.walks) c.stop_at.ensures.reply c.stop_at.ensures.note
+    walked_stop (report_of c.args.report.now) (report_looked c.args.report.now) to_steps
+    _ (sources_of (Asked c.args.report.now)) _ c.report_source.ensures c.in-Err.ensures.walks c.stop_at.ensures.reply c.stop_at.ensures.note

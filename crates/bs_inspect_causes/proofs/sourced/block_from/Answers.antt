@@ -1,3 +1,4 @@
+use Rattle.std.proofs.Common.{refl}
 use Rattle.bs_inspect_causes.proofs.BlockLemmas.{forces_early, sourced_block, unit_there}
 use Rattle.bs_inspect_causes.proofs.sourced.block_from.Goals as goal
 
@@ -6,10 +7,15 @@ sources_at-requires-clause-early c =
     forces_early c.args.moments.now c.args.drivers.now c.args.at c.args.flop c.args.cycle c.requires.ready
     (unit_there c.args.moments.now c.args.drivers.now c.args.at c.args.flop c.args.facts.now c.requires.unit) c.requires.forces
 
-pub returns-clause-block : goal.returns-clause-block
-returns-clause-block c =
+pub returns : goal.returns
+returns c =
     let early =
     forces_early c.args.moments.now c.args.drivers.now c.args.at c.args.flop c.args.cycle c.requires.ready
     (unit_there c.args.moments.now c.args.drivers.now c.args.at c.args.flop c.args.facts.now c.requires.unit) c.requires.forces in
-    sourced_block c.args.moments.now c.args.drivers.now c.args.at c.args.flop c.args.facts.now c.requires.unit c.requires.ready c.args.cycle early _ _
-    c.requires.forces c.in_ok-bits.ensures c.in_ok-given.ensures.are c.in_ok-given.ensures.real
+    record {
+      is =
+          sourced_block c.args.moments.now c.args.drivers.now c.args.at c.args.flop c.args.facts.now c.requires.unit c.requires.ready c.args.cycle early _ _
+          c.requires.forces c.in_ok-bits.ensures c.in_ok-given.ensures.are c.in_ok-given.ensures.real;
+      of_bits = c.in_ok-bits.ensures;
+      ends = refl;
+    }

@@ -1,13 +1,13 @@
-use Rattle.std.proofs.Common.{◌≡◌}
 use Rattle.std.proofs.lemmas.Result.{IfOk-weaker}
-use Rattle.bs_inspect_accounts.specs.Accounts.{last_bits}
-use Rattle.bs_inspect_causes.proofs.AccountLemmas.{bits_last}
+use Rattle.bs_inspect_causes.specs.Layers.{IsAccountBy, IsUnitAccount}
+use Rattle.bs_inspect_causes.proofs.AccountLemmas.{unit_account}
 use Rattle.bs_inspect_causes.proofs.telling.judged.Goals as goal
 
-pub returns-then-is-clause-bits : goal.returns-then-is-clause-bits
-returns-then-is-clause-bits c =
-    IfOk-weaker c.account_by.result (λ a. a.block ≡ c.args.proposal.block) (λ a. last_bits a ≡ c.args.facts.now)
-    (λ a e.
-    bits_last c.args.scene.now.moments.now c.args.drivers.now c.args.at c.args.flop c.args.facts.now a c.args.proposal.block c.requires.unit e
-    c.requires.bits c.requires.at)
-    c.account_by.ensures.block
+pub returns-then-is : goal.returns-then-is
+returns-then-is c =
+    let m = c.args.scene.now.moments.now in
+    IfOk-weaker c.account_by.result (λ a. IsAccountBy m c.args.proposal.block c.args.layer a) (λ a. IsUnitAccount m c.args.facts.now c.args.layer a)
+    (λ a by.
+    unit_account m c.args.drivers.now c.args.at c.args.flop c.args.facts.now c.args.layer a c.args.proposal.block c.requires.unit c.requires.bits
+    c.requires.at by)
+    c.account_by.ensures

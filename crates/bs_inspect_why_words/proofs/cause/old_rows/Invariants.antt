@@ -4,4 +4,4 @@ use Rattle.bs_inspect_why_words.specs.Causes.{old_rows}
 use Rattle.bs_inspect_why_words.proofs.cause.old_rows.Given as goal
 
 abbrev pub invariant-rows : goal.invariant-rows
-invariant-rows l = l.olds.items ≡ old_rows l.shares l.cycle l.bits (map signal_in l.signals) l.bit (take l.i l.rows)
+invariant-rows l = l.olds.items ≡ old_rows l.causes.shares l.causes.cycle l.causes.bits.now (map signal_in l.causes.signals.now) l.bit (take l.i l.rows)

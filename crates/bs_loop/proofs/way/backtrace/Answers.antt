@@ -9,7 +9,7 @@ use Rattle.bs_scan.proofs.CrashLemmas.{crash_is}
 use Rattle.bs_report.specs.declared.report.Budgets.{Budgets}
 use Rattle.bs_report.specs.declared.report.Report.{Report}
 use Rattle.bs_report.specs.declared.report.Step.{Step}
-use Rattle.bs_loop.specs.Searched.{WereSearched}
+use Rattle.bs_loop.specs.Searched.{TellsCut, WereSearched}
 use Rattle.bs_report.specs.Text.{HasReportText}
 use Rattle.bs_report_good.specs.Chain.{present_of}
 use Rattle.bs_report_good.specs.Good.{IsGood}
@@ -87,5 +87,11 @@ returns c =
           with_its_log c.unlogged-report.result c.logged.result _ _ (IsWithLog c.unlogged-report.new.preimage) (λ r. WereSearched chip budgets.conflicts r.steps)
           c.logged.ensures c.unlogged-report.ensures.searched c.unlogged-report.ensures.searched
           (λ report r searched _ with_log. subst (WereSearched chip budgets.conflicts) (sym with_log.alike.steps_are) searched);
+      cut =
+          with_its_log c.unlogged-report.result c.logged.result _ _ (IsWithLog c.unlogged-report.new.preimage)
+          (λ r. TellsCut chip budgets.conflicts r.steps c.unlogged-report.new.cut) c.logged.ensures c.unlogged-report.ensures.cut
+          c.unlogged-report.ensures.cut
+          (λ report r told _ with_log.
+          subst (λ (steps : List Step). TellsCut chip budgets.conflicts steps c.unlogged-report.new.cut) (sym with_log.alike.steps_are) told);
       chip = c.unlogged-report.ensures.chip;
     }

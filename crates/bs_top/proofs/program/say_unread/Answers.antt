@@ -1,9 +1,9 @@
-use Rattle.bs_top_answer.proofs.NoteLemmas.{made_due}
+use Rattle.bs_top_answer.specs.declared.note.Note.TheVariants.{Brief}
 use Rattle.bs_top.proofs.program.say_unread.Goals as goal
 
 pub returns : goal.returns
 returns g c = record {
-  note = c.note_made-note.result;
-  is = made_due _ _ _ c.note_made-note.ensures c.unread_words_note.ensures;
+  note = Brief c.unread_words_note.result;
+  is = c.unread_words_note.ensures;
   put = c.put_note.ensures;
 }

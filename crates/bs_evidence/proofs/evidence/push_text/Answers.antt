@@ -1,4 +1,0 @@
-use Rattle.bs_evidence.proofs.evidence.push_text.Goals as goal
-
-pub push_cnf-requires : goal.push_cnf-requires
-push_cnf-requires c = c.requires.asked

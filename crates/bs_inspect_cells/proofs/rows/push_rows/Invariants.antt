@@ -1,8 +1,0 @@
-use Rattle.std.proofs.Common.{◌≡◌, ◌++◌, map, take}
-use Rattle.bs_net_names.specs.Signals.{signal_in}
-use Rattle.bs_inspect_cells.specs.Figures.{figure_in}
-use Rattle.bs_inspect_cells.specs.Rows.{signal_rows}
-use Rattle.bs_inspect_cells.proofs.rows.push_rows.Given as goal
-
-abbrev pub invariant-signals : goal.invariant-signals
-invariant-signals l = l.text.items ≡ l.initial.text.items ++ signal_rows (figure_in l.figure) (map signal_in (take l.signal-index l.signals))

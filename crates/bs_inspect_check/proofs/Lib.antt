@@ -1,0 +1,10 @@
+pub mod SourceLemmas
+pub mod MomentLemmas
+pub mod LevelLemmas
+pub mod ListLemmas
+pub mod TallyLemmas
+pub mod WalkLemmas
+pub mod ComparisonLemmas
+pub mod LevelTextLemmas
+pub mod ToldLemmas
+pub mod TextLemmas

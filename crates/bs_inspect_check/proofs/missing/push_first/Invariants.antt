@@ -1,0 +1,14 @@
+use Rattle.std.proofs.Common.{◌≡◌, ◌≤◌, ◌++◌, length, map, take, filter}
+use Rattle.std.specs.List.{flat_map}
+use Rattle.bs_net_names.specs.Signals.{signal_in}
+use Rattle.bs_inspect_check.specs.declared.lines.TheConstants.{MAX_LINES}
+use Rattle.bs_inspect_check.specs.Text.{missing_line, signal_missing}
+use Rattle.bs_inspect_check.proofs.missing.push_first.Given as goal
+
+abbrev pub invariant-signals : goal.invariant-signals
+invariant-signals l = record {
+  count : l.told ≡ length (filter (signal_missing l.comparisons) (map signal_in (take l.i l.signals)));
+  few : l.told ≤ l.i;
+  text : l.text.items ≡ l.initial.text.items ++
+      flat_map missing_line (take MAX_LINES (filter (signal_missing l.comparisons) (map signal_in (take l.i l.signals))));
+}

@@ -1,0 +1,4 @@
+pub mod CountLemmas
+pub mod ReadingLemmas
+pub mod BehindLemmas
+pub mod NameLemmas

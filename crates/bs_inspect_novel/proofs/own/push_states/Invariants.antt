@@ -1,0 +1,14 @@
+use Rattle.std.proofs.Common.{◌≡◌, ◌≤◌, ◌+◌}
+use Rattle.bs_net.specs.Netlist.{circuit}
+use Rattle.bs_stim.specs.Runs.{inputs_of}
+use Rattle.bs_inspect_novel.proofs.OwnLemmas.{OwnSo}
+use Rattle.bs_inspect_novel.proofs.own.push_states.Given as goal
+
+abbrev pub invariant-cycles : goal.invariant-cycles
+invariant-cycles l = record {
+  machine : l.pass.circuit ≡ circuit l.net;
+  runs : l.pass.runs ≡ inputs_of l.runs;
+  behind : l.pass.cycle ≤ l.cycle;
+  near : l.cycle ≤ l.pass.cycle + 1;
+  own : OwnSo (circuit l.net) (inputs_of l.runs) l.number l.cycle l.own;
+}

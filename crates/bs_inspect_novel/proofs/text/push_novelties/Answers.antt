@@ -1,0 +1,13 @@
+use Rattle.std.proofs.Common.{map}
+use Rattle.bs_net.specs.Netlist.{circuit}
+use Rattle.bs_net_names.specs.Signals.{signal_in}
+use Rattle.bs_stim.specs.Runs.{inputs_of}
+use Rattle.bs_inspect_novel.specs.Novel.{novelty_line}
+use Rattle.bs_inspect_novel.proofs.TextLemmas.{lines_more}
+use Rattle.bs_inspect_novel.proofs.text.push_novelties.Goals as goal
+
+pub novelties-preserved : goal.novelties-preserved
+novelties-preserved c =
+    lines_more (novelty_line (circuit c.args.net.now) (inputs_of c.args.runs.now) c.args.number (map signal_in c.args.signals.now)) c.args.novelties.now
+    c.novelties.novelty-index _ c.args.text.now.items c.novelties.text.items c.push_novelty.new.text.items c.novelties-test.true c.novelties.invariant
+    c.in_ok-push_novelty.ensures

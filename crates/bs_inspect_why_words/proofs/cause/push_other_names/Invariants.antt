@@ -1,8 +1,0 @@
-use Rattle.std.proofs.Common.{◌≡◌, ◌++◌, map, take}
-use Rattle.std.specs.List.{flat_map}
-use Rattle.bs_net_names.specs.Signals.{signal_in}
-use Rattle.bs_inspect_why_words.specs.Causes.{behind_name}
-use Rattle.bs_inspect_why_words.proofs.cause.push_other_names.Given as goal
-
-abbrev pub invariant-rows : goal.invariant-rows
-invariant-rows l = l.text.items ≡ l.initial.text.items ++ flat_map (behind_name (map signal_in l.signals)) (take l.i l.rows)

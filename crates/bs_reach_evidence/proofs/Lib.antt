@@ -1,4 +1,0 @@
-pub mod LengthLemmas
-pub mod ShownLemmas
-pub mod FlawLemmas
-pub mod Examples

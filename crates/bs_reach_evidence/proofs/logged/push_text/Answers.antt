@@ -1,4 +1,0 @@
-use Rattle.bs_reach_evidence.proofs.logged.push_text.Goals as goal
-
-pub push_cnf-requires : goal.push_cnf-requires
-push_cnf-requires c = c.requires.asked
