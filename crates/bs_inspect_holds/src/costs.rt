@@ -1,7 +1,8 @@
 //! What it takes to decide each net at a moment: the least sum of sources, up the cone.
 
 use crate::known::deciding_bit;
-use crate::need::Need;
+use crate::need::{Need, need_of};
+use crate::tables::{at, flag, put};
 use crate::view::{Desk, View};
 use bs_net::{Gate, NetId};
 
@@ -10,8 +11,11 @@ const SOURCE_COST: u64 = 1024;
 
 /// What a net costs: nothing, once it is taken.
 fn cost_of(desk: &Desk, net: NetId) -> u64 {
-    let note = desk.note(net);
-    if note.taken { 0 } else { note.cost }
+    if flag(desk.taken.as_slice(), net) {
+        0
+    } else {
+        at(desk.costs.as_slice(), net.0 as usize, 0)
+    }
 }
 
 /// The cheaper of two nets.
@@ -28,8 +32,7 @@ pub(crate) fn cheapest_input(view: &View<'_>, desk: &Desk, gate: &Gate) -> Optio
     let bit = deciding_bit(gate.kind)?;
     let mut best = None;
     'inputs: for input in gate.ins.slice() {
-        let known = desk.note(*input).known;
-        if known & view.with_bit(*input, bit) != 0 {
+        if desk.known_at(*input) & view.with_bit(*input, bit) != 0 {
             best = match best {
                 Some(net) => Some(cheaper(desk, net, *input)),
                 None => Some(*input),
@@ -52,44 +55,45 @@ fn inputs_cost(view: &View<'_>, desk: &Desk, gate: &Gate) -> u64 {
 }
 
 /// Notes what each leaf of the fan-in costs: a constant nothing, and what the block is of nothing, where that is free.
-fn price_leaves(view: &View<'_>, desk: &mut Desk, free: bool) {
-    'leaves: for net in view.fanin.leaves.as_slice() {
-        let given = desk.is_given(*net);
-        let own = desk.note(*net).own;
-        let cost = if given || (free && own) {
+fn price_leaves(view: &View<'_>, desk: &mut Desk) {
+    'leaves: for net in view.site.fanin.leaves.as_slice() {
+        let given = flag(desk.given.as_slice(), *net);
+        let own = flag(desk.own.as_slice(), *net);
+        let cost = if given || (view.free && own) {
             0
         } else {
             SOURCE_COST
         };
-        desk.set_cost(*net, cost);
+        put(&mut desk.costs, net.0 as usize, cost);
     }
 }
 
 /// Notes what each net of the fan-in costs.
-pub(crate) fn price(view: &View<'_>, desk: &mut Desk, free: bool) {
-    price_leaves(view, desk, free);
-    'gates: for place in view.fanin.gates.as_slice() {
-        if let Some(gate) = view.scene.gate(*place) {
+pub(crate) fn price(view: &View<'_>, desk: &mut Desk) {
+    price_leaves(view, desk);
+    'gates: for place in view.site.fanin.gates.as_slice() {
+        if let Some(gate) = view.site.scene.gate(*place) {
             let cost = inputs_cost(view, desk, gate).saturating_add(1);
-            desk.set_cost(gate.out, cost);
+            put(&mut desk.costs, gate.out.0 as usize, cost);
         }
     }
 }
 
 /// The cheapest bit that what is taken does not decide, if there is one.
-pub(crate) fn cheapest_need(desk: &Desk, needs: &[Need]) -> Option<Need> {
+pub(crate) fn cheapest_need(view: &View<'_>, desk: &Desk) -> Option<Need> {
     let mut best = None;
     let mut least = 0;
-    'needs: for need in needs {
-        let one = desk.note(need.one).taken;
-        let other = desk.note(need.other).taken;
+    'facts: for fact in view.site.facts {
+        let need = need_of(view, fact.net);
+        let one = flag(desk.taken.as_slice(), need.one);
+        let other = flag(desk.taken.as_slice(), need.other);
         let cost = if need.both {
             cost_of(desk, need.one).saturating_add(cost_of(desk, need.other))
         } else {
             cost_of(desk, cheaper(desk, need.one, need.other))
         };
         if !need.is_met(one, other) && (best.is_none() || cost < least) {
-            best = Some(*need);
+            best = Some(need);
             least = cost;
         }
     }

@@ -2,7 +2,7 @@
 
 use crate::driver::Driver;
 use crate::scene::Scene;
-use crate::tables::{at, put};
+use crate::tables::{flag, put};
 use bs_bits::NoMemory;
 use bs_net::NetId;
 use std::alloc::Global;
@@ -14,18 +14,31 @@ pub(crate) struct Fanin {
     nets: Vec<NetId>,
     /// Whether a net is one of them, for each net.
     seen: Vec<bool>,
+    /// Whether the cone ends at a net, for each net. It ends where no gate drives a net anyway.
+    ends: Vec<bool>,
     /// Those at which the cone ends, the nearest first.
     pub(crate) leaves: Vec<NetId>,
     /// The gates of the others, by their places in the netlist's order.
     pub(crate) gates: Vec<usize>,
-    /// Whether a net is one of the others, for each net.
-    pub(crate) opened: Vec<bool>,
+}
+
+impl Fanin {
+    /// The place of a net's gate in the netlist's order, unless the cone ends at the net.
+    pub(crate) fn gate(&self, scene: &Scene<'_>, net: NetId) -> Option<usize> {
+        if flag(self.ends.as_slice(), net) {
+            return None;
+        }
+        match scene.driver(net) {
+            Driver::Gate(place) => Some(place),
+            _ => None,
+        }
+    }
 }
 
 /// Puts in those of some nets that are not there.
 fn reach(fanin: &mut Fanin, nets: &[NetId]) -> Result<(), NoMemory> {
     'nets: for net in nets {
-        if !at(fanin.seen.as_slice(), net.0 as usize, false) {
+        if !flag(fanin.seen.as_slice(), *net) {
             fanin.nets.push(*net)?;
             put(&mut fanin.seen, net.0 as usize, true);
         }
@@ -34,51 +47,27 @@ fn reach(fanin: &mut Fanin, nets: &[NetId]) -> Result<(), NoMemory> {
 }
 
 /// Puts in what is below a net, unless the cone ends there.
-fn visit(scene: &Scene<'_>, ends: &[bool], fanin: &mut Fanin, net: NetId) -> Result<(), NoMemory> {
-    let driver = if at(ends, net.0 as usize, false) {
-        Driver::Outside
-    } else {
-        scene.driver(net)
+fn visit(scene: &Scene<'_>, fanin: &mut Fanin, net: NetId) -> Result<(), NoMemory> {
+    let Some(place) = fanin.gate(scene, net) else {
+        fanin.leaves.push(net)?;
+        return Ok(());
     };
-    match driver {
-        Driver::Gate(place) => {
-            put(&mut fanin.opened, net.0 as usize, true);
-            fanin.gates.push(place)?;
-            match scene.gate(place) {
-                Some(gate) => reach(fanin, gate.ins.slice()),
-                None => Ok(()),
-            }
-        }
-        _ => {
-            fanin.leaves.push(net)?;
-            Ok(())
-        }
+    fanin.gates.push(place)?;
+    match scene.gate(place) {
+        Some(gate) => reach(fanin, gate.ins.slice()),
+        None => Ok(()),
     }
 }
 
-/// Puts in what is below the nets that are in.
-fn grow(scene: &Scene<'_>, ends: &[bool], fanin: &mut Fanin) -> Result<(), NoMemory> {
-    'nets: for i in 0..scene.nets {
-        if i >= fanin.nets.len() {
-            return Ok(());
-        }
-        let net = fanin.nets[i];
-        visit(scene, ends, fanin, net)?;
-    }
-    Ok(())
-}
-
-/// Fills a fan-in.
-fn fill(
-    scene: &Scene<'_>,
-    roots: &[NetId],
-    ends: &[bool],
-    fanin: &mut Fanin,
-) -> Result<(), NoMemory> {
-    fanin.seen.resize(scene.nets, false)?;
-    fanin.opened.resize(scene.nets, false)?;
+/// Puts in some nets, and what is below the nets that are in.
+fn fill(scene: &Scene<'_>, fanin: &mut Fanin, roots: &[NetId]) -> Result<(), NoMemory> {
     reach(fanin, roots)?;
-    grow(scene, ends, fanin)?;
+    'nets: for i in 0..scene.nets {
+        if i < fanin.nets.len() {
+            let net = fanin.nets[i];
+            visit(scene, fanin, net)?;
+        }
+    }
     fanin.gates.sort()?;
     Ok(())
 }
@@ -88,16 +77,17 @@ pub(crate) fn fanin_of(
     alloc: Global,
     scene: &Scene<'_>,
     roots: &[NetId],
-    ends: &[bool],
+    ends: Vec<bool>,
 ) -> Result<Fanin, NoMemory> {
+    let seen = vec![in alloc; false; scene.nets]?;
     let mut fanin = Fanin {
         nets: Vec::new(alloc),
-        seen: Vec::new(alloc),
+        seen,
+        ends,
         leaves: Vec::new(alloc),
         gates: Vec::new(alloc),
-        opened: Vec::new(alloc),
     };
-    match fill(scene, roots, ends, &mut fanin) {
+    match fill(scene, &mut fanin, roots) {
         Ok(()) => Ok(fanin),
         Err(refused) => {
             drop(fanin);

@@ -4,12 +4,11 @@ use crate::driver::Driver;
 use crate::fanin::fanin_of;
 use crate::known::know_by_given;
 use crate::scene::Scene;
-use crate::tables::{bit_of, put_nets};
-use crate::view::{Desk, View, give_constants};
+use crate::tables::{flag, put_nets};
+use crate::view::{Desk, Site, View, give_constants};
 use bs_bits::{List, NoMemory};
 use bs_net::NetId;
 use bs_net_facts::Fact;
-use std::alloc::Global;
 
 /// Whether one of these nets is of the same vector as a net.
 pub(crate) fn shares_vector(scene: &Scene<'_>, nets: &[NetId], net: NetId) -> bool {
@@ -30,21 +29,16 @@ pub(crate) fn is_beside(scene: &Scene<'_>, desk: &Desk, sources: &[NetId], net: 
         Driver::Constant => false,
         _ => scene.is_single(net),
     };
-    let own = desk.note(net).own;
+    let own = flag(desk.own.as_slice(), net);
     telling && !own && !shares_vector(scene, sources, net)
 }
 
 /// The leaves of a fan-in that show 1 beside sources at a moment, the nearest first.
-fn ones_beside(
-    alloc: Global,
-    view: &View<'_>,
-    desk: &Desk,
-    sources: &[NetId],
-) -> Result<Vec<NetId>, NoMemory> {
-    let mut ones = Vec::new(alloc);
-    'leaves: for net in view.fanin.leaves.as_slice() {
-        let one = view.shows_one(*net);
-        if one && is_beside(view.scene, desk, sources, *net) {
+fn ones_beside(view: &View<'_>, desk: &Desk, sources: &[NetId]) -> Result<Vec<NetId>, NoMemory> {
+    let mut ones = Vec::new(view.site.alloc);
+    'leaves: for net in view.site.fanin.leaves.as_slice() {
+        let one = view.with_bit(*net, true) != 0;
+        if one && is_beside(view.site.scene, desk, sources, *net) {
             ones.push(*net)?;
         }
     }
@@ -52,44 +46,46 @@ fn ones_beside(
 }
 
 /// Notes which of some nets given nets force at a cycle, down all cones.
-fn know_forced(
-    alloc: Global,
-    scene: &Scene<'_>,
-    desk: &mut Desk,
-    nets: &[NetId],
-    cycle: u32,
-) -> Result<(), NoMemory> {
-    let fanin = fanin_of(alloc, scene, nets, desk.given.as_slice())?;
-    give_constants(scene, desk, fanin.leaves.as_slice());
-    let view = View {
-        scene,
+fn know_forced(view: &View<'_>, desk: &mut Desk, nets: &[NetId]) -> Result<(), NoMemory> {
+    let site = view.site;
+    let ends = Vec::from_slice(site.alloc, desk.given.as_slice())?;
+    let fanin = fanin_of(site.alloc, site.scene, nets, ends)?;
+    give_constants(site.scene, desk, fanin.leaves.as_slice());
+    let below = Site {
+        alloc: site.alloc,
+        scene: site.scene,
         fanin: &fanin,
-        cycle,
-        cycles: bit_of(cycle),
+        facts: site.facts,
+        flop: site.flop,
+        end: site.end,
     };
-    know_by_given(&view, desk);
+    let all = View {
+        site: &below,
+        cycle: view.cycle,
+        cycles: view.cycles,
+        free: false,
+    };
+    know_by_given(&all, desk);
     drop(fanin);
     Ok(())
 }
 
 /// Tells that those of some nets show 1 at a cycle that sources do not force there.
 pub(crate) fn push_unforced(
-    alloc: Global,
-    scene: &Scene<'_>,
+    view: &View<'_>,
     desk: &mut Desk,
     sources: &[NetId],
     nets: &[NetId],
-    cycle: u32,
     idle: &mut List<Fact>,
 ) -> Result<(), NoMemory> {
     put_nets(&mut desk.given, sources, true);
-    know_forced(alloc, scene, desk, nets, cycle)?;
+    know_forced(view, desk, nets)?;
     put_nets(&mut desk.given, sources, false);
     'nets: for net in nets {
-        if desk.note(*net).known == 0 {
+        if desk.known_at(*net) == 0 {
             idle.push(Fact {
                 net: *net,
-                cycle,
+                cycle: view.cycle,
                 bit: true,
             })?;
         }
@@ -99,22 +95,13 @@ pub(crate) fn push_unforced(
 
 /// Tells what shows 1 at a moment below a block and does not matter, where sources decide it: the nearest first.
 pub(crate) fn push_idle(
-    alloc: Global,
     view: &View<'_>,
     desk: &mut Desk,
     sources: &[NetId],
     idle: &mut List<Fact>,
 ) -> Result<(), NoMemory> {
-    let ones = ones_beside(alloc, view, desk, sources)?;
-    let done = push_unforced(
-        alloc,
-        view.scene,
-        desk,
-        sources,
-        ones.as_slice(),
-        view.cycle,
-        idle,
-    );
+    let ones = ones_beside(view, desk, sources)?;
+    let done = push_unforced(view, desk, sources, ones.as_slice(), idle);
     drop(ones);
     done
 }

@@ -17,15 +17,6 @@ pub(crate) struct Need {
 }
 
 impl Need {
-    /// A net that decides a bit alone.
-    fn alone(net: NetId) -> Need {
-        Need {
-            one: net,
-            other: net,
-            both: false,
-        }
-    }
-
     /// Whether the bit is decided, by whether the nets are there.
     pub(crate) fn is_met(self, one: bool, other: bool) -> bool {
         if self.both {
@@ -38,59 +29,32 @@ impl Need {
 
 /// Which nets decide the bit that a flip-flop loads at a moment.
 fn flop_need(view: &View<'_>, flop: Flop) -> Need {
-    let high = view.shows_one(flop.d);
-    match flop.mode {
-        Mode::Plain => Need::alone(flop.d),
-        Mode::Enable(enable) => Need {
-            one: enable,
-            other: if view.shows_one(enable) {
-                flop.d
-            } else {
-                flop.q
-            },
-            both: true,
-        },
-        Mode::Clear(clear) => match (view.shows_one(clear), high) {
-            (true, true) => Need::alone(clear),
-            (false, false) => Need::alone(flop.d),
-            _ => Need {
-                one: clear,
-                other: flop.d,
-                both: high,
-            },
-        },
-    }
-}
-
-/// Which nets decide each of some bits at a moment, or what its flip-flop loads there.
-pub(crate) fn needs_of(
-    alloc: Global,
-    view: &View<'_>,
-    facts: &[Fact],
-) -> Result<Vec<Need>, NoMemory> {
-    let mut needs = Vec::new(alloc);
-    'facts: for fact in facts {
-        let need = match view.scene.driver(fact.net) {
-            Driver::Flop(_, flop) => flop_need(view, flop),
-            _ => Need::alone(fact.net),
-        };
-        needs.push(need)?;
-    }
-    Ok(needs)
-}
-
-/// Puts in the nets by which a flip-flop loads its bit.
-fn push_roots(roots: &mut Vec<NetId>, flop: Flop) -> Result<(), NoMemory> {
-    roots.push(flop.d)?;
-    match flop.mode {
-        Mode::Plain => {}
+    let high = view.with_bit(flop.d, true) != 0;
+    let (one, other, both) = match flop.mode {
+        Mode::Plain => (flop.d, flop.d, false),
         Mode::Enable(enable) => {
-            roots.push(enable)?;
-            roots.push(flop.q)?;
+            let enabled = view.with_bit(enable, true) != 0;
+            (enable, if enabled { flop.d } else { flop.q }, true)
         }
-        Mode::Clear(clear) => roots.push(clear)?,
+        Mode::Clear(clear) => match (view.with_bit(clear, true) != 0, high) {
+            (true, true) => (clear, clear, false),
+            (false, false) => (flop.d, flop.d, false),
+            _ => (clear, flop.d, high),
+        },
+    };
+    Need { one, other, both }
+}
+
+/// Which nets decide a net's bit at a moment, or what its flip-flop loads there.
+pub(crate) fn need_of(view: &View<'_>, net: NetId) -> Need {
+    match view.site.scene.driver(net) {
+        Driver::Flop(_, flop) => flop_need(view, flop),
+        _ => Need {
+            one: net,
+            other: net,
+            both: false,
+        },
     }
-    Ok(())
 }
 
 /// The nets of some bits, or the nets by which their flip-flops load them.
@@ -102,7 +66,17 @@ pub(crate) fn roots_of(
     let mut roots = Vec::new(alloc);
     'facts: for fact in facts {
         match scene.driver(fact.net) {
-            Driver::Flop(_, flop) => push_roots(&mut roots, flop)?,
+            Driver::Flop(_, flop) => {
+                roots.push(flop.d)?;
+                match flop.mode {
+                    Mode::Plain => {}
+                    Mode::Enable(enable) => {
+                        roots.push(enable)?;
+                        roots.push(flop.q)?;
+                    }
+                    Mode::Clear(clear) => roots.push(clear)?,
+                }
+            }
             _ => roots.push(fact.net)?,
         }
     }
@@ -110,10 +84,11 @@ pub(crate) fn roots_of(
 }
 
 /// Whether what is known at a moment decides all bits.
-pub(crate) fn are_met(desk: &Desk, needs: &[Need]) -> bool {
-    'needs: for need in needs {
-        let one = desk.note(need.one).known != 0;
-        let other = desk.note(need.other).known != 0;
+pub(crate) fn are_met(view: &View<'_>, desk: &Desk) -> bool {
+    'facts: for fact in view.site.facts {
+        let need = need_of(view, fact.net);
+        let one = desk.known_at(need.one) != 0;
+        let other = desk.known_at(need.other) != 0;
         if !need.is_met(one, other) {
             return false;
         }
@@ -123,22 +98,22 @@ pub(crate) fn are_met(desk: &Desk, needs: &[Need]) -> bool {
 
 /// The moments at which a flip-flop loads the bit that it has, by what is known beside that bit.
 fn flop_kept(view: &View<'_>, desk: &Desk, flop: Flop) -> u64 {
-    let input = desk.note(flop.d).known;
+    let input = desk.known_at(flop.d);
     match flop.mode {
         Mode::Plain => input,
-        Mode::Enable(enable) => { desk.note(enable).known & (view.with_bit(enable, false) | input) }
+        Mode::Enable(enable) => { desk.known_at(enable) & (view.with_bit(enable, false) | input) }
         Mode::Clear(clear) => {
             let low = input & view.with_bit(flop.d, false);
-            low | (desk.note(clear).known & (view.with_bit(clear, true) | input))
+            low | (desk.known_at(clear) & (view.with_bit(clear, true) | input))
         }
     }
 }
 
-/// The moments at which the flip-flops of some bits load the bits that they have.
-pub(crate) fn all_kept(view: &View<'_>, desk: &Desk, facts: &[Fact]) -> u64 {
+/// The moments at which the flip-flops of the bits load the bits that they have.
+pub(crate) fn all_kept(view: &View<'_>, desk: &Desk) -> u64 {
     let mut kept = view.cycles;
-    'facts: for fact in facts {
-        kept = match view.scene.driver(fact.net) {
+    'facts: for fact in view.site.facts {
+        kept = match view.site.scene.driver(fact.net) {
             Driver::Flop(_, flop) => kept & flop_kept(view, desk, flop),
             _ => 0,
         };

@@ -1,15 +1,15 @@
 //! The block that is proposed for some bits: since when they have stood, what set them, what has kept them.
 ghost use Rattle.std.specs.Prelude.{◌≡◌, IfOk};
 
-use crate::choice::choose;
+use crate::choice::{Choice, choose};
 use crate::driver::Driver;
 use crate::fanin::{Fanin, fanin_of};
-use crate::hold::{Hold, keep_all};
+use crate::hold::{Hold, Keeping, keep_all};
 use crate::idle::push_idle;
 use crate::need::roots_of;
 use crate::rare::{Kept, push_rare};
 use crate::scene::Scene;
-use crate::tables::{at, bit_of, cycles_from, has, put_facts};
+use crate::tables::{at, bit_of, cycles_from, flag, has, put_facts};
 use crate::view::{Desk, Site, View, give_constants};
 use bs_bits::{List, NoMemory};
 use bs_net::NetId;
@@ -59,40 +59,29 @@ fn push_facts(
 
 /// Finds what decides the bits at a cycle, or what their flip-flops load there.
 fn find_causes(
-    alloc: Global,
     site: &Site<'_>,
     desk: &mut Desk,
     cycle: u32,
     found: &mut Finding,
 ) -> Result<(), NoMemory> {
     let view = View {
-        scene: site.scene,
-        fanin: site.fanin,
+        site,
         cycle,
         cycles: bit_of(cycle),
+        free: false,
     };
-    let causes = choose(alloc, &view, desk, site.facts, false)?;
-    push_facts(
-        site.scene.moments,
-        &mut found.given,
-        causes.as_slice(),
-        cycle,
-    )?;
-    let done = push_idle(alloc, &view, desk, causes.as_slice(), &mut found.idle);
-    drop(causes);
+    let Choice { nets, own: _ } = choose(&view, desk)?;
+    push_facts(site.scene.moments, &mut found.given, nets.as_slice(), cycle)?;
+    let done = push_idle(&view, desk, nets.as_slice(), &mut found.idle);
+    drop(nets);
     done
 }
 
 /// Puts in the facts of the holds that keep the bits at a cycle.
-fn push_holds_at(
-    site: &Site<'_>,
-    holds: &[Hold],
-    facts: &mut List<Fact>,
-    cycle: u32,
-) -> Result<(), NoMemory> {
-    'holds: for hold in holds {
+fn push_holds_at(kept: &Kept<'_>, facts: &mut List<Fact>, cycle: u32) -> Result<(), NoMemory> {
+    'holds: for hold in kept.holds {
         if has(hold.cycles.as_slice(), cycle) {
-            push_facts(site.scene.moments, facts, hold.nets.as_slice(), cycle)?;
+            push_facts(kept.site.scene.moments, facts, hold.nets.as_slice(), cycle)?;
         }
     }
     Ok(())
@@ -100,91 +89,81 @@ fn push_holds_at(
 
 /// Puts in the facts of holds, by ascending cycles.
 fn push_holds(kept: &Kept<'_>, facts: &mut List<Fact>) -> Result<(), NoMemory> {
-    'cycles: for cycle in kept.first..kept.end {
-        push_holds_at(kept.site, kept.holds, facts, cycle)?;
+    'cycles: for cycle in kept.first..kept.site.end {
+        push_holds_at(kept, facts, cycle)?;
     }
     Ok(())
 }
 
-/// Puts in the facts of holds from one cycle to before another, and those to tell beside them.
+/// Puts in the facts of holds from the cycle on from which the bits stand, and those to tell beside them.
 fn find_holds(
-    alloc: Global,
     site: &Site<'_>,
     desk: &mut Desk,
     holds: &[Hold],
-    end: u32,
     found: &mut Finding,
 ) -> Result<(), NoMemory> {
-    let since = found.since;
-    let cycles = cycles_from(alloc, since, end)?;
+    let first = found.since;
+    let cycles = cycles_from(site.alloc, first, site.end)?;
     let kept = Kept {
         site,
         holds,
         cycles: cycles.as_slice(),
-        first: since,
-        end,
+        first,
     };
     push_holds(&kept, &mut found.given)?;
-    let done = push_rare(alloc, &kept, desk, &mut found.idle);
+    let done = push_rare(&kept, desk, &mut found.idle);
     drop(cycles);
     done
 }
 
-/// Finds what set the bits of flip-flops, unless they have stood since the first moment, and what has kept them. They are the same from
-/// the first cycle on. What keeps them is noted.
+/// Finds what set the bits of flip-flops, unless they have stood since the first moment, and what has kept them, which is noted.
 fn find_with(
-    alloc: Global,
     site: &Site<'_>,
     desk: &mut Desk,
-    holds: &mut Vec<Hold>,
-    first: u32,
-    end: u32,
+    keeping: &mut Keeping,
     found: &mut Finding,
 ) -> Result<(), NoMemory> {
-    let mut left = cycles_from(alloc, first, end)?;
-    let since = keep_all(alloc, site, desk, &mut left, holds, first, end)?;
-    drop(left);
+    let since = keep_all(site, desk, keeping)?;
     found.since = since;
     found.begun = since == 0;
     if since > 0 {
-        find_causes(alloc, site, desk, since - 1, found)?;
+        find_causes(site, desk, since - 1, found)?;
     }
-    find_holds(alloc, site, desk, holds.as_slice(), end, found)
+    find_holds(site, desk, keeping.holds.as_slice(), found)
 }
 
-/// Whether nets have their bits at a cycle.
-fn are_shown(moments: &Moments<'_>, facts: &[Fact], cycle: u32) -> bool {
-    'facts: for fact in facts {
-        if moments.bit(fact.net, cycle) != Some(fact.bit) {
+/// Whether all nets have their bits at a cycle.
+fn are_shown(site: &Site<'_>, cycle: u32) -> bool {
+    'facts: for fact in site.facts {
+        if site.scene.moments.bit(fact.net, cycle) != Some(fact.bit) {
             return false;
         }
     }
     true
 }
 
-/// The cycle from which on nets have their bits up to another.
-fn shown_since(moments: &Moments<'_>, facts: &[Fact], end: u32) -> u32 {
+/// The cycle from which on all nets have their bits.
+fn shown_since(site: &Site<'_>) -> u32 {
+    let end = site.end;
     'cycles: for back in 0..end {
         let cycle = end - 1 - back;
-        if !are_shown(moments, facts, cycle) {
+        if !are_shown(site, cycle) {
             return cycle + 1;
         }
     }
     0
 }
 
-/// Finds what set the bits of flip-flops at a cycle, and what has kept them.
-fn find_kept(
-    alloc: Global,
-    site: &Site<'_>,
-    desk: &mut Desk,
-    end: u32,
-    found: &mut Finding,
-) -> Result<(), NoMemory> {
-    let first = shown_since(site.scene.moments, site.facts, end);
-    let mut holds = Vec::new(alloc);
-    let done = find_with(alloc, site, desk, &mut holds, first, end, found);
-    drop(holds);
+/// Finds what set the bits of flip-flops, and what has kept them.
+fn find_kept(site: &Site<'_>, desk: &mut Desk, found: &mut Finding) -> Result<(), NoMemory> {
+    let first = shown_since(site);
+    let mut keeping = Keeping {
+        first,
+        left: cycles_from(site.alloc, first, site.end)?,
+        holds: Vec::new(site.alloc),
+    };
+    let done = find_with(site, desk, &mut keeping, found);
+    drop(keeping);
     done
 }
 
@@ -192,7 +171,7 @@ fn find_kept(
 fn push_gates(site: &Site<'_>, desk: &Desk, gates: &mut List<u32>) -> Result<(), NoMemory> {
     'gates: for place in site.fanin.gates.as_slice() {
         if let Some(gate) = site.scene.gate(*place) {
-            if desk.note(gate.out).used {
+            if flag(desk.used.as_slice(), gate.out) {
                 gates.push(at(site.scene.order, *place, u32::MAX))?;
             }
         }
@@ -210,63 +189,32 @@ fn push_flops(site: &Site<'_>, flops: &mut List<u32>) -> Result<(), NoMemory> {
     Ok(())
 }
 
-/// Finds what forces the bits at a cycle, of flip-flops or not, and what a pass over them needs.
-fn find(
-    alloc: Global,
-    site: &Site<'_>,
-    desk: &mut Desk,
-    end: u32,
-    flop: bool,
-    found: &mut Finding,
-) -> Result<(), NoMemory> {
-    give_constants(site.scene, desk, site.fanin.leaves.as_slice());
-    desk.own(site.facts);
-    if flop {
-        find_kept(alloc, site, desk, end, found)?;
+/// Finds what forces the bits, and what a pass over them needs.
+fn find(site: &Site<'_>, found: &mut Finding) -> Result<(), NoMemory> {
+    let mut desk = Desk::new(site.alloc, site.scene.nets)?;
+    give_constants(site.scene, &mut desk, site.fanin.leaves.as_slice());
+    put_facts(&mut desk.own, site.facts, true);
+    if site.flop {
+        find_kept(site, &mut desk, found)?;
     } else {
-        find_causes(alloc, site, desk, end, found)?;
+        find_causes(site, &mut desk, site.end, found)?;
     }
-    push_gates(site, desk, &mut found.cone.gates)?;
-    push_flops(site, &mut found.cone.flops)
-}
-
-/// Finds what forces the bits, with nothing noted before.
-fn find_in(
-    alloc: Global,
-    site: &Site<'_>,
-    end: u32,
-    flop: bool,
-    found: &mut Finding,
-) -> Result<(), NoMemory> {
-    let mut desk = Desk::new(alloc, site.scene.nets)?;
-    let done = find(alloc, site, &mut desk, end, flop, found);
-    drop(desk);
-    done
+    push_gates(site, &desk, &mut found.cone.gates)?;
+    push_flops(site, &mut found.cone.flops)?;
+    Ok(())
 }
 
 /// What is below the nets of some bits, or below that which their flip-flops load.
 fn fanin_below(alloc: Global, scene: &Scene<'_>, facts: &[Fact]) -> Result<Fanin, NoMemory> {
     let mut ends = Vec::from_slice(alloc, scene.stops)?;
     put_facts(&mut ends, facts, false);
-    let fanin = fanin_from(alloc, scene, facts, ends.as_slice());
-    drop(ends);
-    fanin
-}
-
-/// The same, down to these ends.
-fn fanin_from(
-    alloc: Global,
-    scene: &Scene<'_>,
-    facts: &[Fact],
-    ends: &[bool],
-) -> Result<Fanin, NoMemory> {
     let roots = roots_of(alloc, scene, facts)?;
     let fanin = fanin_of(alloc, scene, roots.as_slice(), ends);
     drop(roots);
     fanin
 }
 
-/// Finds what forces bits at a cycle, with what is below them.
+/// Finds what forces bits at a cycle, which flip-flops drive or none, with what is below them.
 fn find_below(
     alloc: Global,
     scene: &Scene<'_>,
@@ -277,11 +225,14 @@ fn find_below(
 ) -> Result<(), NoMemory> {
     let fanin = fanin_below(alloc, scene, facts)?;
     let site = Site {
+        alloc,
         scene,
         fanin: &fanin,
         facts,
+        flop,
+        end,
     };
-    let done = find_in(alloc, &site, end, flop, found);
+    let done = find(&site, found);
     drop(fanin);
     done
 }

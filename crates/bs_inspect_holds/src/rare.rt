@@ -3,11 +3,10 @@
 use crate::hold::Hold;
 use crate::idle::{is_beside, push_unforced, shares_vector};
 use crate::tables::{at, bit_of, has, put_facts};
-use crate::view::{Desk, Site};
+use crate::view::{Desk, Site, View};
 use bs_bits::{List, NoMemory};
 use bs_net::NetId;
 use bs_net_facts::Fact;
-use std::alloc::Global;
 
 /// At how many cycles of a block at most a net is rare.
 const MAX_CYCLES: u64 = 3;
@@ -15,14 +14,13 @@ const MAX_CYCLES: u64 = 3;
 /// How many rare nets are told of a block.
 const MAX_NETS: usize = 3;
 
-/// The cycles from one to before another, at which holds keep the bits of flip-flops.
+/// The cycles from one on up to the block's, at which holds keep the bits of flip-flops.
 #[derive(Clone, Copy)]
 pub(crate) struct Kept<'a> {
     pub(crate) site: &'a Site<'a>,
     pub(crate) holds: &'a [Hold],
     pub(crate) cycles: &'a [u64],
     pub(crate) first: u32,
-    pub(crate) end: u32,
 }
 
 /// A net that is rare, and at how many cycles it shows 1.
@@ -57,9 +55,9 @@ fn ones_of(kept: &Kept<'_>, desk: &Desk, net: NetId) -> u64 {
 }
 
 /// The rare leaves of the fan-in, the nearest first.
-fn rare_leaves(alloc: Global, kept: &Kept<'_>, desk: &Desk) -> Result<Vec<Rare>, NoMemory> {
-    let cycles = u64::from(kept.end.saturating_sub(kept.first));
-    let mut rare = Vec::new(alloc);
+fn rare_leaves(kept: &Kept<'_>, desk: &Desk) -> Result<Vec<Rare>, NoMemory> {
+    let cycles = u64::from(kept.site.end.saturating_sub(kept.first));
+    let mut rare = Vec::new(kept.site.alloc);
     'leaves: for net in kept.site.fanin.leaves.as_slice() {
         let ones = ones_of(kept, desk, *net);
         if 0 < ones && ones <= MAX_CYCLES && ones <= cycles / 4 {
@@ -71,26 +69,23 @@ fn rare_leaves(alloc: Global, kept: &Kept<'_>, desk: &Desk) -> Result<Vec<Rare>,
 
 /// Tells that a net shows 1 at a cycle, unless the sources that keep the bits there force it or are of its vector.
 fn push_cycle(
-    alloc: Global,
     kept: &Kept<'_>,
     desk: &mut Desk,
     net: NetId,
     cycle: u32,
     idle: &mut List<Fact>,
 ) -> Result<(), NoMemory> {
-    let scene = kept.site.scene;
+    let view = View {
+        site: kept.site,
+        cycle,
+        cycles: bit_of(cycle),
+        free: false,
+    };
     'holds: for hold in kept.holds {
+        let nets = hold.nets.as_slice();
         let keeps = has(hold.cycles.as_slice(), cycle);
-        if keeps && !shares_vector(scene, hold.nets.as_slice(), net) {
-            push_unforced(
-                alloc,
-                scene,
-                desk,
-                hold.nets.as_slice(),
-                &[net],
-                cycle,
-                idle,
-            )?;
+        if keeps && !shares_vector(kept.site.scene, nets, net) {
+            push_unforced(&view, desk, nets, &[net], idle)?;
         }
     }
     Ok(())
@@ -98,16 +93,15 @@ fn push_cycle(
 
 /// Tells at which cycles a net shows 1. It gives whether there is one.
 fn push_net(
-    alloc: Global,
     kept: &Kept<'_>,
     desk: &mut Desk,
     net: NetId,
     idle: &mut List<Fact>,
 ) -> Result<bool, NoMemory> {
     let before = idle.len();
-    'cycles: for cycle in kept.first..kept.end {
+    'cycles: for cycle in kept.first..kept.site.end {
         if kept.site.scene.shown(net, cycle) & bit_of(cycle) != 0 {
-            push_cycle(alloc, kept, desk, net, cycle, idle)?;
+            push_cycle(kept, desk, net, cycle, idle)?;
         }
     }
     Ok(before < idle.len())
@@ -115,7 +109,6 @@ fn push_net(
 
 /// Tells of the nets that show 1 at so many cycles, up to so many of them. It gives how many more there may be.
 fn push_nets(
-    alloc: Global,
     kept: &Kept<'_>,
     desk: &mut Desk,
     rare: &[Rare],
@@ -126,7 +119,7 @@ fn push_nets(
     let mut left = room;
     'rare: for one in rare {
         if left > 0 && one.ones == ones {
-            if push_net(alloc, kept, desk, one.net, idle)? {
+            if push_net(kept, desk, one.net, idle)? {
                 left -= 1;
             }
         }
@@ -136,7 +129,6 @@ fn push_nets(
 
 /// Tells of the rarest nets first, up to so many of them.
 fn push_all(
-    alloc: Global,
     kept: &Kept<'_>,
     desk: &mut Desk,
     rare: &[Rare],
@@ -144,21 +136,20 @@ fn push_all(
 ) -> Result<(), NoMemory> {
     let mut room = MAX_NETS;
     'ones: for ones in 1..MAX_CYCLES + 1 {
-        room = push_nets(alloc, kept, desk, rare, ones, room, idle)?;
+        room = push_nets(kept, desk, rare, ones, room, idle)?;
     }
     Ok(())
 }
 
 /// Tells what shows 1 at few cycles at which bits are kept, and does not matter there: the rarest nets first.
 pub(crate) fn push_rare(
-    alloc: Global,
     kept: &Kept<'_>,
     desk: &mut Desk,
     idle: &mut List<Fact>,
 ) -> Result<(), NoMemory> {
-    let rare = rare_leaves(alloc, kept, desk)?;
+    let rare = rare_leaves(kept, desk)?;
     put_facts(&mut desk.given, kept.site.facts, true);
-    let done = push_all(alloc, kept, desk, rare.as_slice(), idle);
+    let done = push_all(kept, desk, rare.as_slice(), idle);
     put_facts(&mut desk.given, kept.site.facts, false);
     drop(rare);
     done

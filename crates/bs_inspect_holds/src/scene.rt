@@ -2,7 +2,7 @@
 ghost use Rattle.std.specs.Prelude.{◌≡◌, IfOk};
 
 use crate::driver::{Driver, drivers_of};
-use crate::tables::{at, bit_of, put, zeros};
+use crate::tables::{at, bit_of, put};
 use bs_bits::NoMemory;
 use bs_net::{Gate, NetId};
 use bs_net_facts::Moments;
@@ -32,7 +32,7 @@ pub struct Scene<'a> {
 
 /// How many nets each vector has.
 fn sizes_of(alloc: Global, groups: &[u32]) -> Result<Vec<u64>, NoMemory> {
-    let mut sizes = zeros(alloc, groups.len())?;
+    let mut sizes = vec![in alloc; 0u64; groups.len()]?;
     'nets: for group in groups {
         let size = at(sizes.as_slice(), *group as usize, 0);
         put(&mut sizes, *group as usize, size.saturating_add(1));
@@ -40,18 +40,12 @@ fn sizes_of(alloc: Global, groups: &[u32]) -> Result<Vec<u64>, NoMemory> {
     Ok(sizes)
 }
 
-/// Where the word of a net stands that has the bit of a moment, where there are so many nets.
-fn place_of(nets: usize, net: u32, cycle: u32) -> usize {
-    (cycle as usize / 64)
-        .saturating_mul(nets)
-        .saturating_add(net as usize)
-}
-
 /// Writes which of so many nets show 1 at a moment.
 fn put_moment(words: &mut Vec<u64>, moments: &Moments<'_>, nets: u32, cycle: u32) {
+    let row = (cycle as usize / 64).saturating_mul(nets as usize);
     'nets: for net in 0..nets {
         if moments.bit(NetId(net), cycle) == Some(true) {
-            let place = place_of(nets as usize, net, cycle);
+            let place = row.saturating_add(net as usize);
             let word = at(words.as_slice(), place, 0);
             put(words, place, word | bit_of(cycle));
         }
@@ -61,7 +55,7 @@ fn put_moment(words: &mut Vec<u64>, moments: &Moments<'_>, nets: u32, cycle: u32
 /// The bits of so many nets at all moments.
 fn shown_of(alloc: Global, moments: &Moments<'_>, nets: u32) -> Result<Vec<u64>, NoMemory> {
     let rows = moments.len() / 64 + 1;
-    let mut words = zeros(alloc, rows.saturating_mul(nets as usize))?;
+    let mut words = vec![in alloc; 0; rows.saturating_mul(nets as usize)]?;
     let mut cycle = 0u32;
     'moments: for _ in 0..moments.len() {
         put_moment(&mut words, moments, nets, cycle);
@@ -126,7 +120,7 @@ impl<'a> Scene<'a> {
 
     /// The bits of a net at the 64 moments among which one is.
     pub(crate) fn shown(&self, net: NetId, cycle: u32) -> u64 {
-        let place = place_of(self.nets, net.0, cycle);
-        at(self.shown.as_slice(), place, 0)
+        let row = (cycle as usize / 64).saturating_mul(self.nets);
+        at(self.shown.as_slice(), row.saturating_add(net.0 as usize), 0)
     }
 }

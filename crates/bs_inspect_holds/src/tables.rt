@@ -5,12 +5,6 @@ use bs_net::NetId;
 use bs_net_facts::Fact;
 use std::alloc::Global;
 
-/// So many words of zeros.
-pub(crate) fn zeros(alloc: Global, count: usize) -> Result<Vec<u64>, NoMemory> {
-    let words = vec![in alloc; 0; count]?;
-    Ok(words)
-}
-
 /// What stands at a place, or another value behind the end.
 pub fn at<T: Copy>(table: &[T], place: usize, other: T) -> T {
     if place < table.len() {
@@ -25,6 +19,11 @@ pub fn put<T: Copy>(table: &mut Vec<T>, place: usize, value: T) {
     if place < table.len() {
         table[place] = value;
     }
+}
+
+/// Whether the flag of a net is up.
+pub(crate) fn flag(flags: &[bool], net: NetId) -> bool {
+    at(flags, net.0 as usize, false)
 }
 
 /// Puts the flags of nets up or down.
@@ -53,7 +52,7 @@ pub(crate) fn has(words: &[u64], cycle: u32) -> bool {
 
 /// The cycles from one to before another.
 pub(crate) fn cycles_from(alloc: Global, first: u32, end: u32) -> Result<Vec<u64>, NoMemory> {
-    let mut words = zeros(alloc, end as usize / 64 + 1)?;
+    let mut words = vec![in alloc; 0; end as usize / 64 + 1]?;
     'cycles: for cycle in first..end {
         let place = cycle as usize / 64;
         let word = at(words.as_slice(), place, 0);

@@ -2,10 +2,10 @@
 
 use crate::costs::{cheaper, cheapest_input, cheapest_need, price};
 use crate::need::Need;
+use crate::tables::{flag, put, put_nets};
 use crate::view::{Desk, View};
 use bs_bits::NoMemory;
 use bs_net::NetId;
-use std::alloc::Global;
 
 /// What a walk has come to.
 #[derive(Drop)]
@@ -19,9 +19,9 @@ struct Walk {
 /// Takes those of some nets that are not taken.
 fn take(desk: &mut Desk, walk: &mut Walk, nets: &[NetId]) -> Result<(), NoMemory> {
     'nets: for net in nets {
-        if !desk.note(*net).taken {
+        if !flag(desk.taken.as_slice(), *net) {
             walk.nets.push(*net)?;
-            desk.take(*net, true);
+            put(&mut desk.taken, net.0 as usize, true);
         }
     }
     Ok(())
@@ -34,21 +34,25 @@ fn take_below(
     walk: &mut Walk,
     net: NetId,
 ) -> Result<(), NoMemory> {
-    if let Some(gate) = view.gate(net) {
-        return match cheapest_input(view, desk, gate) {
-            Some(input) => take(desk, walk, &[input]),
-            None => take(desk, walk, gate.ins.slice()),
-        };
+    let site = view.site;
+    let Some(place) = site.fanin.gate(site.scene, net) else {
+        if !flag(desk.given.as_slice(), net) {
+            walk.sources.push(net)?;
+        }
+        return Ok(());
+    };
+    let Some(gate) = site.scene.gate(place) else {
+        return Ok(());
+    };
+    match cheapest_input(view, desk, gate) {
+        Some(input) => take(desk, walk, &[input]),
+        None => take(desk, walk, gate.ins.slice()),
     }
-    if !desk.is_given(net) {
-        walk.sources.push(net)?;
-    }
-    Ok(())
 }
 
 /// Takes what decides the nets of a walk, from a place on.
 fn descend(view: &View<'_>, desk: &mut Desk, walk: &mut Walk, from: usize) -> Result<(), NoMemory> {
-    'nets: for i in from..view.scene.nets {
+    'nets: for i in from..view.site.scene.nets {
         if i >= walk.nets.len() {
             return Ok(());
         }
@@ -73,60 +77,30 @@ fn settle(view: &View<'_>, desk: &mut Desk, walk: &mut Walk, need: Need) -> Resu
 }
 
 /// Takes what decides all bits, the cheapest first. What is taken costs nothing from then on.
-fn settle_all(
-    view: &View<'_>,
-    desk: &mut Desk,
-    walk: &mut Walk,
-    needs: &[Need],
-    free: bool,
-) -> Result<(), NoMemory> {
-    price(view, desk, free);
-    'needs: for _ in 0..needs.len() {
-        let Some(need) = cheapest_need(desk, needs) else {
+fn settle_all(view: &View<'_>, desk: &mut Desk, walk: &mut Walk) -> Result<(), NoMemory> {
+    price(view, desk);
+    'facts: for _ in 0..view.site.facts.len() {
+        let Some(need) = cheapest_need(view, desk) else {
             return Ok(());
         };
         if settle(view, desk, walk, need)? {
-            price(view, desk, free);
+            price(view, desk);
         }
     }
-    Ok(())
-}
-
-/// Walks down from all bits, takes the desk's notes of the walk back and orders the sources.
-fn walk_down(
-    view: &View<'_>,
-    desk: &mut Desk,
-    walk: &mut Walk,
-    needs: &[Need],
-    free: bool,
-) -> Result<(), NoMemory> {
-    settle_all(view, desk, walk, needs, free)?;
-    desk.let_go(walk.nets.as_slice());
-    walk.sources.sort_by_key(|net| net.0)?;
     Ok(())
 }
 
 /// Sources of the fan-in that decide all bits at a moment, by ascending numbers. The costs are least one bit after another, and the
 /// block's own nets cost nothing where they are free.
-pub(crate) fn cheapest_sources(
-    alloc: Global,
-    view: &View<'_>,
-    desk: &mut Desk,
-    needs: &[Need],
-    free: bool,
-) -> Result<Vec<NetId>, NoMemory> {
+pub(crate) fn cheapest_sources(view: &View<'_>, desk: &mut Desk) -> Result<Vec<NetId>, NoMemory> {
     let mut walk = Walk {
-        nets: Vec::new(alloc),
-        sources: Vec::new(alloc),
+        nets: Vec::new(view.site.alloc),
+        sources: Vec::new(view.site.alloc),
     };
-    let done = walk_down(view, desk, &mut walk, needs, free);
+    settle_all(view, desk, &mut walk)?;
+    walk.sources.sort_by_key(|net| net.0)?;
     let Walk { nets, sources } = walk;
+    put_nets(&mut desk.taken, nets.as_slice(), false);
     drop(nets);
-    match done {
-        Ok(()) => Ok(sources),
-        Err(refused) => {
-            drop(sources);
-            Err(refused)
-        }
-    }
+    Ok(sources)
 }
