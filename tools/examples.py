@@ -89,6 +89,30 @@ def checked(inspect, words, commands=("cnf", "lrat")):
         return f"refused: {fault}"
 
 
+# netlist, stimulus, report, module, its files in Verilog: where iverilog is there, the bench ends in the trace's last state
+BENCHES = [
+    ("yosys/netlist.v", "yosys/stimulus.txt", "yosys/report.txt", "rx", ["yosys/rx.v"]),
+    ("hierarchy/netlist.v", "hierarchy/stimulus.txt", "hierarchy/report.txt", "pair", ["hierarchy/pair.v"]),
+]
+
+
+def benched(inspect, netlist, stimulus, report, top, sources):
+    """What the RTL does under the bench of a report: the simulation's last state, beside the last one of the trace."""
+    here = os.path.abspath("examples")
+    with tempfile.TemporaryDirectory() as folder:
+        done = subprocess.run([inspect, "bench", netlist, stimulus, report, top], cwd=here, stdout=subprocess.PIPE, stderr=subprocess.PIPE)
+        if done.returncode:
+            return f"status {done.returncode}"
+        open(os.path.join(folder, "bench.v"), "wb").write(done.stdout)
+        files = [os.path.join(here, source) for source in sources]
+        subprocess.run(["iverilog", "-o", "bench", "-s", "bench", "bench.v", *files], cwd=folder, check=True)
+        said = subprocess.run(["vvp", "bench"], cwd=folder, stdout=subprocess.PIPE, check=True).stdout.decode().splitlines()[-1]
+        dump = [inspect, "dump", netlist, os.path.join(folder, "bench.vcd"), "--cycle", said.split()[-1], "--scope", "bench.dut"]
+        ended = subprocess.run(dump, cwd=here, stdout=subprocess.PIPE, stderr=subprocess.PIPE).stdout.decode()
+    states = [line for line in open(f"examples/{report}", encoding="ascii").read().split("\nlog ")[0].splitlines() if line.startswith("state ")]
+    return "ends in the dumped state" if ended == states[-1] + "\n" else f"ends in {ended!r}"
+
+
 # a document, and the folder of the examples in which its commands stand
 DOCUMENTS = {"README.md": "", "examples/README.md": "", "docs/HOW_TO_READ.md": "", "docs/ONE_CRASH.md": "shift", "docs/OWN_CHIP.md": "yosys", "docs/MISTAKES.md": "shift"}
 PROGRAMS = {"backspace": "b", "$backspace": "b", "backspace_inspect": "i", "$inspect": "i"}
@@ -181,9 +205,14 @@ def main():
         said = checked(of["i"], words, ("reach-cnf", "reach-lrat"))
         wrong += not said.startswith("refuted")
         print(f"{os.path.basename(of['i'])} reach-cnf, reach-lrat {words}: {said}")
+    benches = BENCHES if shutil.which("iverilog") else []
+    for bench in benches:
+        said = benched(of["i"], *bench)
+        wrong += said != "ends in the dumped state"
+        print(f"{os.path.basename(of['i'])} bench {' '.join(bench[:4])}: {said}")
     count, more = run_documents(of)
     wrong += more
-    total = len(ROWS) + len(refuted) + len(lengths) + count
+    total = len(ROWS) + len(refuted) + len(lengths) + len(benches) + count
     print(f"{total - wrong} of {total} as they should be")
     sys.exit(1 if wrong else 0)
 

@@ -354,20 +354,37 @@ def steps_table(report):
     return text
 
 
-def trace_text(chip, report, whole=False, only=None):
+def lists_text(chip, report, only=None):
+    flops = [it for it in signals(chip.flop_keys()) if only is None or only(it)]
+    text = ""
+    for number, (line, step) in enumerate(zip(steps_text(report).splitlines(True), report.steps), 1):
+        text += line
+        states = [state for state, _ in step["cands"]]
+        for name, high, low, places in flops if states else []:
+            values = [signal_value(state, places) for state in states]
+            bits = "".join(states[0][place] if len({state[place] for state in states}) == 1 else "?" for place in places)
+            told = f"differ {signal_name(name, high, low)} = {'0b' * (len(places) > 1)}{bits} in {' '.join(values)}"
+            text += f"{number} {told if '?' in bits else f'same {signal_name(name, high, low)} = {values[0]}'}\n"
+    return text
+
+
+def window_of(report, first=0, behind=None, last=None):
+    """The numbers of the states that are told."""
+    every = range(len(report.states))
+    return every[first:behind] if last is None else [at for at in every[first:behind] if at in every[-last:]]
+
+
+def trace_text(chip, report, whole=False, only=None, window=None):
     flops = [it for it in signals(chip.flop_keys()) if only is None or only(it)]
     inputs = [it for it in signals([chip.keys[net] for net in chip.inputs]) if only is None or only(it)]
-    text, before = "", None
-    for at, (state, source) in enumerate(zip(report.states, report.sources())):
-        text += f"{at} state {' '.join(source)}\n"
-        for name, high, low, places in flops:
-            value = signal_value(state, places)
-            if whole or before is None or value != signal_value(before, places):
-                text += f"{at} flop {signal_name(name, high, low)} = {value}\n"
-        if at < len(report.inputs):
-            for name, high, low, places in inputs:
-                text += f"{at} input {signal_name(name, high, low)} = {signal_value(report.inputs[at], places)}\n"
-        before = state
+    text, sources = "", report.sources()
+    for at in window_of(report) if window is None else window:
+        text += f"{at} state {' '.join(sources[at])}\n"
+        for kind, listed, rows in (("flop", flops, report.states), ("input", inputs, report.inputs)):
+            for name, high, low, places in listed if at < len(rows) else []:
+                value = signal_value(rows[at], places)
+                if whole or at == 0 or value != signal_value(rows[at - 1], places):
+                    text += f"{at} {kind} {signal_name(name, high, low)} = {value}\n"
     return text
 
 
@@ -375,11 +392,13 @@ def field(text):
     return '"' + text.replace('"', '""') + '"' if '"' in text or "," in text else text
 
 
-def trace_table(chip, report):
+def trace_table(chip, report, window=None):
     flops, inputs = signals(chip.flop_keys()), signals([chip.keys[net] for net in chip.inputs])
     names = [signal_name(*it[:3]).replace("\\", "", 1) for it in flops + inputs]
     text = ",".join(["state,from,run,cycle", *map(field, names)]) + "\n"
-    for at, (state, source) in enumerate(zip(report.states, report.sources())):
+    sources = report.sources()
+    for at in window_of(report) if window is None else window:
+        state, source = report.states[at], sources[at]
         row = [str(at), source[0], *(source[1:] or ("", ""))] + [signal_value(state, it[3]) for it in flops]
         row += [signal_value(report.inputs[at], it[3]) if at < len(report.inputs) else "" for it in inputs]
         text += ",".join(row) + "\n"
@@ -435,6 +454,8 @@ def view_text(chip, report, start=0, whole=False, only=None):
     """The waveform that `backspace_inspect wave` writes."""
     drawn = [it for it in signals(chip.keys) if (only(it) if only else whole or not (is_made(it[0]) or it[0].startswith("1'b")))]
     text = ["$timescale 1ns $end"] + [f"$comment {at} state {' '.join(source)} $end" for at, source in enumerate(report.sources())]
+    recorded = [(own, [f"{int(source[part]):032b}" if source[0] == "hit" else "x" for source in report.sources()]) for part, own in ((1, "!!"), (2, '"!'))]
+    text += ["$scope module recorded $end", "$var integer 32 !! run [31:0] $end", '$var integer 32 "! cycle [31:0] $end', "$upscope $end"]
     text.append("$scope module trace $end")
     scope = []
     for number, (name, high, low, places) in enumerate(drawn):
@@ -455,17 +476,28 @@ def view_text(chip, report, start=0, whole=False, only=None):
             if before is None or value != "".join(before[place] for place in places):
                 text.append(value + identifier(number) if len(places) == 1 else f"b{value} {identifier(number)}")
         before = row
+        for own, told in recorded:
+            if at == 0 or told[at] != told[at - 1]:
+                text.append(f"b{told[at]} {own}")
+    return "\n".join(text) + "\n"
+
+
+def save_text(chip, report, wave, start=0, whole=False, only=None):
+    """The save file of gtkwave that `backspace_inspect gtkw` writes: the variables of the waveform, by their scopes."""
+    text = [f'[dumpfile] "{wave}"', f"[timestart] {start}", f"*0.000000 {start + len(report.states) - 1}", "@24", "recorded.run", "recorded.cycle"]
+    scope = []
+    for line in view_text(chip, report, start, whole, only).partition("$scope module trace")[2].splitlines():
+        word, *more = line.split()
+        if word == "$scope":
+            scope.append(more[1])
+        elif word == "$upscope" and scope:
+            scope.pop()
+        elif word == "$var":
+            text += ["@28" if more[1] == "1" else "@22", ".".join(["trace", *scope, "".join(more[3:-1])])]
     return "\n".join(text) + "\n"
 
 
 # ---- a proposed signature
-
-
-def shares(rows):
-    """How many rows there are, and how many share theirs: at most, and in the mean."""
-    counts = Counter(rows).values()
-    total = sum(count * count for count in counts)
-    return f"{sum(counts)} {max(counts, default=0)} {hundredths(total, sum(counts))}"
 
 
 def hundredths(total, count):
@@ -473,63 +505,80 @@ def hundredths(total, count):
     return f"{found // 100}.{found % 100:02}"
 
 
-def spread(rows, compared=2_048):
-    """At most so many of these, spread evenly."""
-    count = len(rows)
-    stride = count // (compared + 1) + 1
-    return [rows[place * stride] for place in range(count // stride)] if count > compared else rows
+class Pcg:
+    """PCG XSH-RR 64/32: a congruential generator whose state is folded and turned."""
+
+    def __init__(self, state, stream):
+        self.increment = (2 * stream + 1) % (1 << 64)
+        self.state = (state + self.increment) % (1 << 64)
+        self.step()
+
+    def step(self):
+        self.state = (self.state * 6_364_136_223_846_793_005 + self.increment) % (1 << 64)
+
+    def next(self):
+        state = self.state
+        self.step()
+        word, turn = ((state >> 18) ^ state) >> 27 & 0xFFFF_FFFF, state >> 59
+        return (word >> turn | word << (32 - turn)) & 0xFFFF_FFFF
 
 
-def greedy(rows, items):
-    """Flip-flops, one after another: each leaves the least sum of shares, the first of equals."""
-    chosen, left, groups = [], list(range(len(rows[0]))), [0] * len(rows)
-    while len(chosen) < items and left:
-        best = None
-        for flop in left:
-            split = [2 * group + (row[flop] == "1") for group, row in zip(groups, rows)]
-            found = sum(count * count for count in Counter(split).values())
-            if best is None or found < best[0]:
-                best = (found, flop, split)
-        numbers = {group: number for number, group in enumerate(dict.fromkeys(best[2]))}
-        groups = [numbers[group] for group in best[2]]
-        chosen.append(best[1])
-        left.remove(best[1])
-    return chosen
+def mixed(flops, items):
+    """The flip-flops of each item: each flip-flop draws three items of a deck, or one where there are fewer than six."""
+    if flops <= items:
+        return [[flop] for flop in range(flops)]
+    draws, deck, held = Pcg(1, 1), [], [[] for _ in range(items)]
+    weight = 1 if items < 6 else 3
+    for flop in range(flops):
+        if len(deck) < weight:
+            deck = list(range(items))
+        for _ in range(weight):
+            held[deck.pop(draws.next() % len(deck))].append(flop)
+    return [item for item in held if item]
+
+
+def rank(items, lost):
+    """How many of the lost flip-flops' bits these parities settle, where all other bits are known."""
+    rows, found = [sum(1 << lost.index(flop) for flop in item if flop in lost) for item in items], 0
+    while rows:
+        row = rows.pop()
+        if row:
+            found += 1
+            low = row & -row
+            rows = [other ^ row if other & low else other for other in rows]
+    return found
 
 
 def listed_moments(count):
     """The numbers, among those behind reset, of the moments that are listed."""
-    return list(range(count)) if count <= 32 else [33 * (13 * k % 32) * count // 1_024 for k in range(32)]
+    return list(range(count)) if count <= 64 else [65 * (13 * k % 64) * count // 4_096 for k in range(64)]
+
+
+def tried_numbers(flops):
+    """The numbers of items that are tried."""
+    return [number for number in (16, 24, 32, 48, 64, 96, 128, 192, 256) if number < flops] + [max(flops, 1)] * (flops <= 256)
 
 
 def signature_text(chip, runs, items, predecessors):
-    """What `signature` writes of these runs of states, where a function tells how many predecessors a moment has by some flip-flops as signature."""
-    states = list(dict.fromkeys(state for run in runs for state in run))[:65_536]
-    steps = list(dict.fromkeys(step for run in runs for step in zip(run, run[1:])))[:65_536]
+    """What `signature` writes of these runs of states, where a function tells how many predecessors a moment has by some items as signature."""
     flops = chip.flop_keys()
-    items = min(items, len(flops))
-    most = min(4 * items, len(flops), 256)
-    order = greedy(spread(states), most)
-    sets = [[flop] for flop in order[:items]], [list(range(item, len(flops), items)) for item in range(items)]
-    text = ""
-    for word, choice in zip(("bits", "parities"), sets):
-        sign = lambda state: tuple(sum(state[flop] == "1" for flop in item) % 2 for item in choice)
-        signs = {state: sign(state) for state in states}
-        pairs = [tuple(signs.get(state) or sign(state) for state in step) for step in steps]
-        text += f"choice {word}\nstates {shares(signs.values())}\nsteps {shares(pairs)}\n"
-        for item in choice:
-            text += f"{'bit' if word == 'bits' else 'xor'} {' '.join(flops[flop] for flop in item)}\n"
+    proposal = mixed(len(flops), items)
+    text = "choice mixed\n" + "".join(f"xor {' '.join(flops[flop] for flop in item)}\n" for item in proposal)
     moments = [(run, cycle) for run, states in enumerate(runs, 1) for cycle in range(1, len(states))]
-    width = items
-    while True:
-        found = [(run, cycle, predecessors(run, cycle, order[:width])) for run, cycle in (moments[place] for place in listed_moments(len(moments)))]
-        total = sum(min(count, 256) for _, _, count in found)
-        text += f"lists {width} {len(found)} {hundredths(total, len(found))} {sum(count > 256 for _, _, count in found)}\n"
-        if width == items:
-            text += "".join(f"list {run} {cycle} {count if count <= 256 else 'more'}\n" for run, cycle, count in found)
-        if width in (4 * items, len(flops), 256):
-            return text
-        width = min(2 * width, len(flops), 256)
+    moments = [moments[place] for place in listed_moments(len(moments))]
+    found, room = [], 1_048_576 // max(len(flops), 1)
+    for run, cycle in moments:
+        if sum(min(count, 256) for _, _, count in found) >= room:
+            break
+        found.append((run, cycle, predecessors(run, cycle, proposal)))
+    total = sum(min(count, 256) for _, _, count in found)
+    text += f"lists {min(items, len(flops))} {len(found)} {hundredths(total, len(found))} {sum(count > 256 for _, _, count in found)}\n"
+    text += "".join(f"list {run} {cycle} {count if count <= 256 else 'more'}\n" for run, cycle, count in found)
+    for number in tried_numbers(len(flops)):
+        tried = mixed(len(flops), number)
+        if sum(predecessors(run, cycle, tried) != 1 for run, cycle in moments) <= 1:
+            return text + f"enough {number}\n"
+    return text + "enough none\n"
 
 
 # ---- a simulator's values
@@ -637,3 +686,23 @@ def check_text(chip, runs, vcds, clock, scope):
             text += first_lines(lines)
     lacking = [f"missing {rtl_name(*group[:3])}" for group in groups if missing & set(group[3])]
     return text + first_lines(lacking)
+
+
+def near_text(chip, runs, state):
+    """What `near` writes of the state of a dump and the states of these runs."""
+    nearest = lambda other: min(
+        ((int(one, 2) ^ int(other, 2)).bit_count(), run, cycle) for run, states in enumerate(runs, 1) for cycle, one in enumerate(states))
+    count, run, cycle = nearest(state)
+    text = f"run {run} cycle {cycle} differ {count} of {len(state)}\n"
+    if count == 0:
+        return text
+    recorded = zip(chip.flop_keys(), runs[run - 1][cycle], state)
+    text += first_lines([f"{key} run {one} dump {other}" for key, one, other in recorded if one != other], 8)
+    text += "hint cell\n" * (count == 1)
+    text += "hint held\n" * all(one == chip.reset_state() for states in runs for one in states)
+    inverse = state.translate(str.maketrans("01", "10"))
+    shifts = [state[1:] + "0", state[1:] + "1", "0" + state[:-1], "1" + state[:-1]]
+    for word, likes in (("inverted", [inverse]), ("shifted", shifts)):
+        found = [moment for differ, *moment in map(nearest, likes) if differ == 0]
+        text += f"hint {word} run {found[0][0]} cycle {found[0][1]}\n" if found else ""
+    return text + "hint order\n" * (1 < count and len(state) <= 4 * count)

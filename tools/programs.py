@@ -146,6 +146,14 @@ ALL_USAGES = (
     "usage: backspace run NETLIST SIGNATURE STIMULUS DUMP [options], audit NETLIST SIGNATURE STIMULUS DUMP REPORT, wave NETLIST SIGNATURE "
     "STIMULUS DUMP REPORT, dump NETLIST SIGNATURE STIMULUS RUN CYCLE, reach NETLIST STATE CYCLES [--conflicts B], or demo NUMBER"
 )
+WRITES = {
+    "run": "the report of the way back from the dump, state by state",
+    "audit": "`accepted`, or `rejected` and the first part of the report that fails",
+    "wave": "a valid report's trace as a waveform, every net at every cycle",
+    "dump": "the dump that a recorded run gives at that cycle",
+    "reach": "a shortest execution from reset to the state, or that none has CYCLES cycles or fewer",
+    "demo": "one line about a backtrace on a generated netlist; NUMBER is the seed",
+}
 HELP = "`backspace_inspect help` tells how the words of each command stand"
 REJECTED = said(
     "the line names the first part of the report that fails (docs/FORMATS.md, Validity)",
@@ -155,8 +163,16 @@ NO_MEMORY = said("memory ran out, and nothing was written: give the program more
 INSPECT_NO_MEMORY = said("memory ran out, and nothing was written: give the program more")
 
 
-def length_note(steps):
-    return said(f"the budget of steps is spent: this many were made: {steps}", "ask for more with --steps L, up to 65536; the trace so far is right")
+def length_note(steps, lists=0):
+    helps = "ask for more with --candidates K, up to 65536, or --conflicts B, up to 2^40, or choose a signature of more parities"
+    cut = [f"so many of the lists were cut: {lists}; {helps}"] if lists else []
+    return said(f"the budget of steps is spent: this many were made: {steps}", "ask for more with --steps L, up to 65536; the trace so far is right", *cut)
+
+
+def help_note():
+    commands = "".join(f"{USAGES[command]}\nwrites {what}\n" for command, what in WRITES.items())
+    others = "`backspace_inspect help` tells how the commands are used that make and show its files"
+    return said("the commands of `backspace`; options stand anywhere behind a command") + commands + said(others)
 
 
 def output_note(lines, reason):
@@ -254,10 +270,11 @@ def words(it):
     value = "wants a number in digits: --steps and --candidates 1 to 65536, --conflicts 1 to 2^40"
     wrong = [
         ([], "there are no words", None),
-        (["--help"], "word 1, `--help`, is no command", None),
-        (["-h"], "word 1, `-h`, is no command", None),
         (["Run", *FOUR], "word 1, `Run`, is no command", None),
+        (["--Help"], "word 1, `--Help`, is no command", None),
+        (["run", "--help"], "word 2, `--help`, is no option of this command", "run"),
         (["trace", "n.v", "r.txt"], "word 1, `trace`, is a command of the program `backspace_inspect`", None),
+        (["candidates", "n.v", "r.txt"], "word 1, `candidates`, is a command of the program `backspace_inspect`", None),
         (["reach-cnf", "n.v", "11", "a"], "word 1, `reach-cnf`, is a command of the program `backspace_inspect`", None),
         (["run", "n.v", "s.txt", "t.txt"], "the number of words by position behind the command is 3; a file name with a space in it stands in quotes", "run"),
         ([*run, *"123456789"], "the number of words by position behind the command is 13; a file name with a space in it stands in quotes", "run"),
@@ -275,12 +292,16 @@ def words(it):
         (["dump", "n.v", "s.txt", "t.txt", "1", "65537"], "RUN lies between 1 and 256 and CYCLE between 0 and 65536, each in digits alone", "dump"),
         (["audit", *FOUR], "the number of words by position behind the command is 4; a file name with a space in it stands in quotes", "audit"),
         (["wave", *FOUR, "r.txt", "x"], "the number of words by position behind the command is 6; a file name with a space in it stands in quotes", "wave"),
-        (["reach", "n.v", "11", "1025"], "STATE is one or more characters 0 and 1, CYCLES lies between 0 and 1024, in digits alone, and an option is given once", "reach"),
+        (["reach", "n.v", "11", "1025"], "STATE is one or more characters 0, 1 and `-`, CYCLES lies between 0 and 1024, in digits alone, and an option is given once", "reach"),
         (["demo", "18446744073709551616"], "NUMBER lies below 2^64, in digits alone", "demo"),
         (["demo", "7", "8"], "the number of words by position behind the command is 2; a file name with a space in it stands in quotes", "demo"),
     ]
     for given, sentence, usage in wrong:
         it.tried("backspace", given, 2, "refused words\n", said(sentence, USAGES.get(usage, ALL_USAGES)))
+    for given in (["help"], ["-h"], ["--help"], ["help", "run"]):
+        it.tried("backspace", given, 2, "refused words\n", help_note())
+    for given in (["version"], ["-V"], ["--version"], ["--version", "n.v"]):
+        it.tried("backspace", given, 2, "refused words\n", said("backspace 1"))
     it.tried("backspace", [b"run", b"\xff.v"], 2, "", said("the words of the command line are no text in UTF-8", ALL_USAGES))
     it.tried("backspace_inspect", [b"flops", b"\xff.v"], 2, "", said("the words of the command line are no text in UTF-8", HELP))
     return report
@@ -325,7 +346,7 @@ def codes(it):
     it.tried("backspace", ["dump", "n.v", "s.txt", "t.txt", "256", "0"], 9, "refused dump Range\n", said(moment, counts))
     it.tried("backspace", ["demo", "7"], 0, "demo 7 steps 64 finished 64 listed 512 stop length\n")
     unreached = said(
-        "no execution of so many cycles from reset, or of fewer, ends in this state, whatever the inputs",
+        "no execution of so many cycles from reset, or of fewer, ends in a state with these bits, whatever the inputs",
         "ask for more cycles, up to 1024; the state's bits are in the order of the netlist's flip-flops, the first on the left",
     )
     code, out, note = it.run("backspace", ["reach", "n.v", "11", "1"])
@@ -410,7 +431,12 @@ NETLISTS = [
         "expressions and concatenations are left out", "a net, a bit of a vector or a constant of one bit may stand here; examples/yosys/synth.sh maps the rest to gates")),
     (NETLIST.replace("input ck, a;", "input ck, a; wire [1:0] v;").replace("q1, q0)", "q1, v)"), "Unsupported {} Width", "v);", (
         "a whole vector or a part of it is left out", "name one bit, as a[0]")),
-    (NETLIST.replace("q1, q0)", "q1, 2'b01)"), "Unsupported {} Constant", "2'b01", ("a constant here is of one bit", "write 1'b0 or 1'b1")),
+    (NETLIST.replace("q1, q0)", "q1, 2'b01)"), "Unsupported {} Constant", "2'b01", ("a constant here is 1'b0 or 1'b1", "x, z and wider constants are left out")),
+    (NETLIST.replace("q1, q0)", "q1, 1'bx)"), "Unsupported {} Constant", "1'bx", ("a constant here is 1'b0 or 1'b1", "x, z and wider constants are left out")),
+    (NETLIST.replace("input ck, a;", "input ck, a; logic r;"), "Unsupported {} Hierarchy", "logic r;", ("no cell of this name is known", CELL)),
+    (NETLIST.replace("f1(ck, q1, q0);", "f1;"), "Syntax {}", ";\nendmodule", (
+        "a `;` cannot stand here",
+        "is something missing before it, as an instance's terminals? is this SystemVerilog, as `logic r;`? synthesize it, as by examples/yosys/synth.sh")),
     (NETLIST.replace("  dff f1", "`define x\n  dff f1"), "Unsupported {} Directive", "`define", (
         "this compiler directive is left out", "take it out, or run a preprocessor first")),
     (NETLIST.replace("ck, a;", "ck, a"), "Syntax {}", "dff f0", HERE_NOT),
@@ -465,6 +491,8 @@ def nearest(*keys):
 TEXTS = [
     (1, "bit q1\r\n", 7, "Line 1", 1, 7, ("a carriage return: lines end with a line feed alone", "take the carriage returns out, as by `tr -d '\\r'`")),
     (1, "bit q1\x01\n", 7, "Line 1", 1, 7, ("a byte that no line of this text may have", "save the file as plain ASCII")),
+    (1, "choice mixed\nxor q0\n", 7, "Line 1", 1, 1, (
+        "this is a proposal of `backspace_inspect signature`, and more than a signature", "keep its lines `xor` alone, as by `grep ^xor`")),
     (1, "bit\tq1\n", 7, "Line 1", 1, 4, ("a tab: words are parted by one space", "write one space")),
     (1, "bit  q1\n", 7, "Line 1", 1, 4, LOOSE),
     (1, "bit q1\n\n", 7, "Line 2", 2, 1, ("a line of a signature is `bit NAME` or `xor NAME NAME ..`", "a name is the key of a flip-flop's output net, without empty lines between")),
@@ -484,15 +512,15 @@ TEXTS = [
         "a bit of an input is 0 or 1, and x or z stands here", "drive each data input from the first cycle on, or write what the chip had")),
     (2, "run a\n1\nend\n", 8, "Line 1", 1, 1, ("a run is `run NAME CYCLES`, as many lines of bits, and `end`", "this is none of these where it stands")),
     (2, f"run {'n' * 65} 1\n1\nend\n", 8, "Line 1", 1, 1, ("a run is `run NAME CYCLES`, as many lines of bits, and `end`", "this is none of these where it stands")),
-    (2, "run a 65537\n", 8, "TooManyCycles 1", 1, 1, ("a run has at most 65536 cycles", "split it, or begin it later")),
+    (2, "run a 65537\n", 8, "TooManyCycles 1", 1, 1, ("a run has at most 65536 cycles", "a run begins at reset, and can be neither split nor begun later: shorten the way to the failure, or end the run earlier")),
     (2, "run a 0\nend\n" * 257, 8, "TooManyRuns 513", 513, 1, ("a stimulus has at most 256 runs", "this is the 257th")),
     (3, "state 111\nsig 1\nend\n", 9, "Width 1", 1, 1, (
         "3 bits stand here, and 2 are due: one for each flip-flop of the netlist", "is the dump of this netlist, with this signature?")),
     (3, "state 11\nsig 11\nend\n", 9, "Width 2", 2, 1, (
         "2 bits stand here, and 1 are due: one for each item of the signature", "is the dump of this netlist, with this signature?")),
     (3, "state 3\nsig 1\nend\n", 9, "Line 1", 1, 1, (
-        "behind the word stand characters 0 and 1 alone, or `sig none`, and this line has something else",
-        "write a number of base 16 bit by bit, as 1010 for a; x and z are no values of a chip: read what it had")),
+        "behind the word stand characters 0 and 1, in `state` also `-`, or `sig none`, and this line has something else",
+        "write a number of base 16 bit by bit, as 1010 for a; in `state` write `-` where the chip's bit is not known, as for x and z")),
     (3, "state 11\nsigs 1\nend\n", 9, "Line 2", 2, 1, ("the second line of a dump is `sig BITS` or `sig none`", "a bit for each item of the signature")),
     (3, "state 11\nsig 1\n", 9, "Line 3", 3, 1, ("the third line of a dump is `end`", "and nothing follows it")),
     (3, "state 11\nsig 1\nend\nend\n", 9, "Line 4", 4, 1, ("nothing follows the line `end` of a dump", "take it out")),
@@ -863,7 +891,7 @@ def passed_over(it, runs):
     it.write("busy.e", f"state {state}\nsig {stored(before)}\nend\n")
     states, inputs = {run.cycles - 1: before, run.cycles: state}, {run.cycles - 1: run.input(run.cycles - 1)}
     wanted = asked(1, 1) + way_back(3, states, inputs, run.cycles, 1, stored, "candidates")
-    judged(it, ["run", "busy.v", "busy.c", "busy.t", "busy.e", "--candidates", "1", "--steps", "1"], 0, wanted, length_note(1))
+    judged(it, ["run", "busy.v", "busy.c", "busy.t", "busy.e", "--candidates", "1", "--steps", "1"], 0, wanted, length_note(1, 1))
 
 
 def many_runs(it):
@@ -899,7 +927,7 @@ def many_runs(it):
 
 
 def proposals(it):
-    """A proposed signature over more states than are taken, and more than are compared."""
+    """A proposed signature at moments of runs of 120,000 cycles."""
     draws = random.Random(7)
     runs = [Busy(draws, great(40_000, 40)) for _ in range(3)]
     it.write("busy.v", BUSY)
@@ -908,8 +936,12 @@ def proposals(it):
     states = [list(run.states(0, run.cycles)) for run in runs]
     lost = [20 + STAGES * k + STAGES - 1 for k in range(3)]
     # what a state has lost are the last bits of the shift registers: all others of the one before follow from it
-    predecessors = lambda run, cycle, flops: 2 ** (3 - len({*flops} & {*lost}))
+    predecessors = lambda run, cycle, items: 2 ** (3 - models.rank(items, lost))
     it.tried("backspace_inspect", ["signature", "busy.v", "small.t", "--bits", "4"], 0, models.signature_text(chip, states, 4, predecessors))
+    inverse, shifted = states[2][-7].translate(str.maketrans("01", "10")), states[1][-11][1:] + "1"
+    for state in (states[1][len(states[1]) // 3], inverse, shifted, "".join(draws.choice("01") for _ in chip.flop_keys())):
+        it.write("near.d", f"state {state}\n")
+        it.tried("backspace_inspect", ["near", "busy.v", "small.t", "near.d"], 0, models.near_text(chip, states, state))
 
 
 def wide_chip(it):
@@ -1072,6 +1104,17 @@ def foreign(number, word):
     return f"word {number}, `{word}`, is no option of this command"
 
 
+# by hand, of the cycles 77 to 84 of run 1 and the dump
+RECORDED = "#0\nb00000000000000000000000000000001 !!\nb00000000000000000000000001001101 \"!\n#1\nb00000000000000000000000001001110 \"!\n#2\nb00000000000000000000000001001111 \"!\n#3\nb00000000000000000000000001010000 \"!\n#4\nb00000000000000000000000001010001 \"!\n#5\nb00000000000000000000000001010010 \"!\n#6\nb00000000000000000000000001010011 \"!\n#7\nb00000000000000000000000001010100 \"!\n#8\nbx !!\nbx \"!\n"
+
+# by hand, of the candidates 000, 010 and 011
+S27_LISTS = """step 1 candidates 3 differ 2 list finished lemmas 2 hit 1 0
+1 same G5 = 0
+1 differ G6 = ? in 0 1 1
+1 differ G7 = ? in 0 0 1
+"""
+
+
 # by hand: the lane's own flip-flop stands before those of its counter, whose nets are joined to those of the top
 # what forces bits in the trace of examples/yosys
 WHY_COUNT = """8 count[1:0] = 0x0, since 6, before 0x1 (dump)
@@ -1118,9 +1161,10 @@ def every_state(chip):
     behind = {state: {chip.step(state, given) for given in inputs} for state in states}
 
     def counter(runs):
-        def predecessors(run, cycle, flops):
+        def predecessors(run, cycle, items):
             present, before = runs[run - 1][cycle], runs[run - 1][cycle - 1]
-            return sum(present in behind[state] and all(state[flop] == before[flop] for flop in flops) for state in states)
+            signs = lambda state: [sum(state[flop] == "1" for flop in item) % 2 for item in items]
+            return sum(present in behind[state] and signs(state) == signs(before) for state in states)
 
         return predecessors
 
@@ -1170,6 +1214,7 @@ def companion(it):
         tell(["trace", "--all", net, report], 0, models.trace_text(chip, made, True))
         tell(["trace", net, report, "--csv"], 0, models.trace_table(chip, made))
         tell(["steps", report], 0, models.steps_text(made))
+        tell(["candidates", net, report], 0, models.lists_text(chip, made))
         tell(["steps", "--csv", report], 0, models.steps_table(made))
         tell(["wave", net, report], 0, models.view_text(chip, made))
         tell(["wave", net, report, "--all", "--from=77"], 0, models.view_text(chip, made, 77, True))
@@ -1185,7 +1230,13 @@ def companion(it):
     # nine and more words
     names = "count head tail take first second seen place tick phase".split()
     tell(["trace", net, report, "--only", *names], 0, models.trace_text(chip, made, only=only(*names)))
+    tell(["candidates", net, "--only", "count", "head", "line", "--", report], 0, models.lists_text(chip, made, only("count", "head")))
+    tell(["candidates", "ex/s27/netlist.v", "ex/s27/report.txt"], 0, S27_LISTS)
+    code, out, note = it.run("backspace_inspect", ["wave", net, report, "--only", "count"])
+    same("the recorded moments of the states", RECORDED, "".join(line for line in out.decode().splitlines(True) if line[0] == "#" or line.endswith(('!!\n', '"!\n'))))
     tell(["wave", net, report, "--from", "3", "--only", *names], 0, models.view_text(chip, made, 3, only=only(*names)))
+    tell(["gtkw", net, report, "t.vcd", "--from", "3", "--only", *names], 0, models.save_text(chip, made, "t.vcd", 3, only=only(*names)))
+    tell(["gtkw", net, report, "t.vcd"], 0, models.save_text(chip, made, "t.vcd"))
     row = lambda name, bits: "xor" + "".join(f" {name}[{bit}]" for bit in bits) + "\n"
     wanted = row("count", range(2)) + "xor head\n" + row("first", range(4, 8)) + row("place", [1]) + "xor tail\n"
     tell(["keys", net, "count", "head", "first[7:4]", "place[1]", "tail", "--", "count", "head", "first[7:4]", "place[1]", "tail"], 0, wanted * 2)
@@ -1194,8 +1245,23 @@ def companion(it):
     tell(["why", "--csv", net, report, "ready", "--at", "7", "--depth", "1"], 0, WHY_READY)
     # the trace of an answer
     answer_files(it)
-    places = "0 state reset\n0 flop q0 = 0\n0 flop q1 = 0\n0 input a = 1\n1 state passed\n1 flop q0 = 1\n1 input a = 1\n2 state asked\n2 flop q1 = 1\n"
+    places = "0 state reset\n0 flop q0 = 0\n0 flop q1 = 0\n0 input a = 1\n1 state passed\n1 flop q0 = 1\n2 state asked\n2 flop q1 = 1\n"
     tell(["trace", "chain.v", "chain.txt"], 0, places)
+    tell(["candidates", "chain.v", "chain.txt"], 0, "")
+    reset, passed, asked = ("".join(line for line in places.splitlines(True) if line[0] == at) for at in "012")
+    for given, wanted in (
+        ("--from 0 --to 65536 --last 65536", places), ("--last 3", places), ("--last=1", asked), ("--last 2", passed + asked), ("--to 0", reset),
+        ("--from 1 --to 1", passed), ("--from 2", asked), ("--from 3", ""), ("--from 2 --to 1", ""), ("--to 1 --last 2", passed), ("--to 0 --last 2", ""),
+    ):
+        tell(["trace", "chain.v", "chain.txt", *given.split()], 0, wanted)
+    tell(["trace", "chain.v", "chain.txt", "--last", "2", "--all"], 0, "1 state passed\n1 flop q0 = 1\n1 flop q1 = 0\n1 input a = 1\n2 state asked\n2 flop q0 = 1\n2 flop q1 = 1\n")
+    rows = ["state,from,run,cycle,q0,q1,a\n", "0,reset,,,0,0,1\n", "1,passed,,,1,0,1\n", "2,asked,,,1,1,\n"]
+    tell(["trace", "chain.v", "chain.txt", "--csv"], 0, "".join(rows))
+    tell(["trace", "--csv", "--last", "2", "chain.v", "chain.txt"], 0, rows[0] + rows[2] + rows[3])
+    tell(["trace", "chain.v", "chain.txt", "--csv", "--to", "0"], 0, rows[0] + rows[1])
+    shown = models.window_of(made, 2, 7, 4)
+    tell(["trace", net, report, "--from", "2", "--to", "6", "--last", "4"], 0, models.trace_text(chip, made, window=shown))
+    tell(["trace", net, report, "--from", "2", "--to", "6", "--last", "4", "--csv"], 0, models.trace_table(chip, made, shown))
     stored = text["ex/yosys/stimulus.txt"]
     tell(["stimulus", net, vcd, *SIMULATED], 0, stored)
     tell(["stimulus", net, *[vcd] * 256, *SIMULATED], 0, stored * 256)
@@ -1252,6 +1318,9 @@ def beside(it, tell, text):
     tell(["check", "named.v", stimulus, vcd, *scope], 0, "run 1 agree 0..89 flops 35 unknown 0\nmissing c0unt[1:0]\n")
     it.write("named.txt", "c0unt[0] count[0]\nc0unt[1] count[1]\n")
     tell(["check", "named.v", stimulus, vcd, *scope, "--map", "named.txt"], 0, "run 1 agree 0..89 flops 37 unknown 0\n")
+    # with the spelling of a netlist whose modules stay
+    it.write("spelled.txt", "\\c0unt[0] count[0]\n[1]\\c0unt \\count[1]\n")
+    tell(["check", "named.v", stimulus, vcd, *scope, "--map", "spelled.txt"], 0, "run 1 agree 0..89 flops 37 unknown 0\n")
     # several runs, and not as many VCDs
     it.write("twice.txt", text[stimulus] * 2)
     wanted = models.check_text(chip, runs * 2, [text[vcd], "".join(open(f"{it.room}/late.vcd"))], "ck", "tb.dut")
@@ -1264,7 +1333,7 @@ def answers(it, tell):
     """What is refused of answers of `reach` that show an execution."""
     answer_files(it)
     none = said("keeper.txt: the answer has no execution: the state was not reached, or the search ended undecided")
-    for given in (["trace"], ["trace", "--csv"], ["wave"], ["page"]):
+    for given in (["trace"], ["trace", "--csv"], ["candidates"], ["wave"], ["page"]):
         tell([*given, "keeper.v", "keeper.txt"], 10, "refused report NoTrace\n", none)
     tell(["why", "keeper.v", "keeper.txt", "q"], 10, "refused report NoTrace\n", none)
     cut = CHAIN_ANSWER.replace("log 6", "log x")
@@ -1298,6 +1367,13 @@ def companion_refusals(it):
         (["why", "--at", "3", net, report], counted(2)),
         (["trace", net, report, "--clock", "ck"], foreign(4, "--clock")),
         (["check", "--bits=3", net, "t", vcd], foreign(2, "--bits=3")),
+        (["near", net, "t"], counted(2)),
+        (["wave", net, report, "--last", "3"], foreign(4, "--last")),
+        (["candidates", report], counted(1)),
+        (["candidates", net, report, "--csv"], foreign(4, "--csv")),
+        (["trace", net, report, "--last", "0"], "word 4, `--last`, wants a number in digits from 1 to 65536"),
+        (["trace", "--to=65537", net, report], "word 2, `--to=65537`, wants a number in digits from 0 to 65536"),
+        (["trace", net, report, "--from", "1", "--from", "2"], STAND),
         (["novel", net, "t", "300"], "RUN, `300`, wants a number in digits from 1 to 256"),
         (["novel", "--most", "5", net, "t", "01"], "RUN, `01`, wants a number in digits from 1 to 256"),
         (["stimulus", net, *[vcd] * 257, "--clock", "ck"], STAND),
@@ -1392,7 +1468,9 @@ def companion_refusals(it):
     same("a scan pattern of another width", "9 refused state Width 3\n", f"{code} {out.decode()}")
     it.write("order.txt", "".join(key + "\n" for key in chip.flop_keys()[:-1]))
     code, out, note = it.run("backspace_inspect", ["unscan", net, "order.txt", "0" * len(chip.flops)])
-    same("an order that lacks a flip-flop", f"17 refused map Missing {len(chip.flops) - 1}\n", f"{code} {out.decode()}")
+    same("more bits than an order has lines", f"9 refused state Width {len(chip.flops)}\n", f"{code} {out.decode()}")
+    code, out, note = it.run("backspace_inspect", ["unscan", net, "order.txt", "0" * (len(chip.flops) - 1)])
+    same("an order that lacks a flip-flop", f"0 state {'0' * (len(chip.flops) - 1)}-\n", f"{code} {out.decode()}")
 
 
 # ---- clauses for other checkers, against texts by hand
@@ -2013,18 +2091,27 @@ def told(it):
     tell = lambda words, code, out, note="": it.tried("backspace_inspect", words, code, out, note)
     for text, why, at, *saying in (
         ("q0\nq 1\n", "Line 2", 3, "a line is one name, of visible characters alone", "the key of a flip-flop, or its name as RTL writes it"),
-        ("q0\nq2\n", "Unknown 2", 3, "no flip-flop has this name", "`flops` tells the keys"),
+        ("q0\nq2\n", "Unknown 2", 3, "no flip-flop has the key `q2`; the nearest: `q0` `q1`", "`flops` tells the keys"),
         ("q0\nq0\n", "Twice 2", 3, "the flip-flop of this line has a line already", "take one of them out"),
     ):
         it.write("o.txt", text)
         tell(["unscan", "n.v", "o.txt", "01"], 17, f"refused map {why}\n", at_place("o.txt", text, at, *saying))
+    # an order that lacks a flip-flop, and one without a line
     it.write("o.txt", "q1\n")
-    tell(["unscan", "n.v", "o.txt", "01"], 17, "refused map Missing 0\n", said("o.txt: no line names flip-flop 0 of the netlist", "`flops` tells its number and its key"))
+    tell(["unscan", "n.v", "o.txt", "1"], 0, "state -1\n")
+    tell(["unscan", "n.v", "o.txt", "01"], 9, "refused state Width 2\n", said("there are 2 bits, and the lines of the order are 1"))
+    it.write("o.txt", "")
+    tell(["unscan", "n.v", "o.txt", "."], 0, "state --\n")
     it.write("o.txt", "q1\nq0\n")
     tell(["unscan", "n.v", "o.txt", "01"], 0, "state 10\n")
     bits = said("the bits of a pattern are characters 0 and 1 alone, the first one for the first line of the order")
     tell(["unscan", "n.v", "o.txt", "0x"], 9, "refused state Bits\n", bits)
-    tell(["unscan", "n.v", "o.txt", "010"], 9, "refused state Width 3\n", said("there are 3 bits, and the netlist's flip-flops are 2"))
+    tell(["unscan", "n.v", "o.txt", "010"], 9, "refused state Width 3\n", said("there are 3 bits, and the lines of the order are 2"))
+    # the bits of a file, with white space between them
+    it.write("b.txt", "0\r\n 1\n")
+    tell(["unscan", "n.v", "o.txt", "@b.txt"], 0, "state 10\n")
+    it.write("b.txt", "0x\n")
+    tell(["unscan", "n.v", "o.txt", "@b.txt"], 9, "refused state Bits\n", bits)
     # the first input of the trace has a bit too many
     it.write("rx.txt", report.replace("state 00\ninput 1\n", "state 00\ninput 11\n"))
     other = said("rx.txt: input 0 of the trace has not one bit for each data input of the netlist", "is it the report of this very netlist?")
@@ -2036,7 +2123,10 @@ def told(it):
     tell(["dump", "n.v", "u.vcd", "--cycle", "1"], 0, "state 00\n")
     tell(["dump", "n.v", "u.vcd", "--cycle", "0"], 16, "refused vcd Unknown q0 5\n", said(
         "u.vcd: the flip-flop `q0` is neither 0 nor 1 before the rising edge at time 5",
-        "take a later cycle, or begin with an initial value; of the last cycle the time is that of the last change; `backspace dump` has the state of a recorded run"))
+        "take a later cycle, or begin with an initial value; of the last cycle the time is that of the last change; `backspace dump .. RUN CYCLE` has the state of a recorded run, and `--partial` writes `-` for what is not known"))
+    # q0 is not known before the first edge
+    tell(["dump", "n.v", "u.vcd", "--cycle", "0", "--partial"], 0, "state -0\n")
+    tell(["dump", "n.v", "u.vcd", "--cycle", "1", "--partial"], 0, "state 00\n")
     tell(["stimulus", "n.v", "u.vcd", "--clock", "ck"], 0, "run u 2\n1\n1\nend\n")
     for bad in ("?\n", "#3\n"):
         text = CHANGES.replace("#10\n", "#10\n" + bad)
@@ -2050,6 +2140,7 @@ def told(it):
         "u.vcd: no variable in the clock's scope is the flip-flop `q1`, by the name `q1`; the nearest: `q0`",
         "the design's scope stands behind --scope; where names are others, a file of lines KEY NAME behind --map; a memory's word is dumped where `$dumpvars` names it"))
     novelties(it, tell)
+    neighbours(it, tell)
     instances(it, tell)
     two_signatures(it, tell)
 
@@ -2066,7 +2157,45 @@ def novelties(it, tell):
     tell(["novel", "n.v", "t.txt", "1"], 0, "no other run\n")
     tell(["novel", "n.v", "two.t", "3"], 9, "refused dump Range\n", said(
         "there is no such moment: the stimulus has so many runs: 2", "RUN counts from 1 in the order of the file, and CYCLE from 0 up to the number of cycles"))
-    # an enable and a clear, and each kind of gate
+    kept(it, tell)
+
+
+def neighbours(it, tell):
+    """What the state of a dump is near to, and each hint."""
+    it.write("near.d", "state 01\n")
+    tell(["near", "n.v", "t.txt", "near.d"], 0, "run 1 cycle 0 differ 1 of 2\nq1 run 0 dump 1\nhint cell\nhint inverted run 1 cycle 1\nhint shifted run 1 cycle 1\n")
+    tell(["near", "n.v", "t.txt", "d.txt"], 0, "run 1 cycle 2 differ 0 of 2\n")
+    # a reset that is held; what stands behind the first line is not read
+    it.write("held.t", "run h 2\n0\n0\nend\n")
+    it.write("near.d", "state 11\nwhatever")
+    tell(["near", "n.v", "held.t", "near.d"], 0, "run 1 cycle 0 differ 2 of 2\nq0 run 0 dump 1\nq1 run 0 dump 1\nhint held\nhint inverted run 1 cycle 0\nhint order\n")
+    # the lower run, though another one is there earlier
+    it.write("late.t", "run a 3\n0\n0\n1\nend\nrun b 3\n1\n0\n0\nend\n")
+    it.write("near.d", "state 10\n")
+    tell(["near", "n.v", "late.t", "near.d"], 0, "run 1 cycle 3 differ 0 of 2\n")
+    # to the end with 0 before it
+    it.write("four.v", shift_register(4))
+    it.write("four.t", "run a 4\n1\n1\n0\n0\nend\n")
+    it.write("near.d", "state 0111\n")
+    tell(["near", "four.v", "four.t", "near.d"], 0, "run 1 cycle 3 differ 1 of 4\nq3 run 0 dump 1\nhint cell\nhint inverted run 1 cycle 1\nhint shifted run 1 cycle 4\n")
+    # eight flip-flops have a line
+    it.write("ten.v", shift_register(10))
+    it.write("ten.t", "run a 1\n1\nend\n")
+    it.write("near.d", f"state {'1' * 10}\n")
+    told = "".join(f"q{at} run 0 dump 1\n" for at in range(1, 9))
+    tell(["near", "ten.v", "ten.t", "near.d"], 0, f"run 1 cycle 1 differ 9 of 10\n{told}and 1 more\nhint inverted run 1 cycle 0\nhint order\n")
+    # what is no state of this netlist
+    width = ("3 bits stand here, and 2 are due: one for each flip-flop of the netlist", "is the dump of this netlist, with this signature?")
+    first = ("the first line of a dump is `state BITS`", "a bit for each flip-flop, in the order of the netlist")
+    for text, why, saying in (("state 011\nsig 1\nend\n", "Width 1", width), ("11\n", "Line 1", first)):
+        it.write("near.d", text)
+        tell(["near", "n.v", "t.txt", "near.d"], 9, f"refused dump {why}\n", at_place("near.d", text, 0, *saying))
+    for given, kind in ((["gone", "gone", "gone"], "netlist"), (["n.v", "gone", "gone"], "stimulus"), (["n.v", "t.txt", "gone"], "dump")):
+        tell(["near", *given], 12, f"refused {kind} ReadFault\n", said("gone: No such file or directory (os error 2)"))
+
+
+def kept(it, tell):
+    """What is told of an enable and a clear, and of each kind of gate."""
     it.write("kept.v", LISTS["kept"][0][0])
     it.write("kept.r", lines_of(LISTS["kept"][0][4]))
     kinds = "".join(f"{kind} (g{at}, a, q1);" for at, kind in enumerate(models.KINDS[:6])) + "buf (g6, a);not (g7, q0);dffs f2(ck,q2,g1);"
@@ -2081,6 +2210,7 @@ def novelties(it, tell):
     tell(["trace", "kept.v", "kept.r"], 0, models.trace_text(chip, made))
     tell(["wave", "kept.v", "kept.r"], 0, models.view_text(chip, made))
     tell(["steps", "kept.r"], 0, models.steps_text(made))
+    tell(["candidates", "kept.v", "kept.r"], 0, models.lists_text(chip, made))
 
 
 def instances(it, tell):
@@ -2111,6 +2241,10 @@ module top(ck, a); input ck, a; wire [1:0] v; two u(ck, a); dff h(ck, v[1], a); 
     tell(["wave", "d.v", "d.txt"], 0, """$timescale 1ns $end
 $comment 0 state reset $end
 $comment 1 state asked $end
+$scope module recorded $end
+$var integer 32 !! run [31:0] $end
+$var integer 32 "! cycle [31:0] $end
+$upscope $end
 $scope module trace $end
 $scope module u $end
 $var wire 2 ! q [1:0] $end
@@ -2125,6 +2259,8 @@ b00 !
 1"
 0#
 b00 $
+bx !!
+bx "!
 #1
 b01 !
 x"
@@ -2293,7 +2429,9 @@ def counts(it):
         it.write("x.v", NETLIST.replace("  dff f0", f"  wire [{nets - 5}:0] v;\n  dff f0"))
         it.write("x.txt", asked(1) + "stop length\ntrace 65535\nstate 00\n" + "input 0\nstate 00\n" * 65_535 + "log 0\nend\n")
         drawn = ["$timescale 1ns $end", *(f"$comment {at} state none $end" for at in range(65_535)), "$comment 65535 state dump $end"]
-        drawn += ["$scope module trace $end", "$var wire 1 ! q1 $end", "$upscope $end", "$enddefinitions $end", "#0", "0!", *(f"#{at}" for at in range(1, 65_536))]
+        drawn += ["$scope module recorded $end", "$var integer 32 !! run [31:0] $end", '$var integer 32 "! cycle [31:0] $end', "$upscope $end"]
+        drawn += ["$scope module trace $end", "$var wire 1 ! q1 $end", "$upscope $end", "$enddefinitions $end"]
+        drawn += ["#0", "0!", "bx !!", 'bx "!', *(f"#{at}" for at in range(1, 65_536))]
         large = said("x.txt: the waveform of this trace has too many values, one for each net at each state: draw a shorter trace")
         answer = (0, "\n".join(drawn) + "\n", "") if nets == 1_024 else (10, "refused report TooLarge\n", large)
         it.tried("backspace_inspect", ["wave", "x.v", "x.txt", "--only", "q1"], *answer)
@@ -2327,7 +2465,7 @@ def searches(it):
                 "ask for more with --candidates K, up to 65536, or --conflicts B, up to 2^40, or choose a signature that tells more states apart",
                 "the dump's state itself was never recorded, nor that state read backwards; this alone is no fault: a crash need not be in a run")
             same("a search that would ask about 1,001: note", cut_search, note)
-    # ten bits are lost at each cycle: of one bit as signature 512 predecessors, of two 256
+    # ten bits are lost at each cycle: with one item as signature 512 predecessors, with two 256
     lost = great(10, 3)
     text = f"module lost(ck, x);\n  input ck;\n  input [{lost - 1}:0] x;\n  wire [{lost - 1}:0] q;\n" + "".join(f"  dff (ck, q[{i}], x[{i}]);\n" for i in range(lost)) + "endmodule\n"
     it.write("lost.v", text)
@@ -2337,8 +2475,26 @@ def searches(it):
     chip = models.Netlist(text)
     states = [models.states_of(chip, inputs)]
     for bits in (1, 2, 3):
-        predecessors = lambda run, cycle, flops: 2 ** (lost - len(flops))
+        predecessors = lambda run, cycle, items: 2 ** (lost - models.rank(items, range(lost)))
         it.tried("backspace_inspect", ["signature", "lost.v", "lost.t", "--bits", str(bits)], 0, models.signature_text(chip, states, bits, predecessors))
+    # thirty bits of sixty are lost at each cycle: 16 and 24 items are too few
+    many = 30
+    text = f"module pair(ck, x);\n  input ck;\n  input [{many - 1}:0] x;\n  wire [{many - 1}:0] q, r;\n"
+    text += "".join(f"  dff (ck, q[{i}], x[{i}]);\n" for i in range(many)) + "".join(f"  dff (ck, r[{i}], q[{i}]);\n" for i in range(many)) + "endmodule\n"
+    it.write("pair.v", text)
+    inputs = [f"{draws.randrange(1 << many):0{many}b}" for _ in range(5)]
+    it.write("pair.t", f"run pair {len(inputs)}\n" + "\n".join(inputs) + "\nend\n")
+    chip = models.Netlist(text)
+    predecessors = lambda run, cycle, items: 2 ** (many - models.rank(items, range(many, 2 * many)))
+    it.tried("backspace_inspect", ["signature", "pair.v", "pair.t", "--bits", "16"], 0, models.signature_text(chip, [models.states_of(chip, inputs)], 16, predecessors))
+    # more bits are lost than a signature has items: no number of items is enough
+    text = "module far(ck, x);\n  input ck;\n  input [299:0] x;\n  wire [299:0] q;\n" + "".join(f"  dff (ck, q[{i}], x[{i}]);\n" for i in range(300)) + "endmodule\n"
+    it.write("far.v", text)
+    inputs = [f"{draws.randrange(1 << 300):0300b}" for _ in range(2)]
+    it.write("far.t", f"run far {len(inputs)}\n" + "\n".join(inputs) + "\nend\n")
+    chip = models.Netlist(text)
+    predecessors = lambda run, cycle, items: 2 ** (300 - models.rank(items, range(300)))
+    it.tried("backspace_inspect", ["signature", "far.v", "far.t", "--bits", "1"], 0, models.signature_text(chip, [models.states_of(chip, inputs)], 1, predecessors))
 
 
 GROUPS = [examples, words, codes, refusals, files, names, outputs, long_netlist, long_report, many_runs, proposals, wide_chip, far_states, value_changes, companion, companion_refusals, evidence, executions, evidence_refusals, pages, stops, designs, told, memory, limits, counts, searches]

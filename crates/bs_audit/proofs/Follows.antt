@@ -7,7 +7,7 @@ use Rattle.std.specs.List.{range_with_len, AllByRecursion as Each}
 use Rattle.std.proofs.lemmas.List.Elements.{All-from_recursion, recursion_from_All}
 use Rattle.std.proofs.Math.Nat.{eq-or-lt_of_le}
 use Rattle.std.proofs.lemmas.Bool.{false≢true, eqb-true}
-use Rattle.std.proofs.lemmas.List.{length-map, drop_more}
+use Rattle.std.proofs.lemmas.List.{length-map, drop_more, get_or_default}
 use Rattle.bs_bits.specs.Bits.{bits_eq}
 use Rattle.bs_chip.specs.declared.replay.Hit.{Hit}
 use Rattle.bs_scan.specs.declared.dump.Dump.{Dump}
@@ -22,7 +22,7 @@ use Rattle.bs_report_good.specs.declared.part.Part.TheVariants as parts
 use Rattle.bs_scan.specs.Crash.{Crash}
 use Rattle.bs_report_good.specs.Step.{listed, hit_of}
 use Rattle.bs_report_good.specs.Chain.{present_of_hit, present_after, last_present}
-use Rattle.bs_report_good.specs.Valid.{unless, is_right_cand, is_right_count, same_hit, first_of_all}
+use Rattle.bs_report_good.specs.Valid.{unless, no_cand, is_right_cand, is_right_count, same_hit, first_of_all}
 use Rattle.bs_report_good.proofs.ValidLemmas.{both, cand_is, state_at_place}
 use Rattle.bs_audit.specs.declared.steps.Walk.{Walk}
 use Rattle.bs_audit.specs.declared.steps.Walk.TheVariants.{Fails, Holds}
@@ -70,6 +70,13 @@ right_widths crash budgets i step e j d lt =
     let long : length (listed step.cands) ≡ length step.cands = length-map step.cands (λ (c : Cand). c.state) in
     let right = cand_is crash budgets step j (cand_holds crash budgets i step 0 (length step.cands) e j (omega arith) (omega (arith, lt, long))) in
     ap length (state_at_place step.cands j d lt) ∙ right.state
+
+-- and all inputs have theirs
+pub right_inputs : (crash : Crash) (budgets : Budgets) (i : ℕ) (step : Step) → first_of_all (cand_parts crash budgets i step 0 (length step.cands)) ≡ None →
+    All (λ cand. length cand.input ≡ length crash.circuit.inputs) step.cands
+right_inputs crash budgets i step e j d lt =
+    let right = cand_is crash budgets step j (cand_holds crash budgets i step 0 (length step.cands) e j (omega arith) (omega (arith, lt))) in
+    subst (λ (cand : Cand). length cand.input ≡ length crash.circuit.inputs) (get_or_default step.cands j no_cand d lt) right.input
 
 each_width : (n : ℕ) (cands : List Cand) → Each (λ s. length s ≡ n) (listed cands) → Each (λ cand. length cand.state ≡ n) cands
 each_width n [] h = tt

@@ -10,6 +10,8 @@ use Rattle.std.proofs.lemmas.List.Elements.{All-from_recursion, All-weaker, recu
 use Rattle.bs_clause.specs.Literal.{Clause}
 use Rattle.bs_log.specs.FirstRefused.{first_refused}
 use Rattle.bs_log.specs.Shown.{Basis}
+use Rattle.bs_seen.specs.declared.seen.Seen.{Seen}
+use Rattle.bs_seen.proofs.SeenLemmas.{seen_is}
 use Rattle.bs_net.specs.Circuit.{Circuit}
 use Rattle.bs_scan.specs.Choice.{Chosen, depth_of, IsDepth}
 use Rattle.bs_scan.specs.Moments.{Moment, Run, run_of, state_of, state_at, first_moment}
@@ -17,7 +19,7 @@ use Rattle.bs_scan.specs.Dump.{signatures_of}
 use Rattle.bs_scan.specs.declared.dump.Dump.{Dump}
 use Rattle.bs_scan.specs.Present.{Present, present_in}
 use Rattle.bs_scan.specs.Signature.{signatures_before, parity_of}
-use Rattle.bs_scan.proofs.SignatureLemmas.{length_state, bits_same_is}
+use Rattle.bs_scan.proofs.SignatureLemmas.{length_state}
 use Rattle.bs_encode.specs.Tables.{lit}
 use Rattle.bs_encode.specs.Encoded.{Encoded}
 use Rattle.bs_encode.specs.Assuming.{assumptions_for, steps_from, AreWide}
@@ -35,9 +37,9 @@ use Rattle.bs_scan.specs.Crash.{Recording, IsRecording, Crash, crash_of, DumpFit
 use Rattle.bs_scan.proofs.CrashLemmas.{crash_is}
 use Rattle.bs_report_good.specs.Step.{stored_of, listed, hit_of}
 use Rattle.bs_report_good.specs.Chain.{present_of, present_of_hit, present_after, last_present}
-use Rattle.bs_report_good.specs.Valid.{unless, all_bits_eq, cause_after, is_cause, has_state, has_stored, same_hit, first_of_all, each_step, step_parts}
+use Rattle.bs_report_good.specs.Valid.{unless, cause_after, is_cause, is_right_trace, has_state, has_stored, same_hit, first_of_all, each_step, step_parts}
 use Rattle.bs_report_good.specs.Valid.{log_parts, due_at, first_failing}
-use Rattle.bs_report_good.specs.Trace.{trace_states, trace_inputs}
+use Rattle.bs_report_good.specs.Trace.{trace_end}
 use Rattle.bs_report_good.specs.ValidLaw.{IsEncoded}
 use Rattle.bs_report_good.proofs.GoodLemmas.{valid_is_good}
 use Rattle.bs_report_good.proofs.ValidLemmas.{all_same_is, ascend_is, both}
@@ -46,7 +48,8 @@ use Rattle.bs_audit.specs.declared.steps.Walk.{Walk}
 use Rattle.bs_audit.specs.declared.steps.Walk.TheVariants.{Fails, Holds}
 use Rattle.bs_audit.specs.Logged.{basis_with, refused_part, logged_parts, behind_parts, first_after, IsFit, Suits, AreFit, LeavesFit}
 use Rattle.bs_audit.specs.Finding.{basis_for, ValidReportsAreGood}
-use Rattle.bs_audit.proofs.Follows.{first_append, cand_holds, right_widths, hit_line_is}
+use Rattle.bs_audit.proofs.Follows.{first_append, cand_holds, lent_widths, right_inputs, right_widths, hit_line_is}
+use Rattle.bs_trace.specs.WideCands.{HasWideCands}
 
 -- ---- the parts of the steps are those from the present where each is due
 
@@ -76,43 +79,43 @@ pub format_fails : (crash : Crash) (basis : Basis) (r : Report) → (r.depth == 
 unfolding first_failing
 format_fails crash basis r e =
     let rest : List (Option Part) =
-    each_step (step_parts crash r) 0 r.steps ++ behind_parts (last_present crash (Some (present_in crash.dump)) r.steps) crash.dump.state basis r in
+    each_step (step_parts crash r) 0 r.steps ++ behind_parts (last_present crash (Some (present_in crash.dump)) r.steps) (trace_end crash r.steps) basis r in
     sym (ap (λ (b : Bool). first_of_all (unless b parts.Format ∷ rest)) e)
 
 -- the first part that fails of a report of the signature's depth: of the steps, or behind them
 whole : (crash : Crash) (basis : Basis) (r : Report) → (r.depth == depth_of crash.choice) ≡ true → first_failing crash basis r
     ≡ option_or (first_from crash r.budgets 0 (Some (present_in crash.dump)) r.steps)
-    (first_of_all (behind_parts (last_present crash (Some (present_in crash.dump)) r.steps) crash.dump.state basis r))
+    (first_of_all (behind_parts (last_present crash (Some (present_in crash.dump)) r.steps) (trace_end crash r.steps) basis r))
 unfolding first_failing
 whole crash basis r of =
     let rest : List (Option Part) =
-    each_step (step_parts crash r) 0 r.steps ++ behind_parts (last_present crash (Some (present_in crash.dump)) r.steps) crash.dump.state basis r in
+    each_step (step_parts crash r) 0 r.steps ++ behind_parts (last_present crash (Some (present_in crash.dump)) r.steps) (trace_end crash r.steps) basis r in
     ap (λ (b : Bool). first_of_all (unless b parts.Format ∷ rest)) of
     ∙ (first_append (each_step (step_parts crash r) 0 r.steps)
-    (behind_parts (last_present crash (Some (present_in crash.dump)) r.steps) crash.dump.state basis r)
-    ∙ ap (λ o. option_or o (first_of_all (behind_parts (last_present crash (Some (present_in crash.dump)) r.steps) crash.dump.state basis r)))
+    (behind_parts (last_present crash (Some (present_in crash.dump)) r.steps) (trace_end crash r.steps) basis r)
+    ∙ ap (λ o. option_or o (first_of_all (behind_parts (last_present crash (Some (present_in crash.dump)) r.steps) (trace_end crash r.steps) basis r)))
     (steps_follow crash r))
 
 pub fails_in_steps : (crash : Crash) (basis : Basis) (r : Report) (part : Part) → (r.depth == depth_of crash.choice) ≡ true →
     IsWalked crash r (Fails part) → Some part ≡ first_failing crash basis r
 fails_in_steps crash basis r part of walked =
     sym (whole crash basis r of
-    ∙ ap (λ o. option_or o (first_of_all (behind_parts (last_present crash (Some (present_in crash.dump)) r.steps) crash.dump.state basis r))) walked)
+    ∙ ap (λ o. option_or o (first_of_all (behind_parts (last_present crash (Some (present_in crash.dump)) r.steps) (trace_end crash r.steps) basis r))) walked)
 
 pub fails_behind : (crash : Crash) (basis : Basis) (r : Report) (due : Option Dump) (part : Option Part) → (r.depth == depth_of crash.choice) ≡ true →
     IsWalked crash r (Holds due) →
-    part ≡ first_of_all (behind_parts (option_map present_in due) crash.dump.state basis r) → part ≡ first_failing crash basis r
+    part ≡ first_of_all (behind_parts (option_map present_in due) (trace_end crash r.steps) basis r) → part ≡ first_failing crash basis r
 fails_behind crash basis r due part of walked e =
     e
     ∙ sym
     (whole crash basis r of
-    ∙ (ap (λ o. option_or o (first_of_all (behind_parts (last_present crash (Some (present_in crash.dump)) r.steps) crash.dump.state basis r))) walked.0
-    ∙ ap (λ o. first_of_all (behind_parts o crash.dump.state basis r)) walked.1))
+    ∙ (ap (λ o. option_or o (first_of_all (behind_parts (last_present crash (Some (present_in crash.dump)) r.steps) (trace_end crash r.steps) basis r))) walked.0
+    ∙ ap (λ o. first_of_all (behind_parts o (trace_end crash r.steps) basis r)) walked.1))
 
 -- ---- the steps have the widths
 
 pub record IsWide (crash : Crash) (now : Present) : Type 0 where
-  pub state : length now.state ≡ length crash.circuit.flops
+  pub state : length now.state.bits ≡ length crash.circuit.flops
   pub stored : Each (λ t. length t ≡ length crash.choice.items) now.stored
   pub few : length now.stored ≤ depth_of crash.choice
 
@@ -168,7 +171,7 @@ hit_wide crash (Some m) =
     }
 
 record Begins (crash : Crash) (step : Step) : Type 0 where
-  present : length step.present ≡ length crash.circuit.flops
+  present : length step.present.bits ≡ length crash.circuit.flops
   stored : length step.stored ≡ length crash.choice.items
   older : AreWide (length crash.choice.items) step.older
   alone : depth_of crash.choice ≡ 1 → step.older ≡ None
@@ -187,7 +190,7 @@ begins crash (Some due) step wide e f =
     subst (Each (λ (t : List Bool). length t ≡ length crash.choice.items)) (sym same) wide.stored in
     let few : length (stored_of step) ≤ depth_of crash.choice = subst (λ (ts : List (List Bool)). length ts ≤ depth_of crash.choice) (sym same) wide.few in
     record {
-      present = ap length (bits_same_is step.present due.state e) ∙ wide.state;
+      present = ap (λ (p : Seen). length p.bits) (seen_is step.present due.state e) ∙ wide.state;
       stored = each.0;
       older = All-from_recursion (λ (t : List Bool). length t ≡ length crash.choice.items) (option_to_list step.older) each.1;
       alone = λ one. no_older step.stored step.older (omega (arith, one, few));
@@ -195,7 +198,7 @@ begins crash (Some due) step wide e f =
 
 fit_from : (crash : Crash) (budgets : Budgets) (i : ℕ) (due : Option Present) (steps : List Step) → IfSome due (IsWide crash) →
     first_from crash budgets i due steps ≡ None →
-    Each (IsFit (length crash.circuit.flops) (length crash.choice.items) (depth_of crash.choice)) steps
+    Each (IsFit crash.circuit (length crash.choice.items) (depth_of crash.choice)) steps
 fit_from crash budgets i due [] wide e = tt
 fit_from crash budgets i due (step ∷ steps) wide e =
     let all = none_both (parts_from crash budgets i due step) (following_parts crash budgets (i + 1) (present_after crash step) steps) e in
@@ -216,15 +219,19 @@ fit_from crash budgets i due (step ∷ steps) wide e =
         older = begin.older;
         alone = begin.alone;
         ascend = ascend_is crash budgets step (λ j lt. cand_holds crash budgets i step 0 (length step.cands) lists.0 j (omega arith) (omega (arith, lt)));
+        cands = record {
+          states = lent_widths (length crash.circuit.flops) step.cands (right_widths crash budgets i step lists.0);
+          inputs = right_inputs crash budgets i step lists.0;
+        };
         widths = right_widths crash budgets i step lists.0;
       },
       fit_from crash budgets (i + 1) (present_after crash step) steps after all.1,
     )
 
 pub steps_are_fit : (crash : Crash) (r : Report) (due : Option Dump) → DumpFits crash.circuit crash.choice crash.dump →
-    IsWalked crash r (Holds due) → All (IsFit (length crash.circuit.flops) (length crash.choice.items) (depth_of crash.choice)) r.steps
+    IsWalked crash r (Holds due) → All (IsFit crash.circuit (length crash.choice.items) (depth_of crash.choice)) r.steps
 steps_are_fit crash r due fits walked =
-    All-from_recursion (IsFit (length crash.circuit.flops) (length crash.choice.items) (depth_of crash.choice)) r.steps
+    All-from_recursion (IsFit crash.circuit (length crash.choice.items) (depth_of crash.choice)) r.steps
     (fit_from crash r.budgets 0 (Some (present_in crash.dump)) r.steps
     (record {
       state = fits.state;
@@ -272,9 +279,9 @@ older_suits c choice e older (inl one) tidy alone wide =
 older_suits c choice e older (inr two) tidy alone wide = subst (λ (n : ℕ). AreWide n older) (sym (tidy.older_signatures_width two)) wide
 
 pub tidy_fit : (c : Circuit) (choice : Chosen) (e : Encoded) (steps : List Step) → IsDepth (depth_of choice) → IsTidy c choice e →
-    All (IsFit (length c.flops) (length choice.items) (depth_of choice)) steps → AreFit e steps
+    All (IsFit c (length choice.items) (depth_of choice)) steps → AreFit e steps
 tidy_fit c choice e steps kept tidy sound =
-    All-weaker (IsFit (length c.flops) (length choice.items) (depth_of choice)) (Suits e)
+    All-weaker (IsFit c (length choice.items) (depth_of choice)) (Suits e)
     (λ step fit.
     record {
       present = fit.present ∙ sym tidy.states_width;
@@ -301,44 +308,44 @@ log_of basis other r (Err error) same h = tt
 
 -- ---- behind the steps
 
-pub stop_fails : (due : Option Present) (dumped : List Bool) (basis : Basis) (r : Report) (right : Bool) →
+pub stop_fails : (due : Option Present) (last : Seen) (basis : Basis) (r : Report) (right : Bool) →
     right ≡ (nat_le (length r.steps) r.budgets.steps && is_cause r.stop (cause_after r.budgets r.steps due)) →
-    right ≡ false → Some parts.Stop ≡ first_of_all (behind_parts due dumped basis r)
-stop_fails due dumped basis r right e f =
+    right ≡ false → Some parts.Stop ≡ first_of_all (behind_parts due last basis r)
+stop_fails due last basis r right e f =
     sym
     (ap (λ (b : Bool).
     option_or (unless b parts.Stop)
     (first_of_all
-    (unless (all_bits_eq r.states (trace_states dumped r.steps) && all_bits_eq r.inputs (trace_inputs r.steps)) parts.Trace ∷ logged_parts basis r)))
+    (unless (is_right_trace last r) parts.Trace ∷ logged_parts basis r)))
     (sym e ∙ f))
 
-pub trace_fails : (due : Option Present) (dumped : List Bool) (basis : Basis) (r : Report) (stop right : Bool) →
+pub trace_fails : (due : Option Present) (last : Seen) (basis : Basis) (r : Report) (stop right : Bool) →
     stop ≡ (nat_le (length r.steps) r.budgets.steps && is_cause r.stop (cause_after r.budgets r.steps due)) →
-    stop ≡ true → right ≡ (all_bits_eq r.states (trace_states dumped r.steps) && all_bits_eq r.inputs (trace_inputs r.steps)) → right ≡ false →
-    Some parts.Trace ≡ first_of_all (behind_parts due dumped basis r)
-trace_fails due dumped basis r stop right s t e f =
+    stop ≡ true → right ≡ is_right_trace last r → right ≡ false →
+    Some parts.Trace ≡ first_of_all (behind_parts due last basis r)
+trace_fails due last basis r stop right s t e f =
     sym
     (ap (λ (b : Bool).
     option_or (unless b parts.Stop)
     (first_of_all
-    (unless (all_bits_eq r.states (trace_states dumped r.steps) && all_bits_eq r.inputs (trace_inputs r.steps)) parts.Trace ∷ logged_parts basis r)))
+    (unless (is_right_trace last r) parts.Trace ∷ logged_parts basis r)))
     (sym s ∙ t)
     ∙ ap (λ (b : Bool). option_or (unless b parts.Trace) (first_of_all (logged_parts basis r))) (sym e ∙ f))
 
-pub behind_log : {E : Type 0} (due : Option Present) (dumped : List Bool) (basis : Basis) (r : Report) (stop right : Bool) (result : Result (Option Part) E) →
+pub behind_log : {E : Type 0} (due : Option Present) (last : Seen) (basis : Basis) (r : Report) (stop right : Bool) (result : Result (Option Part) E) →
     stop ≡ (nat_le (length r.steps) r.budgets.steps && is_cause r.stop (cause_after r.budgets r.steps due)) →
-    stop ≡ true → right ≡ (all_bits_eq r.states (trace_states dumped r.steps) && all_bits_eq r.inputs (trace_inputs r.steps)) → right ≡ true →
-    IfOk result (λ part. part ≡ first_of_all (logged_parts basis r)) → IfOk result (λ part. part ≡ first_of_all (behind_parts due dumped basis r))
-behind_log due dumped basis r stop right (Ok part) s t e f h =
+    stop ≡ true → right ≡ is_right_trace last r → right ≡ true →
+    IfOk result (λ part. part ≡ first_of_all (logged_parts basis r)) → IfOk result (λ part. part ≡ first_of_all (behind_parts due last basis r))
+behind_log due last basis r stop right (Ok part) s t e f h =
     h
     ∙ sym
     (ap (λ (b : Bool).
     option_or (unless b parts.Stop)
     (first_of_all
-    (unless (all_bits_eq r.states (trace_states dumped r.steps) && all_bits_eq r.inputs (trace_inputs r.steps)) parts.Trace ∷ logged_parts basis r)))
+    (unless (is_right_trace last r) parts.Trace ∷ logged_parts basis r)))
     (sym s ∙ t)
     ∙ ap (λ (b : Bool). option_or (unless b parts.Trace) (first_of_all (logged_parts basis r))) (sym e ∙ f))
-behind_log due dumped basis r stop right (Err error) s t e f h = tt
+behind_log due last basis r stop right (Err error) s t e f h = tt
 
 pub few_steps : (due : Option Present) (r : Report) (stop : Bool) →
     stop ≡ (nat_le (length r.steps) r.budgets.steps && is_cause r.stop (cause_after r.budgets r.steps due)) → stop ≡ true →
@@ -349,19 +356,23 @@ few_steps due r stop s t few =
     (both (nat_le (length r.steps) r.budgets.steps) (is_cause r.stop (cause_after r.budgets r.steps due)) (sym s ∙ t)).0 in
     omega (arith, within, few)
 
+-- so all have wide candidates
+pub fit_cands : (c : Circuit) (items depth : ℕ) (steps : List Step) → All (IsFit c items depth) steps → All (HasWideCands c) steps
+fit_cands c items depth steps fit = All-weaker (IsFit c items depth) (HasWideCands c) (λ step is. is.cands) steps fit
+
 pub leaves_fit : (crash : Crash) (r : Report) (walk : Walk) → DumpFits crash.circuit crash.choice crash.dump →
-    IsWalked crash r walk → LeavesFit (length crash.circuit.flops) (length crash.choice.items) (depth_of crash.choice) r.steps walk
+    IsWalked crash r walk → LeavesFit crash.circuit (length crash.choice.items) (depth_of crash.choice) r.steps walk
 leaves_fit crash r (Fails part) fits walked = tt
 leaves_fit crash r (Holds due) fits walked = steps_are_fit crash r due fits walked
 
 pub part_is : (crash : Crash) (basis : Basis) (r : Report) (walk : Walk) → (r.depth == depth_of crash.choice) ≡ true → IsWalked crash r walk →
-    first_after walk crash.dump.state basis r ≡ first_failing crash basis r
+    first_after walk (trace_end crash r.steps) basis r ≡ first_failing crash basis r
 part_is crash basis r (Fails part) of walked = fails_in_steps crash basis r part of walked
 part_is crash basis r (Holds due) of walked =
-    fails_behind crash basis r due (first_of_all (behind_parts (option_map present_in due) crash.dump.state basis r)) of walked refl
+    fails_behind crash basis r due (first_of_all (behind_parts (option_map present_in due) (trace_end crash r.steps) basis r)) of walked refl
 
 pub parts_are : {E : Type 0} (crash : Crash) (basis : Basis) (r : Report) (walk : Walk) (result : Result (Option Part) E) →
     (r.depth == depth_of crash.choice) ≡ true → IsWalked crash r walk →
-    IfOk result (λ part. part ≡ first_after walk crash.dump.state basis r) → IfOk result (λ part. part ≡ first_failing crash basis r)
+    IfOk result (λ part. part ≡ first_after walk (trace_end crash r.steps) basis r) → IfOk result (λ part. part ≡ first_failing crash basis r)
 parts_are crash basis r walk (Ok part) of walked h = h ∙ part_is crash basis r walk of walked
 parts_are crash basis r walk (Err error) of walked h = tt

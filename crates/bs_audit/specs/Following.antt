@@ -18,7 +18,7 @@ use Rattle.bs_audit.specs.declared.steps.Walk.TheVariants.{Fails, Holds}
 
 -- the hit line of a hit
 abbrev pub line_of : Hit → HitLine
-line_of hit = record { run = hit.run; cycle = hit.cycle; state = hit.dump.state }
+line_of hit = record { run = hit.run; cycle = hit.cycle; state = hit.dump.state.bits }
 
 -- the parts of the candidates from one on
 abbrev pub cand_parts : Crash → Budgets → ℕ → Step → ℕ → ℕ → List (Option Part)

@@ -7,6 +7,8 @@ use Rattle.bs_log.specs.declared.why.Why.{Why}
 use Rattle.bs_log.specs.FirstRefused.{first_refused}
 use Rattle.bs_log.specs.Shown.{Basis}
 use Rattle.bs_log.specs.Steps.{lemma_of_line}
+use Rattle.bs_seen.specs.declared.seen.Seen.{Seen}
+use Rattle.bs_net.specs.Circuit.{Circuit}
 use Rattle.bs_scan.specs.Present.{Present, present_in}
 use Rattle.bs_encode.specs.Encoded.{Encoded}
 use Rattle.bs_encode.specs.Tables.{lit}
@@ -16,9 +18,9 @@ use Rattle.bs_report.specs.declared.report.Report.{Report}
 use Rattle.bs_report_good.specs.declared.part.Part.{Part}
 use Rattle.bs_report_good.specs.declared.part.Part.TheVariants as parts
 use Rattle.bs_report_good.specs.Step.{listed, Ascend}
-use Rattle.bs_report_good.specs.Trace.{trace_states, trace_inputs}
-use Rattle.bs_report_good.specs.Valid.{unless, first_of_all, all_bits_eq, cause_after, is_cause, each_step, log_parts, are_right_blocks, blocks_due}
+use Rattle.bs_report_good.specs.Valid.{unless, first_of_all, cause_after, is_cause, is_right_trace, each_step, log_parts, are_right_blocks, blocks_due}
 use Rattle.bs_report_good.specs.Valid.{blocks_in, is_right_finish, finishes_in}
+use Rattle.bs_trace.specs.WideCands.{HasWideCands}
 use Rattle.bs_audit.specs.declared.steps.Walk.{Walk}
 use Rattle.bs_audit.specs.declared.steps.Walk.TheVariants.{Fails, Holds}
 
@@ -45,17 +47,18 @@ lines_parts e assumptions b i step lines =
     unless (is_right_finish b assumptions lines step.end (finishes_in lines)) (parts.Ended (i + 1)) ∷ []
 
 -- a step whose states and signatures have the widths, with an older signature only where two are kept, and whose candidates ascend
-pub record IsFit (flops items depth : ℕ) (step : Step) : Type 0 where
-  pub present : length step.present ≡ flops
+pub record IsFit (c : Circuit) (items depth : ℕ) (step : Step) : Type 0 where
+  pub present : length step.present.bits ≡ length c.flops
   pub stored : length step.stored ≡ items
   pub older : AreWide items step.older
   pub alone : depth ≡ 1 → step.older ≡ None
   pub ascend : Ascend (listed step.cands)
-  pub widths : All (λ s. length s ≡ flops) (listed step.cands)
+  pub cands : HasWideCands c step
+  pub widths : All (λ s. length s ≡ length c.flops) (listed step.cands)
 
 -- the same against an encoding's literals
 pub record Suits (e : Encoded) (step : Step) : Type 0 where
-  pub present : length step.present ≡ length e.states
+  pub present : length step.present.bits ≡ length e.states
   pub stored : length step.stored ≡ length e.signatures
   pub older : AreWide (length e.older_signatures) step.older
   pub ascend : Ascend (listed step.cands)
@@ -73,19 +76,19 @@ AreFit e steps = All (Suits e) steps
 abbrev pub logged_parts : Basis → Report → List (Option Part)
 logged_parts basis r = refused_part (first_refused basis.problem r.log) ∷ each_step (log_parts basis r) 0 r.steps
 
--- the parts behind the steps, after which the next step is due to begin at a present if at all
-abbrev pub behind_parts : Option Present → List Bool → Basis → Report → List (Option Part)
-behind_parts due dumped basis r =
+-- the parts behind the steps, after which the next step is due to begin at a present if at all, and whose trace ends in what is known of this state
+abbrev pub behind_parts : Option Present → Seen → Basis → Report → List (Option Part)
+behind_parts due last basis r =
     unless (nat_le (length r.steps) r.budgets.steps && is_cause r.stop (cause_after r.budgets r.steps due)) parts.Stop ∷
-    unless (all_bits_eq r.states (trace_states dumped r.steps) && all_bits_eq r.inputs (trace_inputs r.steps)) parts.Trace ∷
+    unless (is_right_trace last r) parts.Trace ∷
     logged_parts basis r
 
 -- the first part that fails, where this is found of the steps
-abbrev pub first_after : Walk → List Bool → Basis → Report → Option Part
-first_after (Fails part) dumped basis r = Some part
-first_after (Holds due) dumped basis r = first_of_all (behind_parts (option_map present_in due) dumped basis r)
+abbrev pub first_after : Walk → Seen → Basis → Report → Option Part
+first_after (Fails part) last basis r = Some part
+first_after (Holds due) last basis r = first_of_all (behind_parts (option_map present_in due) last basis r)
 
 -- where all parts of the steps hold, the steps are fit
-abbrev pub LeavesFit : ℕ → ℕ → ℕ → List Step → Walk → Type 0
-LeavesFit flops items depth steps (Fails part) = Unit {0}
-LeavesFit flops items depth steps (Holds due) = All (IsFit flops items depth) steps
+abbrev pub LeavesFit : Circuit → ℕ → ℕ → List Step → Walk → Type 0
+LeavesFit c items depth steps (Fails part) = Unit {0}
+LeavesFit c items depth steps (Holds due) = All (IsFit c items depth) steps

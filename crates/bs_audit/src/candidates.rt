@@ -3,6 +3,7 @@ ghost use Rattle.std.specs.Prelude.{◌≡◌, ◌<◌, ◌+◌, ◌-◌, ◌^�
 ghost use Rattle.std.specs.Ordering.{bool_cmp, is_lt};
 ghost use Rattle.std.specs.Cmp.Lexicographic.{slice_cmp};
 ghost use Rattle.bs_bits.specs.Bits.{bits_eq};
+ghost use Rattle.bs_seen.specs.Seen.{is_shown};
 ghost use Rattle.bs_net.specs.Circuit.{next, reset_state};
 ghost use Rattle.bs_net.specs.Netlist.{circuit};
 ghost use Rattle.bs_scan.specs.Choice.{depth_of};
@@ -19,6 +20,7 @@ use bs_chip::Hit;
 use bs_report::{Before, Budgets, Cand, Step};
 use bs_report_good::Part;
 use bs_scan::Choice;
+use bs_seen::Seen;
 use bs_sim::Sim;
 use std::alloc::Global;
 use std::cmp::Ordering;
@@ -51,7 +53,7 @@ fn has_signature(
 }
 
 /// Whether a state leads to another under an input.
-fn leads(sim: &mut Sim<'_>, state: &Bits, input: &Bits, target: &Bits) -> bool
+fn leads_to(sim: &mut Sim<'_>, state: &Bits, input: &Bits, target: &Bits) -> bool
     requires state { length state.now ≡ length (circuit sim.old.net).flops }
     requires input { length input.now ≡ length (circuit sim.old.net).inputs }
     ensures net { sim.new.net ≡ sim.old.net }
@@ -60,6 +62,24 @@ fn leads(sim: &mut Sim<'_>, state: &Bits, input: &Bits, target: &Bits) -> bool
     sim.load(state);
     sim.step(input);
     sim.state().equals(target)
+}
+
+/// Whether a state leads under an input to one that shows this.
+fn leads_into(
+    alloc: Global,
+    sim: &mut Sim<'_>,
+    state: &Bits,
+    input: &Bits,
+    present: &Seen,
+) -> Result<bool, NoMemory>
+    requires state { length state.now ≡ length (circuit sim.old.net).flops }
+    requires input { length input.now ≡ length (circuit sim.old.net).inputs }
+    ensures net { sim.new.net ≡ sim.old.net }
+    ensures leads { IfOk result (λ leads. leads ≡ is_shown present.now (next (circuit sim.old.net) state.now input.now)) }
+{
+    sim.load(state);
+    sim.step(input);
+    present.is_shown(alloc, sim.state())
 }
 
 /// The number of a place, counted from 1.
@@ -101,7 +121,7 @@ impl<'a> Replay<'a> {
         if !has_signature(alloc, self.choice, &before.state, older)? {
             return Ok(false);
         }
-        Ok(leads(&mut self.sim, &before.state, &before.input, state))
+        Ok(leads_to(&mut self.sim, &before.state, &before.input, state))
     }
 
     /// Whether the state before a candidate's is right.
@@ -152,7 +172,13 @@ impl<'a> Replay<'a> {
         if !has_signature(alloc, self.choice, &cand.state, &step.stored)? {
             return Ok(false);
         }
-        let leads = leads(&mut self.sim, &cand.state, &cand.input, &step.present);
+        let leads = leads_into(
+            alloc,
+            &mut self.sim,
+            &cand.state,
+            &cand.input,
+            &step.present,
+        )?;
         if !(leads && (j as u64) < budgets.candidates) {
             return Ok(false);
         }

@@ -8,6 +8,7 @@ ghost use Rattle.bs_scan.specs.Crash.{crash_of, recording_of, DumpFits};
 ghost use Rattle.bs_scan.specs.Present.{present_in};
 ghost use Rattle.bs_report_good.specs.Chain.{present_of};
 ghost use Rattle.bs_report_good.specs.Good.{IsGood};
+ghost use Rattle.bs_report_good.specs.Trace.{end_of};
 ghost use Rattle.bs_report_good.specs.Valid.{first_failing, first_of_all};
 ghost use Rattle.bs_audit.specs.Finding.{basis_for, part_of};
 ghost use Rattle.bs_audit.specs.Following.{IsWalked};
@@ -27,6 +28,7 @@ use bs_report::{MAX_STEPS, Report};
 use bs_report_good::Part;
 use bs_scan::{Choice, Dump};
 use bs_stim::Runs;
+use bs_trace::end_of;
 use std::alloc::Global;
 
 /// What an audit finds of a report (docs/DEFINITIONS.md, "Valid").
@@ -89,7 +91,7 @@ fn encoded_part(
     requires value { encoding.now ≡ encoding_by (circuit net.now) choice.now }
     requires tidy { IsTidy (circuit net.now) choice.now encoding.now }
     requires few { length report.now.steps ≤ MAX_STEPS }
-    requires sound { All (IsFit (length (circuit net.now).flops) (length choice.now.items) (depth_of choice.now)) report.now.steps }
+    requires sound { All (IsFit (circuit net.now) (length choice.now.items) (depth_of choice.now)) report.now.steps }
     ensures { IfOk result (λ part. part ≡ first_of_all (logged_parts (basis_of (circuit net.now) choice.now (map present_of report.now.steps)) report.now)) }
 {
     let _depth = choice.depth();
@@ -112,7 +114,7 @@ fn log_part(
 ) -> Result<Option<Part>, NoMemory>
     requires choice { choice.now.width ≡ length (circuit net.now).flops }
     requires few { length report.now.steps ≤ MAX_STEPS }
-    requires sound { All (IsFit (length (circuit net.now).flops) (length choice.now.items) (depth_of choice.now)) report.now.steps }
+    requires sound { All (IsFit (circuit net.now) (length choice.now.items) (depth_of choice.now)) report.now.steps }
     ensures { IfOk result (λ part. part ≡ first_of_all (logged_parts (basis_of (circuit net.now) choice.now (map present_of report.now.steps)) report.now)) }
 {
     match encoding(alloc, net, choice) {
@@ -136,13 +138,14 @@ fn part_behind(
 ) -> Result<Option<Part>, NoMemory>
     requires choice { choice.now.width ≡ length (circuit net.now).flops }
     requires budget { report.now.budgets.steps ≤ MAX_STEPS }
-    requires sound { All (IsFit (length (circuit net.now).flops) (length choice.now.items) (depth_of choice.now)) report.now.steps }
-    ensures { IfOk result (λ part. part ≡ first_of_all (behind_parts (option_map present_in due.now) dump.now.state (basis_of (circuit net.now) choice.now (map present_of report.now.steps)) report.now)) }
+    requires sound { All (IsFit (circuit net.now) (length choice.now.items) (depth_of choice.now)) report.now.steps }
+    ensures { IfOk result (λ part. part ≡ first_of_all (behind_parts (option_map present_in due.now) (end_of (circuit net.now) dump.now.state report.now.steps) (basis_of (circuit net.now) choice.now (map present_of report.now.steps)) report.now)) }
 {
     if !is_right_stop(report, due) {
         return Ok(Some(Part::Stop));
     }
-    if !is_right_trace(report, &dump.state) {
+    let last = end_of(alloc, net, &dump.state, report.steps.slice())?;
+    if !is_right_trace(report, &last) {
         return Ok(Some(Part::Trace));
     }
     log_part(alloc, net, choice, report)
@@ -183,8 +186,8 @@ fn part_after(
 ) -> Result<Option<Part>, NoMemory>
     requires choice { choice.now.width ≡ length (circuit net.now).flops }
     requires budget { report.now.budgets.steps ≤ MAX_STEPS }
-    requires sound { LeavesFit (length (circuit net.now).flops) (length choice.now.items) (depth_of choice.now) report.now.steps walk.now }
-    ensures { IfOk result (λ part. part ≡ first_after walk.now dump.now.state (basis_of (circuit net.now) choice.now (map present_of report.now.steps)) report.now) }
+    requires sound { LeavesFit (circuit net.now) (length choice.now.items) (depth_of choice.now) report.now.steps walk.now }
+    ensures { IfOk result (λ part. part ≡ first_after walk.now (end_of (circuit net.now) dump.now.state report.now.steps) (basis_of (circuit net.now) choice.now (map present_of report.now.steps)) report.now) }
 {
     match walk {
         Walk::Fails(part) => Ok(Some(*part)),

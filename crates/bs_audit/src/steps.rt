@@ -14,6 +14,7 @@ use bs_chip::Hit;
 use bs_report::{Budgets, HitLine, ListEnd, Report, Step};
 use bs_report_good::Part;
 use bs_scan::Dump;
+use bs_seen::Seen;
 use std::alloc::Global;
 
 /// What is found of steps: the first part that fails, or the moment at which the next step is due to begin, if there is one.
@@ -23,13 +24,13 @@ pub enum Walk {
     Holds(Option<Dump>),
 }
 
-/// Whether a state is that of the dump, if there is one.
-fn has_due_state(due: &Option<Dump>, state: &Bits) -> bool
-    ensures { result ≡ has_state (option_map present_in due.now) state.now }
+/// Whether what is known of a state is what is known of the dumped one, if there is one.
+fn has_due_state(due: &Option<Dump>, present: &Seen) -> bool
+    ensures { result ≡ has_state (option_map present_in due.now) present.now }
 {
     match due {
         None => false,
-        Some(dump) => state.equals(&dump.state),
+        Some(dump) => present.equals(&dump.state),
     }
 }
 
@@ -104,7 +105,9 @@ fn is_hit(line: &Option<HitLine>, hit: &Option<Hit>) -> bool
         Some(line) => match hit {
             None => false,
             Some(hit) => {
-                line.run == hit.run && line.cycle == hit.cycle && line.state.equals(&hit.dump.state)
+                line.run == hit.run
+                    && line.cycle == hit.cycle
+                    && line.state.equals(&hit.dump.state.bits)
             }
         },
     }

@@ -1,12 +1,13 @@
 //! The trace of a report.
-ghost use Rattle.std.specs.Prelude.{◌≡◌, ◌&&◌, option_map, option_and_then, find, reverse, filter_map, MatchOption, Some};
-ghost use Rattle.bs_bits.specs.Bits.{bits_eq};
+ghost use Rattle.std.specs.Prelude.{◌≡◌, ◌&&◌, option_map, option_and_then, reverse, filter_map, MatchOption, Some};
 ghost use Rattle.bs_report_good.specs.Trace.{hit_state, input_for, trace_states, trace_inputs};
-ghost use Rattle.bs_report_good.specs.Valid.{all_bits_eq};
+ghost use Rattle.bs_report_good.specs.Valid.{all_bits_eq, is_right_trace};
 ghost use Rattle.bs_audit.specs.Cut.{IsCut, IsUncut};
 
 use bs_bits::Bits;
-use bs_report::{Cand, Report, Step};
+use bs_report::{Report, Step};
+use bs_seen::Seen;
+use bs_trace::input_for;
 
 /// The lists without the last one, if that is as wanted.
 fn without_last<'a>(lists: &'a [Bits], last: &Bits) -> Option<&'a [Bits]>
@@ -42,23 +43,13 @@ fn hit_state(step: &Step) -> Option<&Bits>
     }
 }
 
-/// The input of the candidate with a state.
-fn input_of<'a>(cands: &'a [Cand], state: &Bits) -> Option<&'a Bits>
-    ensures { option_map (λ bits. bits.now) result ≡ option_map (λ cand. cand.input) (find (λ cand. bits_eq cand.state state.now) cands.now) }
-{
-    match cands.iter().find(|cand| cand.state.equals(state)) {
-        None => None,
-        Some(cand) => Some(&cand.input),
-    }
-}
-
 /// The input that a step lists for the state that it hit.
 fn hit_input(step: &Step) -> Option<&Bits>
     ensures { option_map (λ bits. bits.now) result ≡ option_and_then (input_for step.now) (hit_state step.now) }
 {
     match &step.hit {
         None => None,
-        Some(hit) => input_of(step.cands.slice(), &hit.state),
+        Some(hit) => input_for(step, &hit.state),
     }
 }
 
@@ -90,20 +81,22 @@ fn are_inputs(inputs: &[Bits], steps: &[Step]) -> bool
     left.is_empty()
 }
 
-/// Whether the states are those of the trace.
-fn are_states(states: &[Bits], dumped: &Bits, steps: &[Step]) -> bool
-    ensures { result ≡ all_bits_eq states.now (trace_states dumped.now steps.now) }
+/// Whether the states are those of the trace that ends in this one.
+fn are_states(states: &[Bits], last: &Bits, steps: &[Step]) -> bool
+    ensures { result ≡ all_bits_eq states.now (trace_states last.now steps.now) }
 {
-    match without_last(states, dumped) {
+    match without_last(states, last) {
         None => false,
         Some(front) => are_hits(front, steps),
     }
 }
 
-/// Whether the states and the inputs are those of the trace.
-pub fn is_right_trace(report: &Report, dumped: &Bits) -> bool
-    ensures { result ≡ (all_bits_eq report.now.states (trace_states dumped.now report.now.steps) && all_bits_eq report.now.inputs (trace_inputs report.now.steps)) }
+/// Whether the states and the inputs are those of the trace, which ends in what is known of this state.
+pub fn is_right_trace(report: &Report, last: &Seen) -> bool
+    ensures { result ≡ is_right_trace last.now report.now }
 {
-    let states = are_states(report.states.slice(), dumped, report.steps.slice());
-    states && are_inputs(report.inputs.slice(), report.steps.slice())
+    let states = are_states(report.states.slice(), &last.bits, report.steps.slice());
+    let free = report.free.equals(&last.free);
+    let inputs = are_inputs(report.inputs.slice(), report.steps.slice());
+    states && free && inputs
 }

@@ -1,6 +1,7 @@
 -- What the functions that replay runs promise each other.
 use Rattle.std.specs.Prelude.{◌≡◌, ℕ, List, Bool, slice_get}
 use Rattle.bs_net.specs.Circuit.{Circuit}
+use Rattle.bs_seen.specs.Seen.{whole}
 use Rattle.bs_scan.specs.declared.dump.Dump.{Dump}
 use Rattle.bs_scan.specs.Choice.{depth_of}
 use Rattle.bs_scan.specs.Register.{Register}
@@ -25,7 +26,7 @@ pub record IsSameChip (old new : Played) : Type 0 where
 abbrev pub dump_holding : Register → List Bool → Dump
 dump_holding register state =
     record {
-      state = state;
+      state = whole state;
       stored = slice_get register.stored 0;
       older = slice_get register.stored 1;
       depth = depth_of register.choice;

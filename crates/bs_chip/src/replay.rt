@@ -20,6 +20,7 @@ use bs_break::Bank;
 use bs_lanes::Lanes;
 use bs_net::Netlist;
 use bs_scan::{Choice, Dump, HasState, Moment, SigReg};
+use bs_seen::Seen;
 use bs_stim::Runs;
 use std::alloc::Global;
 use std::marker::Model;
@@ -120,7 +121,7 @@ fn dump_of(alloc: Global, state: &Bits, register: &SigReg<'_>) -> Result<Dump, N
     let stored = copy_of(register.stored())?;
     let older = copy_of(register.older())?;
     Ok(Dump {
-        state,
+        state: Seen::whole(alloc, state),
         stored,
         older,
         depth: register.depth(),

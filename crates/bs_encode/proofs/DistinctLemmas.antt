@@ -17,6 +17,7 @@ use Rattle.bs_net.specs.declared.net.Flop.{Flop}
 use Rattle.bs_net.specs.declared.net.Const.{Const}
 use Rattle.bs_net.specs.Circuit.{Circuit, number, state_nets, drivers}
 use Rattle.bs_net.specs.Order.{IsChecked}
+use Rattle.bs_seen.specs.Seen.{kept}
 use Rattle.bs_encode.specs.Tables.{lit}
 use Rattle.bs_encode.specs.Transition.{net_var, item_helpers, item_vars, state_vars, is_tautology, tidied, transition_clauses, table_clauses}
 use Rattle.bs_encode.specs.Encoded.{literals}
@@ -161,6 +162,31 @@ signed_distinct (l ∷ c) [] h = refl
 signed_distinct (l ∷ c) (b ∷ bs) h =
     let parts = distinct_parts l c h in
     distinct_cons (lit l.variable b) (signed c bs) (signed_apart l.variable c bs parts.0) (signed_distinct c bs parts.1)
+
+-- ---- nor does leaving some out
+
+kept_apart : (v : ℕ) (frees : List Bool) (c : Clause) → names v c ≡ false → names v (kept frees c) ≡ false
+kept_apart v [] c h = h
+kept_apart v (free ∷ frees) [] h = refl
+kept_apart v (free ∷ frees) (l ∷ c) h =
+    let parts = or_parts (eqb l.variable v) (names v c) h in
+    by free parts.0 (kept_apart v frees c parts.1)
+  where
+    by : (free : Bool) → eqb l.variable v ≡ false → names v (kept frees c) ≡ false → names v (kept (free ∷ frees) (l ∷ c)) ≡ false
+    by true here rest = rest
+    by false here rest = or_from (eqb l.variable v) (names v (kept frees c)) here rest
+
+pub kept_distinct : (frees : List Bool) (c : Clause) → has_distinct_variables c ≡ true → has_distinct_variables (kept frees c) ≡ true
+kept_distinct [] c h = h
+kept_distinct (free ∷ frees) [] h = refl
+kept_distinct (free ∷ frees) (l ∷ c) h =
+    let parts = distinct_parts l c h in
+    by free parts.0 (kept_distinct frees c parts.1)
+  where
+    by : (free : Bool) → names l.variable c ≡ false → has_distinct_variables (kept frees c) ≡ true →
+        has_distinct_variables (kept (free ∷ frees) (l ∷ c)) ≡ true
+    by true here rest = rest
+    by false here rest = distinct_cons l (kept frees c) (kept_apart l.variable frees c here) rest
 
 -- ---- the next variables are a range, and the items' ascend
 

@@ -9,6 +9,7 @@ use Rattle.bs_net.specs.declared.net.Mode.{Mode}
 use Rattle.bs_net.specs.declared.net.Mode.TheVariants.{Plain, Enable, Clear}
 use Rattle.bs_net.specs.Circuit.{Circuit}
 use Rattle.bs_scan.specs.Choice.{Chosen}
+use Rattle.bs_seen.specs.Seen.{whole}
 use Rattle.bs_encode.specs.Tables.{lit}
 use Rattle.bs_encode.specs.Transition.{transition_clauses, variables}
 use Rattle.bs_encode.specs.Encoded.{Encoded, encoding_of}
@@ -43,7 +44,7 @@ toggle_variables = refl
 
 -- two steps: from the state 1, and from the state 0
 toggle_steps : (problem_of (encoding_of toggle [])
-    (record { state = true ∷ []; stored = [] ∷ [] } ∷ record { state = false ∷ []; stored = [] ∷ [] } ∷ [])).steps ≡
+    (record { state = whole (true ∷ []); stored = [] ∷ [] } ∷ record { state = whole (false ∷ []); stored = [] ∷ [] } ∷ [])).steps ≡
     (lit 5 true ∷ lit 4 true ∷ []) ∷ (lit 6 true ∷ lit 4 false ∷ []) ∷ []
 toggle_steps = refl
 
@@ -67,9 +68,14 @@ toggle_twice_clauses : toggle_twice.clauses ≡
 toggle_twice_clauses = refl
 
 -- a step with an older signature, and one without
-toggle_twice_steps : (problem_of toggle_twice (asking (true ∷ []) [] (Some []) ∷ asking (true ∷ []) [] None ∷ [])).steps ≡
+toggle_twice_steps : (problem_of toggle_twice (asking (whole (true ∷ [])) [] (Some []) ∷ asking (whole (true ∷ [])) [] None ∷ [])).steps ≡
     (lit 10 true ∷ lit 4 true ∷ lit 9 true ∷ []) ∷ (lit 11 true ∷ lit 4 true ∷ lit 9 false ∷ lit 3 false ∷ []) ∷ []
 toggle_twice_steps = refl
+
+-- a step whose present is not known assumes its signatures alone
+unknown_steps : (problem_of toggle_twice (asking (record { bits = false ∷ []; free = true ∷ [] }) [] (Some []) ∷ [])).steps ≡
+    (lit 10 true ∷ lit 9 true ∷ []) ∷ []
+unknown_steps = refl
 
 -- a flip-flop that is named twice in an item makes two tautologies, which take no id
 twice_clauses : transition_clauses toggle ((0 ∷ 0 ∷ []) ∷ []) ≡
@@ -139,7 +145,7 @@ s27_clauses : length (transition_clauses s27 ((0 ∷ []) ∷ [])) ≡ 37
 s27_clauses = refl
 
 -- the state 010 after one with the signature 1: the next variables are 21 to 23, and the item's is 24
-s27_steps : (problem_of (encoding_of s27 ((0 ∷ []) ∷ [])) (record { state = false ∷ true ∷ false ∷ []; stored = (true ∷ []) ∷ [] } ∷ [])).steps ≡
+s27_steps : (problem_of (encoding_of s27 ((0 ∷ []) ∷ [])) (record { state = whole (false ∷ true ∷ false ∷ []); stored = (true ∷ []) ∷ [] } ∷ [])).steps ≡
     (lit 25 true ∷ lit 21 false ∷ lit 22 true ∷ lit 23 false ∷ lit 24 true ∷ []) ∷ []
 s27_steps = refl
 

@@ -11,6 +11,7 @@ pub mod RangeLemmas
 pub mod DistinctLemmas
 pub mod LiteralLemmas
 pub mod FrameLemmas
+pub mod SeenSigns
 pub mod CycleLemmas
 pub mod OlderLemmas
 pub mod MeaningLemmas

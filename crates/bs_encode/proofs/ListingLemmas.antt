@@ -15,6 +15,8 @@ use Rattle.bs_clause.proofs.Values.{value_of_negated}
 use Rattle.bs_log.specs.History.{Problem, activation_of}
 use Rattle.bs_log.specs.Refusal.{has_distinct_variables, assumptions_of}
 use Rattle.bs_log.specs.Shown.{Shown}
+use Rattle.bs_seen.specs.declared.seen.Seen.{Seen}
+use Rattle.bs_seen.specs.Seen.{kept as at_known, Shows}
 use Rattle.bs_net.specs.Circuit.{Circuit, next, reset_state, all_bits}
 use Rattle.bs_net.specs.Order.{IsChecked}
 use Rattle.bs_net.proofs.CallerLemmas.{all_bits_widths}
@@ -27,15 +29,16 @@ use Rattle.bs_scan.proofs.SignatureLemmas.{any_member, some_input}
 use Rattle.bs_encode.specs.Transition.{first_next, first_item, variables}
 use Rattle.bs_encode.specs.Encoded.{Encoded, encoding_of}
 use Rattle.bs_encode.specs.Frame.{raised_all, lowered}
-use Rattle.bs_encode.specs.Assuming.{signed, before_assumed, older_assumed, assumptions_for, block_for}
+use Rattle.bs_encode.specs.Assuming.{signed, signed_seen, before_assumed, older_assumed, assumptions_for, block_for}
 use Rattle.bs_encode.specs.Depth.{link_of, linked, encoding_by, IsLinkable}
 use Rattle.bs_encode.specs.Cycle.{bits_on, ShowsCycle, IsTransition}
 use Rattle.bs_encode.specs.Meaning.{IsClosed}
 use Rattle.bs_encode.specs.Listing.{IsTidy, PredecessorsAreShown, IsBefore, IsPredecessor, SolutionsArePredecessors}
 use Rattle.bs_encode.proofs.RangeLemmas.{InRange, Ranged, join, state_vars_ranged, signs_ranged}
 use Rattle.bs_encode.proofs.DistinctLemmas.{left_all, right_all, apart_from_each, weaken, distinct_cons, append_apart, signed_all, signed_distinct}
-use Rattle.bs_encode.proofs.DistinctLemmas.{above_numbers, below_numbers, above_items, items_distinct}
+use Rattle.bs_encode.proofs.DistinctLemmas.{above_numbers, below_numbers, above_items, items_distinct, numbers_distinct, kept_distinct}
 use Rattle.bs_encode.proofs.LawLemmas.{states_in_place}
+use Rattle.bs_encode.proofs.SeenSigns.{seen_all, seen_true, seen_shown}
 use Rattle.bs_encode.proofs.LiteralLemmas.{AllTrue, signs_true, bits_shown, block_broken, met_or_not}
 use Rattle.bs_encode.proofs.FrameLemmas.{raised_bits, length-raised_all, length-bits_on, distinct_raised, signed_raised, IsIn, raised_in, raised_within, Agree}
 use Rattle.bs_encode.proofs.FrameLemmas.{still_met, same_bits}
@@ -45,7 +48,7 @@ use Rattle.bs_encode.proofs.CycleLemmas.{is_transition, is_linkable}
 -- ---- what a step assumes besides its activation literal
 
 abbrev others : Encoded → Present → Clause
-others e q = signed e.next q.state ++ (signed e.signatures (slice_index_or q.stored 0 []) ++ older_assumed e e.link (slice_get q.stored 1))
+others e q = signed_seen e.next q.state ++ (signed e.signatures (slice_index_or q.stored 0 []) ++ older_assumed e e.link (slice_get q.stored 1))
 
 with_activation_ranged : (e : Encoded) (activation : Literal) (q : Present) → e.variables < activation.variable → Ranged e.variables (others e q) →
     HasVariables activation.variable (assumptions_for e activation q)
@@ -209,11 +212,28 @@ module _ (c : Circuit) (choice : Chosen) (checked : IsChecked c) (p : IsClosed c
   t = is_transition c choice.items checked p
 
   -- the literals of the next state and of the signature
-  next_from : (state : List Bool) → AllByRecursion (λ (l : Literal). first_next c ≤ l.variable) (signed e.next state)
-  next_from state = signed_all (λ v. first_next c ≤ v) e.next state (above_numbers (first_next c) (first_next c) (length c.flops) (omega arith))
+  next_from : (state : Seen) → AllByRecursion (λ (l : Literal). first_next c ≤ l.variable) (signed_seen e.next state)
+  next_from state = seen_all (λ v. first_next c ≤ v) e.next state (above_numbers (first_next c) (first_next c) (length c.flops) (omega arith))
 
-  next_to : (state : List Bool) → AllByRecursion (λ (l : Literal). l.variable < first_item c) (signed e.next state)
-  next_to state = signed_all (λ v. v < first_item c) e.next state (below_numbers (first_item c) (first_next c) (length c.flops) (omega arith))
+  next_to : (state : Seen) → AllByRecursion (λ (l : Literal). l.variable < first_item c) (signed_seen e.next state)
+  next_to state = seen_all (λ v. v < first_item c) e.next state (below_numbers (first_item c) (first_next c) (length c.flops) (omega arith))
+
+  next_within : (m : ℕ) (state : Seen) → HasVariables m e.next → Ranged m (signed_seen e.next state)
+  next_within m state h = seen_all (InRange m) e.next state (recursion_from_All (IsWithin m) e.next h)
+
+  next_distinct : (state : Seen) → has_distinct_variables (signed_seen e.next state) ≡ true
+  next_distinct state =
+      signed_distinct (at_known state.free e.next) (at_known state.free state.bits)
+      (kept_distinct state.free e.next (numbers_distinct (first_next c) (length c.flops)))
+
+  -- what an assignment shows of the next state, at the known places
+  next_true : (value : ℕ → Bool) (state : Seen) (there : List Bool) → bits_on value e.next ≡ there → Shows state there →
+      AllTrue value (signed_seen e.next state)
+  next_true value state there is h = seen_true value e.next state there is h
+
+  next_shown : (value : ℕ → Bool) (state : Seen) → length state.bits ≡ length c.flops → AllTrue value (signed_seen e.next state) →
+      Shows state (bits_on value e.next)
+  next_shown value state wide h = seen_shown value e.next state (wide ∙ sym t.next_width) h
 
   signature_from : (stored : List Bool) → AllByRecursion (λ (l : Literal). first_item c ≤ l.variable) (signed e.signatures stored)
   signature_from stored =
@@ -224,21 +244,21 @@ module _ (c : Circuit) (choice : Chosen) (checked : IsChecked c) (p : IsClosed c
 
   -- the others' range and apartness, from those of what is said of the cycle before
   others_within : (m : ℕ) (q : Present) (last : Clause) → n ≤ m → Ranged m last →
-      Ranged m (signed e.next q.state ++ (signed e.signatures (slice_index_or q.stored 0 []) ++ last))
+      Ranged m (signed_seen e.next q.state ++ (signed e.signatures (slice_index_or q.stored 0 []) ++ last))
   others_within m q last le within =
       let wider : (ls : Clause) → Ranged n ls → Ranged m ls =
       λ ls h. weaken (IsWithin n) (IsWithin m) (λ l w. (w.0, omega (arith, w.1, le))) ls h in
       let stored = slice_index_or q.stored 0 [] in
-      join (IsWithin m) (signed e.next q.state) (signed e.signatures stored ++ last)
-      (wider (signed e.next q.state) (signed_within n e.next q.state t.next_range))
+      join (IsWithin m) (signed_seen e.next q.state) (signed e.signatures stored ++ last)
+      (wider (signed_seen e.next q.state) (next_within n q.state t.next_range))
       (join (IsWithin m) (signed e.signatures stored) last (wider (signed e.signatures stored) (signed_within n e.signatures stored t.signatures_range)) within)
 
   others_distinct : (q : Present) (last : Clause) → has_distinct_variables last ≡ true →
       ((v : ℕ) → first_next c ≤ v → v ≤ n → AllByRecursion (λ (m : Literal). m.variable ≡ v → ⊥) last) →
-      has_distinct_variables (signed e.next q.state ++ (signed e.signatures (slice_index_or q.stored 0 []) ++ last)) ≡ true
+      has_distinct_variables (signed_seen e.next q.state ++ (signed e.signatures (slice_index_or q.stored 0 []) ++ last)) ≡ true
   others_distinct q last distinct apart =
       let stored = slice_index_or q.stored 0 [] in
-      let xs : Clause = signed e.next q.state in
+      let xs : Clause = signed_seen e.next q.state in
       let ys : Clause = signed e.signatures stored in
       let apart_of : (v : ℕ) → first_next c ≤ v → v < first_item c → AllByRecursion (λ (m : Literal). m.variable ≡ v → ⊥) (ys ++ last) =
       λ v low high.
@@ -250,7 +270,7 @@ module _ (c : Circuit) (choice : Chosen) (checked : IsChecked c) (p : IsClosed c
       (both_weaken (λ (l : Literal). first_next c ≤ l.variable) (λ (l : Literal). l.variable < first_item c)
       (λ (l : Literal). AllByRecursion (λ (m : Literal). m.variable ≡ l.variable → ⊥) (ys ++ last)) (λ l low high. apart_of l.variable low high) xs
       (next_from q.state) (next_to q.state))
-      (t.next_distinct q.state)
+      (next_distinct q.state)
       (append_apart ys last
       (both_weaken (λ (l : Literal). first_item c ≤ l.variable) (IsWithin n)
       (λ (l : Literal). AllByRecursion (λ (m : Literal). m.variable ≡ l.variable → ⊥) last)
@@ -302,16 +322,16 @@ module _ (c : Circuit) (choice : Chosen) (checked : IsChecked c) (p : IsClosed c
       let stored = slice_index_or q.stored 0 [] in
       shown_by e (length c.flops) t.states_width t.clauses_range t.states_range r i q s vars clauses step (one_within q) a
       (recursion_from_All (Satisfies a) e.clauses shows.clauses) shows.state
-      (join (λ l. literal_value a l ≡ true) (signed e.next q.state) (signed e.signatures stored ++ [])
-      (signs_true a e.next q.state (shows.next ∙ nx))
+      (join (λ l. literal_value a l ≡ true) (signed_seen e.next q.state) (signed e.signatures stored ++ [])
+      (next_true a q.state (next c s x) shows.next nx)
       (join (λ l. literal_value a l ≡ true) (signed e.signatures stored) [] (signs_true a e.signatures stored
       (shows.signature ∙ last_stored c choice q.stored s ag))
       tt))
 
   -- what the first time frame shows, of an assignment that meets its clauses and the first assumptions
-  module _ (value : ℕ → Bool) (q : Present) (last : Clause) (wide : length q.state ≡ length c.flops)
+  module _ (value : ℕ → Bool) (q : Present) (last : Clause) (wide : length q.state.bits ≡ length c.flops)
       (signature_wide : length (slice_index_or q.stored 0 []) ≡ length choice.items) (met : All (Satisfies value) e.clauses)
-      (holds : AllTrue value (signed e.next q.state ++ (signed e.signatures (slice_index_or q.stored 0 []) ++ last))) where
+      (holds : AllTrue value (signed_seen e.next q.state ++ (signed e.signatures (slice_index_or q.stored 0 []) ++ last))) where
     abbrev s : List Bool
     s = bits_on value e.states
 
@@ -322,7 +342,7 @@ module _ (c : Circuit) (choice : Chosen) (checked : IsChecked c) (p : IsClosed c
     stored = slice_index_or q.stored 0 []
 
     rest_holds : AllTrue value (signed e.signatures stored ++ last)
-    rest_holds = right_all (λ l. literal_value value l ≡ true) (signed e.next q.state) (signed e.signatures stored ++ last) holds
+    rest_holds = right_all (λ l. literal_value value l ≡ true) (signed_seen e.next q.state) (signed e.signatures stored ++ last) holds
 
     last_holds : AllTrue value last
     last_holds = right_all (λ l. literal_value value l ≡ true) (signed e.signatures stored) last rest_holds
@@ -333,11 +353,11 @@ module _ (c : Circuit) (choice : Chosen) (checked : IsChecked c) (p : IsClosed c
     input_width : length x ≡ length c.inputs
     input_width = length-bits_on value e.inputs ∙ t.inputs_width
 
-    led : next c s x ≡ q.state
+    led : Shows q.state (next c s x)
     led =
-        t.leads value met
-        ∙ bits_shown value e.next q.state (wide ∙ sym t.next_width)
-        (left_all (λ l. literal_value value l ≡ true) (signed e.next q.state) (signed e.signatures stored ++ last) holds)
+        ap (at_known q.state.free) (t.leads value met)
+        ∙ next_shown value q.state wide
+        (left_all (λ l. literal_value value l ≡ true) (signed_seen e.next q.state) (signed e.signatures stored ++ last) holds)
 
     signed_as : signature choice s ≡ stored
     signed_as =
@@ -357,7 +377,12 @@ module _ (c : Circuit) (choice : Chosen) (checked : IsChecked c) (p : IsClosed c
           signature = signed_as;
           agrees = agree;
           next = led;
-          leads = (fit.0, fit.1, next_from_fits c s x fit.0 checked state_width input_width fit.1 ∙ led);
+          leads =
+              record {
+                there = next c s x;
+                leads = (fit.0, fit.1, next_from_fits c s x fit.0 checked state_width input_width fit.1);
+                shown = led;
+              };
           alone = alone;
           first = first;
           later = later;
@@ -497,11 +522,11 @@ module _ (c : Circuit) (choice : Chosen) (checked : IsChecked c) (p : IsClosed c
 
     -- a state is shown by the assignment that shows it in the first time frame, and g in the second, where the link suits
     two_from : (r : Problem) (i : ℕ) (q : Present) (s x : List Bool) → r.vars ≡ E.variables → r.clauses ≡ E.clauses →
-        slice_get r.steps i ≡ Some (assumptions_for E (activation_of r (i + 1)) q) → (shows : ShowsCycle e s x q.state (signature choice s)) →
-        agrees c choice q.stored s ≡ true → (g : ℕ → Bool) (b : Bool) → AllByRecursion (Satisfies g) e.clauses → (b ≡ true → bits_on g e.next ≡ s) →
+        slice_get r.steps i ≡ Some (assumptions_for E (activation_of r (i + 1)) q) → (shows : ShowsCycle e s x (next c s x) (signature choice s)) →
+        Shows q.state (next c s x) → agrees c choice q.stored s ≡ true → (g : ℕ → Bool) (b : Bool) → AllByRecursion (Satisfies g) e.clauses → (b ≡ true → bits_on g e.next ≡ s) →
         AllTrue (both e k shows.value g b) (before_assumed E L (slice_get q.stored 1)) →
         Shown (record { problem = r; block = block_for E }) (length c.flops) (i + 1) s
-    two_from r i q s x vars clauses step shows ag g b mg leads last =
+    two_from r i q s x vars clauses step shows nx ag g b mg leads last =
         let f : ℕ → Bool = shows.value in
         let v : ℕ → Bool = both e k f g b in
         let stored = slice_index_or q.stored 0 [] in
@@ -509,8 +534,8 @@ module _ (c : Circuit) (choice : Chosen) (checked : IsChecked c) (p : IsClosed c
         shown_by E (length c.flops) t.states_width clauses_range (wide_range e.states t.states_range) r i q s vars clauses step (two_within q) v
         (both_met e k f g b (recursion_from_All (Satisfies f) e.clauses shows.clauses) mg (λ on. leads on ∙ sym shows.state))
         (first_bits f g b e.states t.states_range ∙ shows.state)
-        (join (λ l. literal_value v l ≡ true) (signed e.next q.state) (signed e.signatures stored ++ older)
-        (signs_true v e.next q.state (first_bits f g b e.next t.next_range ∙ shows.next))
+        (join (λ l. literal_value v l ≡ true) (signed_seen e.next q.state) (signed e.signatures stored ++ older)
+        (next_true v q.state (next c s x) (first_bits f g b e.next t.next_range ∙ shows.next) nx)
         (join (λ l. literal_value v l ≡ true) (signed e.signatures stored) older
         (signs_true v e.signatures stored
         (first_bits f g b e.signatures t.signatures_range ∙ (shows.signature ∙ last_stored c choice q.stored s ag))) last))
@@ -519,8 +544,8 @@ module _ (c : Circuit) (choice : Chosen) (checked : IsChecked c) (p : IsClosed c
     two_shown two r i q s x vars clauses step ls lx ag nx =
         by (slice_get q.stored 1) refl (before_of_agrees c choice q.stored s two ag)
       where
-        shows : ShowsCycle e s x q.state (signature choice s)
-        shows = subst (λ z. ShowsCycle e s x z (signature choice s)) nx (t.shown s x ls lx)
+        shows : ShowsCycle e s x (next c s x) (signature choice s)
+        shows = t.shown s x ls lx
 
         f : ℕ → Bool
         f = shows.value
@@ -533,7 +558,7 @@ module _ (c : Circuit) (choice : Chosen) (checked : IsChecked c) (p : IsClosed c
         by None is reset =
             let v : ℕ → Bool = both e k f f false in
             let off : literal_value v (negation L) ≡ true = literal_value-negation v L ∙ ap not (link_is e k f f false) in
-            two_from r i q s x vars clauses step shows ag f false met (λ on. absurd (false≢true on))
+            two_from r i q s x vars clauses step shows nx ag f false met (λ on. absurd (false≢true on))
             (subst (λ o. AllTrue v (before_assumed E L o)) (sym is)
             (off, signs_true v e.states (reset_state c) (first_bits f f false e.states t.states_range ∙ (shows.state ∙ reset))))
         by (Some older) is before =
@@ -543,7 +568,7 @@ module _ (c : Circuit) (choice : Chosen) (checked : IsChecked c) (p : IsClosed c
             let earlier = t.shown u y b.state_width b.input_width in
             let g : ℕ → Bool = earlier.value in
             let v : ℕ → Bool = both e k f g true in
-            two_from r i q s x vars clauses step shows ag g true (recursion_from_All (Satisfies g) e.clauses earlier.clauses)
+            two_from r i q s x vars clauses step shows nx ag g true (recursion_from_All (Satisfies g) e.clauses earlier.clauses)
             (λ on. earlier.next ∙ b.next)
             (subst (λ o. AllTrue v (before_assumed E L o)) (sym is) (
               link_is e k f g true,

@@ -3,6 +3,8 @@ use Rattle.std.specs.Prelude.{◌≡◌, ℕ, ◌+◌, Bool, true, not, List, []
 use Rattle.std.specs.Option.{option_to_list}
 use Rattle.bs_clause.specs.Literal.{Literal, Clause, negation}
 use Rattle.bs_log.specs.History.{Problem}
+use Rattle.bs_seen.specs.declared.seen.Seen.{Seen}
+use Rattle.bs_seen.specs.Seen.{kept}
 use Rattle.bs_scan.specs.Present.{Present}
 use Rattle.bs_encode.specs.Tables.{lit}
 use Rattle.bs_encode.specs.Encoded.{Encoded}
@@ -13,8 +15,12 @@ signed [] bits = []
 signed (l ∷ ls) [] = []
 signed (l ∷ ls) (b ∷ bits) = lit l.variable b ∷ signed ls bits
 
--- a state whose register holds a signature, and perhaps an older one
-abbrev pub asking : List Bool → List Bool → Option (List Bool) → Present
+-- the same at the places where the bit is known
+abbrev pub signed_seen : List Literal → Seen → List Literal
+signed_seen ls seen = signed (kept seen.free ls) (kept seen.free seen.bits)
+
+-- a state, as far as it is known, whose register holds a signature, and perhaps an older one
+abbrev pub asking : Seen → List Bool → Option (List Bool) → Present
 asking present stored older = record { state = present; stored = stored ∷ option_to_list older }
 
 -- a signature that may be there has so many bits
@@ -32,11 +38,11 @@ abbrev pub older_assumed : Encoded → Option Literal → Option (List Bool) →
 older_assumed e None older = []
 older_assumed e (Some l) older = before_assumed e l older
 
--- what a step assumes: its activation literal, that the next state is the present one, that the signature is the last one stored, and what
+-- what a step assumes: its activation literal, that the next state shows the present one, that the signature is the last one stored, and what
 -- the older one says of the cycle before
 abbrev pub assumptions_for : Encoded → Literal → Present → Clause
 assumptions_for e activation q =
-    activation ∷ (signed e.next q.state ++ (signed e.signatures (slice_index_or q.stored 0 []) ++ older_assumed e e.link (slice_get q.stored 1)))
+    activation ∷ (signed_seen e.next q.state ++ (signed e.signatures (slice_index_or q.stored 0 []) ++ older_assumed e e.link (slice_get q.stored 1)))
 
 -- the state is another one
 abbrev pub block_for : Encoded → List Bool → Clause

@@ -7,9 +7,10 @@ use Rattle.bs_clause.specs.Range.{HasVariables}
 use Rattle.bs_log.specs.History.{Problem, activation_of}
 use Rattle.bs_log.specs.Refusal.{has_distinct_variables}
 use Rattle.bs_log.specs.Shown.{Shown}
-use Rattle.bs_net.specs.Circuit.{Circuit, Leads, next, reset_state}
+use Rattle.bs_seen.specs.Seen.{Shows}
+use Rattle.bs_net.specs.Circuit.{Circuit, next, reset_state}
 use Rattle.bs_scan.specs.Choice.{Chosen, depth_of}
-use Rattle.bs_scan.specs.Present.{Present}
+use Rattle.bs_scan.specs.Present.{Present, LeadsInto}
 use Rattle.bs_scan.specs.Signature.{signature, agrees}
 use Rattle.bs_encode.specs.declared.encoding.TheConstants.{MAX_ACTIVATIONS}
 use Rattle.bs_encode.specs.Encoded.{Encoded}
@@ -45,12 +46,12 @@ pub record IsTidy (c : Circuit) (choice : Chosen) (e : Encoded) : Type 0 where
   pub block_distinct : (state : List Bool) → has_distinct_variables (block_for e state) ≡ true
 
 -- In every problem over the encoding whose step number i, from 0, is that of a present, each state that agrees with what
--- the register holds there and leads to it is shown in this step.
+-- the register holds there and leads to one that shows it is shown in this step.
 abbrev pub PredecessorsAreShown : Circuit → Chosen → Encoded → Type 0
 PredecessorsAreShown c choice e =
     (p : Problem) (i : ℕ) (q : Present) (s x : List Bool) → p.vars ≡ e.variables → p.clauses ≡ e.clauses →
     slice_get p.steps i ≡ Some (assumptions_for e (activation_of p (i + 1)) q) →
-    length s ≡ length c.flops → length x ≡ length c.inputs → agrees c choice q.stored s ≡ true → next c s x ≡ q.state →
+    length s ≡ length c.flops → length x ≡ length c.inputs → agrees c choice q.stored s ≡ true → Shows q.state (next c s x) →
     Shown (record { problem = p; block = block_for e }) (length c.flops) (i + 1) s
 
 -- the state has this signature and leads to that state under the input
@@ -65,7 +66,7 @@ abbrev pub joins : (ℕ → Bool) → Option Literal → Bool
 joins value None = false
 joins value (Some l) = literal_value value l
 
--- The state agrees with what the register holds at the present and leads to it under the input. Where two signatures are kept and
+-- The state agrees with what the register holds at the present and leads to one that shows it under the input. Where two signatures are kept and
 -- the register holds one, it is the state at reset and the time frames are not joined; where it holds two, they are, and the other
 -- state, which has the older signature, leads to it.
 pub record IsPredecessor (c : Circuit) (choice : Chosen) (q : Present) (s x u y : List Bool) (joined : Bool) : Type 0 where
@@ -73,8 +74,8 @@ pub record IsPredecessor (c : Circuit) (choice : Chosen) (q : Present) (s x u y 
   pub input_width : length x ≡ length c.inputs
   pub signature : signature choice s ≡ slice_index_or q.stored 0 []
   pub agrees : agrees c choice q.stored s ≡ true
-  pub next : next c s x ≡ q.state
-  pub leads : Leads c s x q.state
+  pub next : Shows q.state (next c s x)
+  pub leads : LeadsInto c s x q.state
   pub alone : depth_of choice ≡ 1 → joined ≡ false
   pub first : depth_of choice ≡ 2 → slice_get q.stored 1 ≡ None → (joined ≡ false) × (s ≡ reset_state c)
   pub later : (older : List Bool) → depth_of choice ≡ 2 → slice_get q.stored 1 ≡ Some older → (joined ≡ true) × IsBefore c choice older s u y
@@ -83,7 +84,7 @@ pub record IsPredecessor (c : Circuit) (choice : Chosen) (q : Present) (s x u y 
 -- second time frame such ones of the cycle before.
 abbrev pub SolutionsArePredecessors : Circuit → Chosen → Encoded → Type 0
 SolutionsArePredecessors c choice e =
-    (value : ℕ → Bool) (activation : Literal) (q : Present) → length q.state ≡ length c.flops → 0 < length q.stored →
+    (value : ℕ → Bool) (activation : Literal) (q : Present) → length q.state.bits ≡ length c.flops → 0 < length q.stored →
     All (λ t. length t ≡ length choice.items) q.stored →
     All (Satisfies value) e.clauses → All (λ l. IsTrue (literal_value value l)) (assumptions_for e activation q) →
     IsPredecessor c choice q (bits_on value e.states) (bits_on value e.inputs) (bits_on value e.older_states) (bits_on value e.older_inputs)

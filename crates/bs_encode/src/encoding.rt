@@ -14,13 +14,14 @@ ghost use Rattle.bs_encode.specs.Depth.{IsLinkable, linked, linked_clauses, enco
 use crate::law::encodings_are_linkable;
 use crate::older::{Older, append, no_older, older_clauses, older_literals};
 use crate::parts::{add_gates, add_items, add_next, variable};
-use crate::signs::{push_all, push_denied, push_signed};
+use crate::signs::{push_all, push_denied, push_seen, push_signed};
 use crate::tidy::tidy;
 use crate::units::{add_units, constant_table, zero_nets};
 use bs_bits::Bits;
 use bs_clause::{Clauses, Lit, Lits, NoMemory, Var};
 use bs_net::{Flop, NetId, Netlist};
 use bs_scan::Choice;
+use bs_seen::Seen;
 use std::alloc::Global;
 use std::marker::Model;
 
@@ -548,25 +549,25 @@ impl Encoding {
         }
     }
 
-    /// What a step assumes: its activation literal, the next literals with the signs of the present state, and the signature literals
-    /// with the signs of the stored signature. Where there is a second time frame, also what it says of the cycle before: the link
+    /// What a step assumes: its activation literal, the next literals with the signs of the present state where it is known, and the
+    /// signature literals with the signs of the stored signature. Where there is a second time frame, also what it says of the cycle before: the link
     /// and the older signature, or the reset state and no link.
     pub fn assumptions(
         &self,
         alloc: Global,
         activation: Lit,
-        present: &Bits,
+        present: &Seen,
         stored: &Bits,
         older: Option<&Bits>,
     ) -> Result<Lits, NoMemory>
-        requires state { length present.now ≡ length self.now.next }
+        requires state { length present.now.bits ≡ length self.now.next }
         requires signature { length stored.now ≡ length self.now.signatures }
         requires older { AreWide (length self.now.older_signatures) (option_map (λ bits. bits.now) older) }
         ensures { IfOk result (λ l. l ≡ assumptions_for self.now activation (asking present.now stored.now (option_map (λ bits. bits.now) older.entry))) }
     {
         let mut all = Lits::new(alloc);
         all.push(activation)?;
-        push_signed(&mut all, self.next.slice(), present)?;
+        push_seen(&mut all, self.next.slice(), present)?;
         push_signed(&mut all, self.signatures.slice(), stored)?;
         if let Some(l) = self.older.link {
             self.push_before(&mut all, l, older)?;

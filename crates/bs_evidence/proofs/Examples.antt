@@ -2,6 +2,7 @@
 use Rattle.std.proofs.Common.{◌≡◌, ℕ, zero, suc, true, false, List, [], ◌∷◌, refl, take, arith, Some, None}
 use Rattle.std.specs.Prelude.{codes, slice_get}
 use Rattle.std.specs.Fmt.{digits}
+use Rattle.bs_seen.specs.Seen.{whole}
 use Rattle.bs_clause.specs.Literal.{Literal}
 use Rattle.bs_log.specs.declared.line.Line.{Line}
 use Rattle.bs_log.specs.declared.line.Line.TheVariants.{Solve, Lemma, Finish, Retire}
@@ -31,7 +32,7 @@ shift =
 
 -- from 00 to 11 in two cycles, and not in one
 abbrev shifted : Problem
-shifted = reach_problem shift (false ∷ false ∷ []) 2 (true ∷ true ∷ []) 2
+shifted = reach_problem shift (false ∷ false ∷ []) 2 (whole (true ∷ true ∷ [])) 2
 
 abbrev shift_log : List Line
 shift_log = Solve ∷ Lemma 15 (non 5 ∷ []) (3 ∷ 9 ∷ []) ∷ Finish 15 ∷ Retire 16 ∷ Solve ∷ Retire 17 ∷ []
@@ -55,7 +56,7 @@ kept = unsigned ((non 2 ∷ yes 1 ∷ []) ∷ (yes 2 ∷ non 1 ∷ []) ∷ []) 2
 
 -- from 0 never to 1
 abbrev stuck : Problem
-stuck = reach_problem kept (false ∷ []) 3 (true ∷ []) 3
+stuck = reach_problem kept (false ∷ []) 3 (whole (true ∷ [])) 3
 
 abbrev stuck_log : List Line
 stuck_log =
@@ -83,7 +84,7 @@ wrong_hints : first_refused shifted (Solve ∷ Lemma 15 (non 5 ∷ []) (3 ∷ []
 wrong_hints = refl
 
 -- a log of one length more than were tried
-one_length_more : first_refused (reach_problem shift (false ∷ false ∷ []) 2 (true ∷ true ∷ []) 1) shift_log ≡ Some (5, Order)
+one_length_more : first_refused (reach_problem shift (false ∷ false ∷ []) 2 (whole (true ∷ true ∷ [])) 1) shift_log ≡ Some (5, Order)
 one_length_more = refl
 
 -- the length in which the state is reached has no finish line

@@ -15,7 +15,7 @@ use Rattle.bs_evidence.specs.declared.flaw.Flaw.TheVariants as flaws
 use Rattle.bs_evidence.specs.Evidence.{is_wide, is_held, has_signatures, is_fit, misfit_of, IsMisfit, Suits}
 
 fit_of_none : (flops items depth number : ℕ) (step : Step) → misfit_of flops items depth number step ≡ None → is_fit flops items depth step ≡ true
-fit_of_none flops items depth number step = by (eqb (length step.present) flops) (has_signatures items depth step)
+fit_of_none flops items depth number step = by (eqb (length step.present.bits) flops) (has_signatures items depth step)
   where
     by : (a b : Bool) → cond a (cond b None (Some (flaws.Stored number))) (Some (flaws.Present number)) ≡ None → (a && b) ≡ true
     by true true e = refl
@@ -59,10 +59,10 @@ pub fits_suit : (c : Circuit) (choice : Chosen) (e : Encoded) (steps : List Step
 fits_suit c choice e steps kept tidy all =
     All-weaker (λ step. IsTrue (is_fit (length c.flops) (length choice.items) (depth_of choice) step)) (Suits e)
     (λ step fit.
-    let parts = and_parts (eqb (length step.present) (length c.flops)) (has_signatures (length choice.items) (depth_of choice) step) fit in
+    let parts = and_parts (eqb (length step.present.bits) (length c.flops)) (has_signatures (length choice.items) (depth_of choice) step) fit in
     let held = and_parts (eqb (length step.stored) (length choice.items)) (is_held (length choice.items) (depth_of choice) step.older) parts.1 in
     record {
-      present = eqb-true (length step.present) (length c.flops) parts.0 ∙ sym tidy.next_width;
+      present = eqb-true (length step.present.bits) (length c.flops) parts.0 ∙ sym tidy.next_width;
       stored = eqb-true (length step.stored) (length choice.items) held.0 ∙ sym tidy.signatures_width;
       older = held_suits c choice e step.older kept tidy held.1;
     }) steps all

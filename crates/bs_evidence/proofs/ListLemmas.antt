@@ -15,6 +15,7 @@ use Rattle.bs_log_dimacs.proofs.Right.{whole_proofs_are_right, accepted_is_unmet
 use Rattle.bs_log_dimacs.proofs.Unlisted.{unlisted_meets_whole}
 use Rattle.bs_net.specs.Circuit.{Circuit, next}
 use Rattle.bs_scan.specs.Choice.{Chosen}
+use Rattle.bs_seen.specs.Seen.{whole, Shows}
 use Rattle.bs_scan.specs.Present.{Present}
 use Rattle.bs_scan.specs.Signature.{agrees}
 use Rattle.bs_encode.specs.Tables.{lit}
@@ -28,7 +29,7 @@ use Rattle.bs_evidence.specs.Evidence.{IsListedBlock, UnlistedAreShown, AllUnlis
 -- a state that leads to a present is shown in its step
 shown_in : (c : Circuit) (choice : Chosen) → PredecessorsAreShown c choice (encoding_by c choice) → (presents : List Present) (step : ℕ) (q : Present)
     (s x : List Bool) → 1 ≤ step → slice_get presents (step - 1) ≡ Some q → length s ≡ length c.flops → length x ≡ length c.inputs →
-    agrees c choice q.stored s ≡ true → next c s x ≡ q.state → Shown (basis_of c choice presents) (length c.flops) step s
+    agrees c choice q.stored s ≡ true → Shows q.state (next c s x) → Shown (basis_of c choice presents) (length c.flops) step s
 shown_in c choice shows presents step q s x low at ws wx agree next =
     let e : Encoded = encoding_by c choice in
     let basis : Basis = basis_of c choice presents in
@@ -82,7 +83,7 @@ module _ (c : Circuit) (choice : Chosen) (tidy : IsTidy c choice (encoding_by c 
   led_by : (step : ℕ) (o : Option Present) → slice_get presents (step - 1) ≡ o → 1 ≤ step → step ≤ length p.steps → IsLed p step
   led_by step None none low high =
       let many = length_steps_from (encoding_by c choice) 1 presents in
-      let other : Present = record { state = []; stored = [] } in
+      let other : Present = record { state = whole []; stored = [] } in
       let lost : None ≡ Some (get_or presents (step - 1) other) = sym none ∙ slice_get-get_or presents (step - 1) other (omega (arith, many, low, high)) in
       absurd (cc)
   led_by step (Some q) at low high =

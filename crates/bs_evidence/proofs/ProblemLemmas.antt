@@ -59,7 +59,7 @@ asked_shown kind c choice r asked (Err e) there is = tt
 
 no_other : (flops items depth number : ℕ) (step : Step) (flaw : Flaw) → misfit_of flops items depth number step ≡ Some flaw →
     (flaw ≡ flaws.Present number) ⊎ (flaw ≡ flaws.Stored number)
-no_other flops items depth number step flaw = by (eqb (length step.present) flops) (has_signatures items depth step)
+no_other flops items depth number step flaw = by (eqb (length step.present.bits) flops) (has_signatures items depth step)
   where
     by : (a b : Bool) → cond a (cond b None (Some (flaws.Stored number))) (Some (flaws.Present number)) ≡ Some flaw →
         (flaw ≡ flaws.Present number) ⊎ (flaw ≡ flaws.Stored number)

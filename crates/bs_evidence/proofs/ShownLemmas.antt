@@ -7,6 +7,7 @@ use Rattle.std.specs.List.{AllByRecursion as Each}
 use Rattle.std.proofs.lemmas.Bool.{eq-eqb, ne_eqb, false≢true}
 use Rattle.std.proofs.lemmas.List.{take-append-drop}
 use Rattle.std.proofs.lemmas.List.Elements.{All-nil, All-cons, All-from_recursion, recursion_from_All}
+use Rattle.bs_seen.specs.declared.seen.Seen.{Seen}
 use Rattle.bs_clause.specs.Literal.{Literal, Clause, literal_value, negation, Satisfies}
 use Rattle.bs_net.specs.Circuit.{Circuit, reset_state}
 use Rattle.bs_log.specs.History.{Problem, History, activation_of}
@@ -25,7 +26,7 @@ use Rattle.bs_encode.specs.Cycle.{EncodesCycles}
 use Rattle.bs_encode.specs.Tables.{lit}
 use Rattle.bs_encode.specs.Transition.{variables}
 use Rattle.bs_encode.specs.Encoded.{Encoded, encoding_of}
-use Rattle.bs_encode.specs.Assuming.{signed}
+use Rattle.bs_encode.specs.Assuming.{signed_seen}
 use Rattle.bs_reach_unrolled.specs.declared.limits.TheConstants.{MAX_FRAME_VARIABLES}
 use Rattle.bs_reach_unrolled.specs.Execution.{ReachedIn, IsExecution}
 use Rattle.bs_reach_unrolled.specs.Room.{IsUnrollable}
@@ -65,7 +66,7 @@ abbrev basis_for : Problem → Basis
 basis_for q = record { problem = q; block = λ t. [] }
 
 -- where the state is reached in a length that was tried, the step of the length shows it
-shown_in : (c : Circuit) → ReachedIsShown c (encoding_of c []) → (p : List Bool) (r : Reach) (j : ℕ) → HasAnswerText r → HasTried r j → ReachedIn c j p →
+shown_in : (c : Circuit) → ReachedIsShown c (encoding_of c []) → (p : Seen) (r : Reach) (j : ℕ) → HasAnswerText r → HasTried r j → ReachedIn c j p →
     Shown (basis_for (problem_for c p r)) 0 j []
 shown_in c shows p r j text tried reached =
     let e : Encoded = encoding_of c [] in
@@ -79,7 +80,7 @@ shown_in c shows p r j text tried reached =
     let v : ℕ → Bool = s.value in
     let on : v (base + j) ≡ true = s.above (base + j) (omega (arith, low)) ∙ eq-eqb (base + j) (base + j) refl in
     let assumed : All (λ l. IsTrue (literal_value v l)) (length_assumes e k p j) =
-    All-cons (λ l. IsTrue (literal_value v l)) (lit (base + j) true) (signed (next_at e (j - 1)) p) (ap (λ b. beq b true) on) s.next in
+    All-cons (λ l. IsTrue (literal_value v l)) (lit (base + j) true) (signed_seen (next_at e (j - 1)) p) (ap (λ b. beq b true) on) s.next in
     record {
       value = v;
       clauses = s.clauses;
@@ -93,7 +94,7 @@ shown_in c shows p r j text tried reached =
     }
 
 -- the length is a step of the problem
-last_in : (c : Circuit) (p : List Bool) (r : Reach) (j : ℕ) → HasTried r j → j ≤ length (problem_for c p r).steps
+last_in : (c : Circuit) (p : Seen) (r : Reach) (j : ℕ) → HasTried r j → j ≤ length (problem_for c p r).steps
 last_in c p r j tried =
     let many = steps_count (encoding_of c []) (reset_state c) r.asked p (tried_of r.asked r.outcome) in
     let high = tried.1 in
@@ -145,7 +146,7 @@ met_is_reached c executions p r j place v wide text tried met =
     subst (λ (a : Clause). Each (λ l. IsTrue (literal_value v l)) a) (assumed_at e (reset_state c) k p count j low high) assumed in
     let run : IsExecution c j p (states_shown e v j) (inputs_shown e v j) =
     executions k j v p low (omega (arith, high, fit)) all
-    (All-from_recursion (λ l. IsTrue (literal_value v l)) (signed (next_at e (j - 1)) p) next.1) wide in
+    (All-from_recursion (λ l. IsTrue (literal_value v l)) (signed_seen (next_at e (j - 1)) p) next.1) wide in
     record { inputs = inputs_shown e v j; count = run.count; widths = run.widths; ends = run.ends }
 
 -- ---- a finished length
@@ -161,7 +162,7 @@ finished_is_unmet_in c p r j place id v tried ok fin met =
     let q : Problem = problem_for c p r in
     finished_is_unmet q r.log j place id v ok fin
     (subst (λ (a : Clause). Contains a (activation_of q j)) (sym (assumed_at e (reset_state c) k p count j tried.0 tried.1))
-    (first_stands (activation_of q j) (signed (next_at e (j - 1)) p))) met
+    (first_stands (activation_of q j) (signed_seen (next_at e (j - 1)) p))) met
 
 -- ---- all finished lengths
 
@@ -180,7 +181,7 @@ reached_meets_all c shows p r j text tried finished reached =
     })
 
 -- each step assumes its activation literal first, and no variable twice
-led_in : (c : Circuit) → EncodesCycles c → (p : List Bool) (r : Reach) → HasAnswerText r → r.asked * variables c [] ≤ MAX_FRAME_VARIABLES →
+led_in : (c : Circuit) → EncodesCycles c → (p : Seen) (r : Reach) → HasAnswerText r → r.asked * variables c [] ≤ MAX_FRAME_VARIABLES →
     AreLed (problem_for c p r)
 led_in c cycles p r text room =
     let e : Encoded = encoding_of c [] in
@@ -196,7 +197,7 @@ led_in c cycles p r text room =
           assumed_at e (reset_state c) k p count step low (omega (arith, high, many)) in
           let back : step - 1 + 1 ≡ step = omega (arith, low) in
           record {
-            rest = signed (next_at e (step - 1)) p;
+            rest = signed_seen (next_at e (step - 1)) p;
             is = is;
             distinct =
                 ap has_distinct_variables is

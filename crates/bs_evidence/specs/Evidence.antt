@@ -3,6 +3,7 @@ use Rattle.std.specs.Prelude.{◌≡◌, ◌≢◌, ◌⊎◌, ℕ, ◌+◌, ◌
 use Rattle.std.specs.Prelude.{Bool, true, false, ◌==◌, ◌&&◌, nat_lt, nat_le, if◌then◌else◌, is_none, is_some, IsTrue, IfSome}
 use Rattle.std.specs.List.{list_all}
 use Rattle.bs_clause.specs.Literal.{Literal, Clause, negation, Satisfies}
+use Rattle.bs_seen.specs.Seen as seen
 use Rattle.bs_net.specs.Circuit.{Circuit, next}
 use Rattle.bs_scan.specs.Choice.{Chosen, depth_of}
 use Rattle.bs_scan.specs.Present.{Present}
@@ -49,12 +50,12 @@ has_signatures items depth step = (length step.stored == items) && is_held items
 
 -- the present state and the signatures have the widths
 abbrev pub is_fit : (flops items depth : ℕ) → Step → Bool
-is_fit flops items depth step = (length step.present == flops) && has_signatures items depth step
+is_fit flops items depth step = (length step.present.bits == flops) && has_signatures items depth step
 
 -- why a step, counted from 1, does not fit
 abbrev pub misfit_of : (flops items depth number : ℕ) → Step → Option Flaw
 misfit_of flops items depth number step =
-    if length step.present == flops then (if has_signatures items depth step then None else Some (flaws.Stored number)) else Some (flaws.Present number)
+    if length step.present.bits == flops then (if has_signatures items depth step then None else Some (flaws.Stored number)) else Some (flaws.Present number)
 
 -- this is so of one of the steps
 pub record IsMisfit (flops items depth : ℕ) (steps : List Step) (flaw : Flaw) : Type 0 where
@@ -65,7 +66,7 @@ pub record IsMisfit (flops items depth : ℕ) (steps : List Step) (flaw : Flaw) 
 
 -- the same against an encoding's literals
 pub record Suits (e : Encoded) (step : Step) : Type 0 where
-  pub present : length step.present ≡ length e.next
+  pub present : length step.present.bits ≡ length e.next
   pub stored : length step.stored ≡ length e.signatures
   pub older : AreWide (length e.older_signatures) step.older
 
@@ -197,13 +198,13 @@ pub record IsListedBlock (activation : Literal) (block : List Bool → Clause) (
   pub is : c ≡ negation activation ∷ block state
 
 -- Where each block of a step is that of a listed state, a state that is not listed, agrees with the stored signatures and leads to
--- the present one gives an assignment that meets the step's clauses: who refutes them has shown that the list is complete.
+-- one that shows the present one gives an assignment that meets the step's clauses: who refutes them has shown that the list is complete.
 abbrev pub UnlistedAreShown : Circuit → Chosen → Type 0
 UnlistedAreShown c choice =
     (presents : List Present) (step : ℕ) (q : Present) (h : History) (states : List (List Bool)) (s x : List Bool) →
     1 ≤ step → slice_get presents (step - 1) ≡ Some q → All (λ t. length t ≡ length c.flops) states →
     All (IsListedBlock (activation_of (basis_of c choice presents).problem step) (block_for (encoding_by c choice)) states) (blocks_of h step) →
-    ¬ Contains states s → length s ≡ length c.flops → length x ≡ length c.inputs → agrees c choice q.stored s ≡ true → next c s x ≡ q.state →
+    ¬ Contains states s → length s ≡ length c.flops → length x ≡ length c.inputs → agrees c choice q.stored s ≡ true → seen.Shows q.state (next c s x) →
     (v : ℕ → Bool) × All (Satisfies v) (cnf_of (basis_of c choice presents).problem h step)
 
 -- The same over the clauses of all finished lists, where the step is one of them and the blocks of the other steps have the literals that turn
@@ -214,7 +215,7 @@ AllUnlistedAreShown c choice =
     1 ≤ step → slice_get presents (step - 1) ≡ Some q → IsTrue (is_some (finish_of h step)) → All (λ t. length t ≡ length c.flops) states →
     All (IsListedBlock (activation_of (basis_of c choice presents).problem step) (block_for (encoding_by c choice)) states) (blocks_of h step) →
     OthersAreGuarded (basis_of c choice presents).problem h step →
-    ¬ Contains states s → length s ≡ length c.flops → length x ≡ length c.inputs → agrees c choice q.stored s ≡ true → next c s x ≡ q.state →
+    ¬ Contains states s → length s ≡ length c.flops → length x ≡ length c.inputs → agrees c choice q.stored s ≡ true → seen.Shows q.state (next c s x) →
     (v : ℕ → Bool) × All (Satisfies v) (whole_cnf_of (basis_of c choice presents).problem h)
 
 -- The proof of all finished lists of an accepted log over an encoding is right, line by line up to the empty clause, and so nothing meets

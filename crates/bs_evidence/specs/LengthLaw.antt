@@ -1,5 +1,6 @@
 -- What the clauses of a length show.
 use Rattle.std.specs.Prelude.{◌≡◌, ◌*◌, ◌≤◌, ℕ, Bool, List, [], length, take, All, is_some, IsTrue}
+use Rattle.bs_seen.specs.declared.seen.Seen.{Seen}
 use Rattle.bs_clause.specs.Literal.{Satisfies}
 use Rattle.bs_net.specs.Circuit.{Circuit}
 use Rattle.bs_log.specs.Refusal.{IsAccepted, history_of}
@@ -19,19 +20,19 @@ use Rattle.bs_evidence.specs.Lengths.{problem_for, HasTried}
 -- log: who refutes them has shown that it is not.
 abbrev pub ReachedMeets : Circuit → Type 0
 ReachedMeets c =
-    (p : List Bool) (r : Reach) (j place : ℕ) → HasAnswerText r → HasTried r j → ReachedIn c j p →
+    (p : Seen) (r : Reach) (j place : ℕ) → HasAnswerText r → HasTried r j → ReachedIn c j p →
     (v : ℕ → Bool) × All (Satisfies v) (cnf_of (problem_for c p r) (history_of (take place r.log)) j)
 
 -- And an assignment that meets them shows that it is reached in this length.
 abbrev pub MetIsReached : Circuit → Type 0
 MetIsReached c =
-    (p : List Bool) (r : Reach) (j place : ℕ) (v : ℕ → Bool) → length p ≡ length c.flops → HasAnswerText r → HasTried r j →
+    (p : Seen) (r : Reach) (j place : ℕ) (v : ℕ → Bool) → length p.bits ≡ length c.flops → HasAnswerText r → HasTried r j →
     All (Satisfies v) (cnf_of (problem_for c p r) (history_of (take place r.log)) j) → ReachedIn c j p
 
 -- Nothing meets the clauses of a length that an accepted log finishes.
 abbrev pub FinishedIsUnmet : Circuit → Type 0
 FinishedIsUnmet c =
-    (p : List Bool) (r : Reach) (j place id : ℕ) (v : ℕ → Bool) → HasTried r j → IsAccepted (problem_for c p r) r.log → IsFinishAt r.log j place id →
+    (p : Seen) (r : Reach) (j place id : ℕ) (v : ℕ → Bool) → HasTried r j → IsAccepted (problem_for c p r) r.log → IsFinishAt r.log j place id →
     All (Satisfies v) (cnf_of (problem_for c p r) (history_of (take place r.log)) j) → ⊥
 
 -- ---- all lengths that a log finishes
@@ -39,12 +40,12 @@ FinishedIsUnmet c =
 -- Where the state is reached in one of them, an assignment meets their clauses.
 abbrev pub ReachedMeetsAll : Circuit → Type 0
 ReachedMeetsAll c =
-    (p : List Bool) (r : Reach) (j : ℕ) → HasAnswerText r → HasTried r j → IsTrue (is_some (finish_of (history_of r.log) j)) → ReachedIn c j p →
+    (p : Seen) (r : Reach) (j : ℕ) → HasAnswerText r → HasTried r j → IsTrue (is_some (finish_of (history_of r.log) j)) → ReachedIn c j p →
     (v : ℕ → Bool) × All (Satisfies v) (whole_cnf_of (problem_for c p r) (history_of r.log))
 
 -- The proof of an accepted log is right over their clauses, line by line up to the empty clause, and so nothing meets them.
 pub record AnswerProofsAreRight (c : Circuit) : Type 0 where
-  pub right : (p : List Bool) (r : Reach) → HasAnswerText r → r.asked * variables c [] ≤ MAX_FRAME_VARIABLES → IsAccepted (problem_for c p r) r.log →
+  pub right : (p : Seen) (r : Reach) → HasAnswerText r → r.asked * variables c [] ≤ MAX_FRAME_VARIABLES → IsAccepted (problem_for c p r) r.log →
       IsRefutation (whole_cnf_of (problem_for c p r) (history_of r.log)) (whole_proof_of (problem_for c p r) (history_of r.log))
-  pub unmet : (p : List Bool) (r : Reach) (v : ℕ → Bool) → HasAnswerText r → r.asked * variables c [] ≤ MAX_FRAME_VARIABLES →
+  pub unmet : (p : Seen) (r : Reach) (v : ℕ → Bool) → HasAnswerText r → r.asked * variables c [] ≤ MAX_FRAME_VARIABLES →
       IsAccepted (problem_for c p r) r.log → All (Satisfies v) (whole_cnf_of (problem_for c p r) (history_of r.log)) → ⊥

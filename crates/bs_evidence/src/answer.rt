@@ -24,6 +24,7 @@ use bs_log::Log;
 use bs_net::Netlist;
 use bs_reach::{Outcome, Reach};
 use bs_reach_unrolled::{netlists_unroll, unroll};
+use bs_seen::Seen;
 use std::alloc::Global;
 
 /// How many lengths from 1 on were tried, where so many were asked for.
@@ -43,7 +44,7 @@ fn clauses_evidence(
     kind: Format,
     encoding: &Encoding,
     clauses: &Clauses,
-    state: &Bits,
+    state: &Seen,
     log: &Log,
     _reset: &Bits,
     k: u32,
@@ -52,7 +53,7 @@ fn clauses_evidence(
 ) -> Result<Evidence, NoMemory>
     requires unrollable { IsUnrollable encoding.now k }
     requires clauses { clauses.now ≡ unrolled encoding.now _reset.now k }
-    requires width { length encoding.now.next ≡ length state.now }
+    requires width { length encoding.now.next ≡ length state.now.bits }
     requires there { IfSome asked (IsOneOf count) }
     requires within { count ≤ k }
     ensures { IfOk result (IsLogEvidence kind (reach_problem encoding.now _reset.now k state.now count) log.now asked) }
@@ -95,7 +96,7 @@ fn unrolled_evidence(
     alloc: Global,
     kind: Format,
     encoding: &Encoding,
-    state: &Bits,
+    state: &Seen,
     log: &Log,
     reset: &Bits,
     k: u32,
@@ -104,7 +105,7 @@ fn unrolled_evidence(
 ) -> Result<Evidence, NoMemory>
     requires unrollable { IsUnrollable encoding.now k }
     requires starts { length encoding.now.states ≡ length reset.now }
-    requires width { length encoding.now.next ≡ length state.now }
+    requires width { length encoding.now.next ≡ length state.now.bits }
     requires there { IfSome asked (IsOneOf count) }
     requires within { count ≤ k }
     ensures { IfOk result (IsLogEvidence kind (reach_problem encoding.now reset.now k state.now count) log.now asked) }
@@ -127,14 +128,14 @@ fn encoded_evidence(
     kind: Format,
     net: &Netlist,
     encoding: &Encoding,
-    state: &Bits,
+    state: &Seen,
     log: &Log,
     k: u32,
     count: u32,
     asked: Option<u64>,
 ) -> Result<Evidence, NoMemory>
     requires encoded { encoding.now ≡ encoding_of (circuit net.now) [] }
-    requires width { length state.now ≡ length (circuit net.now).flops }
+    requires width { length state.now.bits ≡ length (circuit net.now).flops }
     requires most { k ≤ MAX_FRAMES }
     requires room { k * variables (circuit net.now) [] ≤ MAX_FRAME_VARIABLES }
     requires there { IfSome asked (IsOneOf count) }
@@ -161,13 +162,13 @@ fn tried_evidence(
     alloc: Global,
     kind: Format,
     net: &Netlist,
-    state: &Bits,
+    state: &Seen,
     log: &Log,
     k: u32,
     count: u32,
     asked: Option<u64>,
 ) -> Result<Evidence, NoMemory>
-    requires width { length state.now ≡ length (circuit net.now).flops }
+    requires width { length state.now.bits ≡ length (circuit net.now).flops }
     requires most { k ≤ MAX_FRAMES }
     requires room { k * variables (circuit net.now) [] ≤ MAX_FRAME_VARIABLES }
     requires there { IfSome asked (IsOneOf count) }
@@ -191,11 +192,11 @@ fn answer_evidence(
     alloc: Global,
     kind: Format,
     net: &Netlist,
-    state: &Bits,
+    state: &Seen,
     answer: &Reach,
     asked: Option<u64>,
 ) -> Result<Evidence, NoMemory>
-    requires width { length state.now ≡ length (circuit net.now).flops }
+    requires width { length state.now.bits ≡ length (circuit net.now).flops }
     requires most { answer.now.asked ≤ MAX_FRAMES }
     requires room { answer.now.asked * variables (circuit net.now) [] ≤ MAX_FRAME_VARIABLES }
     requires there { HasAsked answer.now asked }
@@ -224,11 +225,11 @@ pub fn evidence_of(
     alloc: Global,
     kind: Format,
     net: &Netlist,
-    state: &Bits,
+    state: &Seen,
     answer: &Reach,
     asked: Option<u64>,
 ) -> Result<Evidence, NoMemory>
-    requires width { length state.now ≡ length (circuit net.now).flops }
+    requires width { length state.now.bits ≡ length (circuit net.now).flops }
     requires text { HasAnswerText answer.now }
     requires room { answer.now.asked * variables (circuit net.now) [] ≤ MAX_FRAME_VARIABLES }
     ensures { IfOk result (IsEvidence kind (circuit net.now) state.now answer.now asked) }

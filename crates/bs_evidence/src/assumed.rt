@@ -51,7 +51,7 @@ fn assumed(
     activation: Lit,
     step: &Step,
 ) -> Result<Lits, NoMemory>
-    requires present { length step.now.present ≡ length encoding.now.next }
+    requires present { length step.now.present.bits ≡ length encoding.now.next }
     requires stored { length step.now.stored ≡ length encoding.now.signatures }
     requires older { AreWide (length encoding.now.older_signatures) step.now.older }
     ensures { IfOk result (λ l. l ≡ assumptions_for encoding.now activation (present_of step.now)) }

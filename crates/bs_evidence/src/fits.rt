@@ -38,7 +38,7 @@ fn has_signatures(items: usize, depth: u8, step: &Step) -> bool
 fn misfit_of(flops: usize, items: usize, depth: u8, number: u64, step: &Step) -> Option<Flaw>
     ensures { result ≡ misfit_of flops items depth number step.now }
 {
-    if step.present.len() != flops {
+    if step.present.bits.len() != flops {
         return Some(Flaw::Present(number));
     }
     if has_signatures(items, depth, step) {

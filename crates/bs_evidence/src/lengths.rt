@@ -5,10 +5,11 @@ ghost use Rattle.bs_encode.specs.Tables.{lit};
 ghost use Rattle.bs_reach_unrolled.specs.Room.{IsUnrollable};
 ghost use Rattle.bs_reach_unrolled.specs.Unrolled.{length_assumes};
 
-use bs_bits::{Bits, List, NoMemory};
+use bs_bits::{List, NoMemory};
 use bs_clause::{Lit, Lits, Var};
 use bs_encode::Encoding;
 use bs_reach_unrolled::assume_length;
+use bs_seen::Seen;
 use std::alloc::Global;
 
 /// The activation literal of a step, counted from 0, above so many variables.
@@ -24,13 +25,13 @@ fn activation_of(vars: u32, c: u32) -> Lit
 fn assumed(
     alloc: Global,
     encoding: &Encoding,
-    state: &Bits,
+    state: &Seen,
     k: u32,
     c: u32,
 ) -> Result<Lits, NoMemory>
     requires unrollable { IsUnrollable encoding.now k }
     requires within { c < k }
-    requires width { length encoding.now.next ≡ length state.now }
+    requires width { length encoding.now.next ≡ length state.now.bits }
     ensures { IfOk result (λ l. l ≡ length_assumes encoding.now k state.now (c + 1)) }
 {
     let activation = activation_of(k * encoding.vars(), c);
@@ -42,13 +43,13 @@ fn assumed(
 pub fn assumptions(
     alloc: Global,
     encoding: &Encoding,
-    state: &Bits,
+    state: &Seen,
     k: u32,
     count: u32,
 ) -> Result<List<Lits>, NoMemory>
     requires unrollable { IsUnrollable encoding.now k }
     requires within { count ≤ k }
-    requires width { length encoding.now.next ≡ length state.now }
+    requires width { length encoding.now.next ≡ length state.now.bits }
     ensures { IfOk result (λ l. l ≡ map (length_assumes encoding.now k state.now) (range_with_len 1 count)) }
 {
     let mut all = List::new(alloc);

@@ -1,4 +1,3 @@
-pub mod DrawLemmas
 pub mod EachLemmas
 pub mod LineLemmas
 pub mod Examples

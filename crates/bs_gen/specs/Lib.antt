@@ -1,4 +1,3 @@
-pub mod Draws
 pub mod Each
 pub mod Names
 pub mod Gates

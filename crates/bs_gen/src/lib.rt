@@ -1,12 +1,11 @@
 //! The generated job of a number: a netlist, a signature and a stimulus, drawn from one generator.
 //!
-//! Modules: `draws` (the generator), `names` (nets, and the pool's members by number), `gates`,
-//! `flops`, `stimulus` (a function a line), `job` (`make`). Used above: the clauses `netlist`,
+//! Modules: `names` (nets, and the pool's members by number), `gates`, `flops`, `stimulus` (a function a line),
+//! `job` (`make`). It draws by bs_draws. Used above: the clauses `netlist`,
 //! `signature` and `stimulus` of `make`. A line: its definition in specs and the function of the
 //! same name (docs/FORMATS.md, "The generated job").
 #![tactic(auto)]
 
-mod draws;
 mod flops;
 mod gates;
 mod job;

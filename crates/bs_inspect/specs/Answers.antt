@@ -10,8 +10,8 @@ use Rattle.bs_top_plan.specs.Plan.{Tells, Counts, Plan}
 use Rattle.bs_top_plan.specs.Clauses.{Answered, AnsweredAsTold, AnsweredWhole, CallByCall, CallsWanting, IsCalm, IsWordsOnlyFor, ReadFaultOf, RefusesFirstOf}
 use Rattle.bs_top_files.specs.Refusals.{Case, CheckSays}
 use Rattle.bs_inspect_words.specs.Request.{request_of}
-use Rattle.bs_inspect.specs.Work.{Work, plan_of}
-use Rattle.bs_inspect.specs.Finishes.{finishes}
+use Rattle.bs_inspect_plans.specs.Work.{Work, plan_of}
+use Rattle.bs_inspect_plans.specs.Finishes.{finishes}
 
 -- the plan of what words ask, if they ask something
 abbrev pub planned : List (List ℕ) → Option (Plan Case Work)

@@ -1,8 +1,2 @@
-pub mod Usage
-pub mod Asked
-pub mod Work
-pub mod Sources
-pub mod Finishes
-pub mod Said
 pub mod Answers
 pub mod Program

@@ -16,9 +16,9 @@ use Rattle.bs_top_answer.specs.Said.{CallNoted, PutsNote}
 use Rattle.bs_top_files.specs.Refusals.{CheckSays}
 use Rattle.bs_inspect_usages.specs.Usages.{memory_text, unread_text}
 use Rattle.bs_inspect.specs.Answers.{AnswersWords, planned}
-use Rattle.bs_inspect.specs.Finishes.{finishes}
+use Rattle.bs_inspect_plans.specs.Finishes.{finishes}
 use Rattle.bs_inspect_words.specs.Request.{request_of}
-use Rattle.bs_inspect.specs.Said.{WordsSaid}
+use Rattle.bs_inspect_plans.specs.Said.{WordsSaid}
 
 -- The exit code is that of an answer to the words, and what is said is the note on that answer: each further part is the clause of
 -- `inspect_noted` of that name.

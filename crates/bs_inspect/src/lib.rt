@@ -1,19 +1,16 @@
-//! The call of the program that tells about a job's files: the plan of each request, what is answered and written when it is done, and
-//! the note on that for a person.
+//! The call of the program that tells about a job's files: what is answered and written for its words, and the note on that for a person.
 //!
-//! Modules: `usage`, `telling` (what is told, as a reply), `sources` (the names of the files, for notes), `asking` (the answer to
-//! each request), `top` (`inspect_noted`), `program` (up to the exit code). Used above:
-//! `AnswersWords` (`specs/Answers`): the clauses that `backspace` has, over `plan_of` (`specs/Work`) and `finishes`
-//! (`specs/Finishes`); and `CallNoted` over `WordsSaid` (`specs/Said`). A command: a request (bs_inspect_words), an arm in each of
-//! these and in `request_answer`, its reply in `telling`, and a line of `usages` (bs_inspect_usages).
+//! Modules: `telling` (how words stand, and the version), `asking` (the answer to each request), `top` (`inspect_noted`),
+//! `program` (up to the exit code). Used above: `AnswersWords` (`specs/Answers`): the clauses that `backspace` has, over `plan_of` and
+//! `finishes` (bs_inspect_plans); and `CallNoted` over `WordsSaid` (there). A command: a request (bs_inspect_words), an arm in each
+//! definition of bs_inspect_plans, its answer in bs_inspect_report_requests or bs_inspect_netlist_requests, an arm in `request_answer`, and
+//! a line of `usages` (bs_inspect_usages).
 #![tactic(auto)]
 
 mod asking;
 mod program;
-mod sources;
 mod telling;
 mod top;
-mod usage;
 
 pub use program::run_program;
 pub use top::inspect_noted;

@@ -13,9 +13,9 @@ ghost use Rattle.bs_inspect_words.specs.Asked.{shown_request};
 ghost use Rattle.bs_inspect_words.specs.Request.{request_of};
 ghost use Rattle.bs_inspect_usages.specs.Usages.{memory_text, words_text};
 ghost use Rattle.bs_inspect.specs.Answers.{planned};
-ghost use Rattle.bs_inspect.specs.Finishes.{finishes};
-ghost use Rattle.bs_inspect.specs.Said.{WordsSaid};
-ghost use Rattle.bs_inspect.specs.Work.{plan_of};
+ghost use Rattle.bs_inspect_plans.specs.Finishes.{finishes};
+ghost use Rattle.bs_inspect_plans.specs.Said.{WordsSaid};
+ghost use Rattle.bs_inspect_plans.specs.Work.{plan_of};
 
 use crate::asking::request_answer;
 use bs_inspect_usages::words_note;

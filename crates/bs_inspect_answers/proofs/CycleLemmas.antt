@@ -1,5 +1,6 @@
 -- What a walk made ready has as many cycles as were asked for.
 use Rattle.std.proofs.Common.{◌≡◌, inl, inr, ℕ, Bool, List, Result, Ok, Err, ap}
+use Rattle.bs_seen.specs.declared.seen.Seen.{Seen}
 use Rattle.bs_net.specs.Parts.{Parts}
 use Rattle.bs_outside.specs.Calls.{FetchCall}
 use Rattle.bs_top_plan.specs.declared.file.File.TheVariants as files
@@ -18,13 +19,13 @@ cycles_in (ready t) = t.cycles
 cycles_in (refused file why) = 0
 cycles_in (faulted file) = 0
 
-of_sized : (told : Tells) (before now : Counts) (raw : Parts) (state : List Bool) (cycles : ℕ) (t : Target) (fits : Result Bool (Reason Case)) →
+of_sized : (told : Tells) (before now : Counts) (raw : Parts) (state : Seen) (cycles : ℕ) (t : Target) (fits : Result Bool (Reason Case)) →
     Ends told before now (read_as files.Netlist fits >>= (λ (b : Bool). end record { raw = raw; state = state; cycles = cycles })) (ready t) → t.cycles ≡ cycles
 of_sized told before now raw state cycles t (Ok b) e = ap cycles_in e
 of_sized told before now raw state cycles t (Err why) e = absurd cc
 
-of_stated : (told : Tells) (before now : Counts) (raw : Parts) (cycles : ℕ) (t : Target) (bits : Result (List Bool) (Reason Case)) →
-    Ends told before now (read_as files.State bits >>= (λ (s : List Bool). sized_step raw s cycles)) (ready t) → t.cycles ≡ cycles
+of_stated : (told : Tells) (before now : Counts) (raw : Parts) (cycles : ℕ) (t : Target) (seen : Result Seen (Reason Case)) →
+    Ends told before now (read_as files.State seen >>= (λ (s : Seen). sized_step raw s cycles)) (ready t) → t.cycles ≡ cycles
 of_stated told before now raw cycles t (Ok s) e = of_sized told before now raw s cycles t (room_in raw cycles) e
 of_stated told before now raw cycles t (Err why) e = absurd cc
 

@@ -16,6 +16,7 @@ reached : trace_read (codes "reach 1\nasked 2 conflicts 9\nresult reached 1\nsta
       steps = [];
       stop = stops.Reset;
       states = (false ∷ []) ∷ (true ∷ []) ∷ [];
+      free = [];
       inputs = (true ∷ []) ∷ [];
       log = [];
     })

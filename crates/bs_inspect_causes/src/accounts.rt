@@ -5,6 +5,7 @@ ghost use Rattle.bs_net_facts.specs.Facts.{IsWayOf, IsReal};
 ghost use Rattle.bs_inspect_accounts.specs.Accounts.{Explain, LeadsOn, has_net};
 ghost use Rattle.bs_inspect_causes.specs.Layers.{AreDue, ExplainSoFar, IsReady};
 
+use crate::basis::Basis;
 use crate::drivers::Drivers;
 use crate::further::further_facts;
 use crate::layer::tell_facts;
@@ -15,84 +16,47 @@ use bs_inspect_holds::Scene;
 use bs_net_facts::Fact;
 use std::alloc::Global;
 
-/// Tells due facts in a layer.
-fn tell_due(
-    alloc: Global,
-    scene: &Scene<'_>,
-    drivers: &Drivers,
-    ledger: &mut Ledger,
-    asked: &[Fact],
-    accounts: &mut List<Account>,
-    facts: Vec<Fact>,
-    layer: u32,
-) -> Result<(), NoMemory>
-    requires ready { IsReady scene.now.moments.now drivers.now }
-    requires so_far { ExplainSoFar scene.now.moments.now asked.now layer accounts.old }
-    requires due { AreDue scene.now.moments.now drivers.now asked.now layer accounts.old facts.items }
-    ensures { OnOk result (ExplainSoFar scene.now.moments.now asked.now (layer + 1) accounts.new) }
-{
-    let _ = asked;
-    tell_facts(alloc, scene, drivers, ledger, accounts, facts, layer)?;
-    Ok(())
-}
-
 /// Tells due facts in a layer, and gives those that are due in the next one.
 fn tell_layer(
-    alloc: Global,
-    scene: &Scene<'_>,
-    drivers: &Drivers,
+    basis: &Basis<'_>,
     ledger: &mut Ledger,
     asked: &[Fact],
     accounts: &mut List<Account>,
     facts: Vec<Fact>,
     layer: u32,
-    all: bool,
 ) -> Result<Vec<Fact>, NoMemory>
-    requires ready { IsReady scene.now.moments.now drivers.now }
-    requires so_far { ExplainSoFar scene.now.moments.now asked.now layer accounts.old }
-    requires due { AreDue scene.now.moments.now drivers.now asked.now layer accounts.old facts.items }
-    ensures so_far { OnOk result (ExplainSoFar scene.now.moments.now asked.now (layer + 1) accounts.new) }
-    ensures due { IfOk result (λ next. AreDue scene.now.moments.now drivers.now asked.now (layer + 1) accounts.new next.items) }
+    requires ready { IsReady basis.now.scene.now.moments.now basis.now.drivers.now }
+    requires so_far { ExplainSoFar basis.now.scene.now.moments.now asked.now layer accounts.old }
+    requires due { AreDue basis.now.scene.now.moments.now basis.now.drivers.now asked.now layer accounts.old facts.items }
+    ensures so_far { OnOk result (ExplainSoFar basis.now.scene.now.moments.now asked.now (layer + 1) accounts.new) }
+    ensures due { IfOk result (λ next. AreDue basis.now.scene.now.moments.now basis.now.drivers.now asked.now (layer + 1) accounts.new next.items) }
 {
     let from = accounts.len();
-    tell_due(alloc, scene, drivers, ledger, asked, accounts, facts, layer)?;
-    let next = further_facts(
-        alloc,
-        scene,
-        drivers,
-        ledger,
-        accounts.slice(),
-        from,
-        layer,
-        all,
-    )?;
+    let _ = asked;
+    tell_facts(basis, ledger, accounts, facts, layer)?;
+    let next = further_facts(basis, ledger, accounts.slice(), from, layer)?;
     Ok(next)
 }
 
 /// Tells due facts in so many layers.
 #[tactic(auto, using(crate::proofs::ExplainLemmas::explain_from))]
 fn tell_layers(
-    alloc: Global,
-    scene: &Scene<'_>,
-    drivers: &Drivers,
+    basis: &Basis<'_>,
     ledger: &mut Ledger,
     asked: &[Fact],
     accounts: &mut List<Account>,
     first: Vec<Fact>,
     depth: u32,
-    all: bool,
 ) -> Result<(), NoMemory>
-    requires ready { IsReady scene.now.moments.now drivers.now }
-    requires so_far { ExplainSoFar scene.now.moments.now asked.now 0 accounts.old }
-    requires due { AreDue scene.now.moments.now drivers.now asked.now 0 accounts.old first.items }
+    requires ready { IsReady basis.now.scene.now.moments.now basis.now.drivers.now }
+    requires so_far { ExplainSoFar basis.now.scene.now.moments.now asked.now 0 accounts.old }
+    requires due { AreDue basis.now.scene.now.moments.now basis.now.drivers.now asked.now 0 accounts.old first.items }
     requires some_layer { 1 ≤ depth }
-    ensures { OnOk result (Explain (circuit scene.now.moments.now.net) scene.now.moments.now.states scene.now.moments.now.inputs asked.now depth accounts.new) }
+    ensures { OnOk result (Explain (circuit basis.now.scene.now.moments.now.net) basis.now.scene.now.moments.now.states basis.now.scene.now.moments.now.inputs asked.now depth accounts.new) }
 {
     let mut facts = first;
     'layers: for layer in 0..depth {
-        facts = tell_layer(
-            alloc, scene, drivers, ledger, asked, accounts, facts, layer, all,
-        )?;
+        facts = tell_layer(basis, ledger, asked, accounts, facts, layer)?;
         if facts.len() == 0 {
             return Ok(());
         }
@@ -103,33 +67,20 @@ fn tell_layers(
 /// The accounts of asked facts, with the drivers of the nets.
 #[tactic(auto, using(crate::proofs::ExplainLemmas::none_so_far))]
 fn accounts_with(
-    alloc: Global,
-    scene: &Scene<'_>,
-    drivers: &Drivers,
+    basis: &Basis<'_>,
     ledger: &mut Ledger,
     asked: &[Fact],
     depth: u32,
-    all: bool,
 ) -> Result<List<Account>, NoMemory>
-    requires ready { IsReady scene.now.moments.now drivers.now }
-    requires real { All (IsReal (circuit scene.now.moments.now.net) scene.now.moments.now.states scene.now.moments.now.inputs) asked.now }
-    requires driven { All (λ f. has_net (circuit scene.now.moments.now.net).inputs f.net ≡ false) asked.now }
+    requires ready { IsReady basis.now.scene.now.moments.now basis.now.drivers.now }
+    requires real { All (IsReal (circuit basis.now.scene.now.moments.now.net) basis.now.scene.now.moments.now.states basis.now.scene.now.moments.now.inputs) asked.now }
+    requires driven { All (λ f. has_net (circuit basis.now.scene.now.moments.now.net).inputs f.net ≡ false) asked.now }
     requires some_layer { 1 ≤ depth }
-    ensures { IfOk result (λ accounts. Explain (circuit scene.now.moments.now.net) scene.now.moments.now.states scene.now.moments.now.inputs asked.now depth accounts) }
+    ensures { IfOk result (λ accounts. Explain (circuit basis.now.scene.now.moments.now.net) basis.now.scene.now.moments.now.states basis.now.scene.now.moments.now.inputs asked.now depth accounts) }
 {
-    let first = Vec::from_slice(alloc, asked)?;
-    let mut accounts = List::new(alloc);
-    match tell_layers(
-        alloc,
-        scene,
-        drivers,
-        ledger,
-        asked,
-        &mut accounts,
-        first,
-        depth,
-        all,
-    ) {
+    let first = Vec::from_slice(basis.alloc, asked)?;
+    let mut accounts = List::new(basis.alloc);
+    match tell_layers(basis, ledger, asked, &mut accounts, first, depth) {
         Ok(()) => Ok(accounts),
         Err(refused) => {
             drop(accounts);
@@ -139,22 +90,15 @@ fn accounts_with(
 }
 
 /// The same, with nothing told so far.
-fn accounts_by(
-    alloc: Global,
-    scene: &Scene<'_>,
-    drivers: &Drivers,
-    asked: &[Fact],
-    depth: u32,
-    all: bool,
-) -> Result<List<Account>, NoMemory>
-    requires ready { IsReady scene.now.moments.now drivers.now }
-    requires real { All (IsReal (circuit scene.now.moments.now.net) scene.now.moments.now.states scene.now.moments.now.inputs) asked.now }
-    requires driven { All (λ f. has_net (circuit scene.now.moments.now.net).inputs f.net ≡ false) asked.now }
+fn accounts_by(basis: &Basis<'_>, asked: &[Fact], depth: u32) -> Result<List<Account>, NoMemory>
+    requires ready { IsReady basis.now.scene.now.moments.now basis.now.drivers.now }
+    requires real { All (IsReal (circuit basis.now.scene.now.moments.now.net) basis.now.scene.now.moments.now.states basis.now.scene.now.moments.now.inputs) asked.now }
+    requires driven { All (λ f. has_net (circuit basis.now.scene.now.moments.now.net).inputs f.net ≡ false) asked.now }
     requires some_layer { 1 ≤ depth }
-    ensures { IfOk result (λ accounts. Explain (circuit scene.now.moments.now.net) scene.now.moments.now.states scene.now.moments.now.inputs asked.now depth accounts) }
+    ensures { IfOk result (λ accounts. Explain (circuit basis.now.scene.now.moments.now.net) basis.now.scene.now.moments.now.states basis.now.scene.now.moments.now.inputs asked.now depth accounts) }
 {
-    let mut ledger = Ledger::new(alloc, scene.nets)?;
-    let accounts = accounts_with(alloc, scene, drivers, &mut ledger, asked, depth, all);
+    let mut ledger = Ledger::new(basis.alloc, basis.scene.nets)?;
+    let accounts = accounts_with(basis, &mut ledger, asked, depth);
     drop(ledger);
     accounts
 }
@@ -179,7 +123,13 @@ pub fn accounts_of(
     ensures { IfOk result (λ accounts. Explain (circuit scene.now.moments.now.net) scene.now.moments.now.states scene.now.moments.now.inputs asked.now depth accounts) }
 {
     let drivers = Drivers::of(alloc, scene.moments.net())?;
-    let accounts = accounts_by(alloc, scene, &drivers, asked, depth, all);
+    let basis = Basis {
+        alloc,
+        scene,
+        drivers: &drivers,
+        all,
+    };
+    let accounts = accounts_by(&basis, asked, depth);
     drop(drivers);
     accounts
 }

@@ -5,7 +5,7 @@ ghost use Rattle.bs_net_facts.specs.Sources.{sources};
 ghost use Rattle.bs_inspect_accounts.specs.Accounts.{AreFactsOf, IsRealIn};
 ghost use Rattle.bs_inspect_causes.specs.Layers.{IsReady};
 
-use crate::drivers::Drivers;
+use crate::basis::Basis;
 use bs_bits::{List, NoMemory};
 use bs_inspect_accounts::known_bit;
 use bs_net::NetId;
@@ -54,20 +54,16 @@ pub fn input_facts(alloc: Global, moments: &Moments<'_>, cycle: u32) -> Result<L
 
 /// All flip-flops and data inputs at a cycle that has an input.
 #[tactic(auto, using(crate::proofs::SourceLemmas::flops_there, crate::proofs::SourceLemmas::inputs_there))]
-pub(crate) fn sources_at(
-    alloc: Global,
-    moments: &Moments<'_>,
-    drivers: &Drivers,
-    cycle: u32,
-) -> Result<List<Fact>, NoMemory>
-    requires ready { IsReady moments.now drivers.now }
-    requires early { cycle < length moments.now.inputs }
-    ensures are { IfOk result (λ facts. facts ≡ sources (circuit moments.now.net) moments.now.states moments.now.inputs cycle) }
-    ensures real { IfOk result (λ facts. All (IsRealIn moments.now) facts) }
+pub(crate) fn sources_at(basis: &Basis<'_>, cycle: u32) -> Result<List<Fact>, NoMemory>
+    requires ready { IsReady basis.now.scene.now.moments.now basis.now.drivers.now }
+    requires early { cycle < length basis.now.scene.now.moments.now.inputs }
+    ensures are { IfOk result (λ facts. facts ≡ sources (circuit basis.now.scene.now.moments.now.net) basis.now.scene.now.moments.now.states basis.now.scene.now.moments.now.inputs cycle) }
+    ensures real { IfOk result (λ facts. All (IsRealIn basis.now.scene.now.moments.now) facts) }
 {
+    let moments = basis.scene.moments;
     let net = moments.net();
-    let mut facts = facts_at(alloc, moments, drivers.flops.slice(), cycle)?;
-    let inputs = facts_at(alloc, moments, net.data_inputs().slice(), cycle)?;
+    let mut facts = facts_at(basis.alloc, moments, basis.drivers.flops.slice(), cycle)?;
+    let inputs = facts_at(basis.alloc, moments, net.data_inputs().slice(), cycle)?;
     facts.append(inputs)?;
     Ok(facts)
 }

@@ -5,14 +5,14 @@ ghost use Rattle.bs_inspect_accounts.specs.Accounts.{IsAccount};
 ghost use Rattle.bs_inspect_causes.specs.Layers.{AsksMore, IsNext, marks_net};
 
 use crate::account::is_cause;
-use crate::drivers::{Drivers, is_marked};
+use crate::basis::Basis;
+use crate::drivers::is_marked;
 use crate::facts::is_real;
 use crate::ledger::Ledger;
 use bs_bits::NoMemory;
 use bs_inspect_accounts::Account;
 use bs_inspect_holds::{Driver, Scene};
 use bs_net_facts::Fact;
-use std::alloc::Global;
 
 /// Behind an account with more causes, old single bits are asked only where all are.
 const MANY_CAUSES: usize = 8;
@@ -41,33 +41,26 @@ fn is_left_out(scene: &Scene<'_>, account: &Account, fact: Fact) -> bool {
 }
 
 /// Whether a fact of a flip-flop or a gate is asked further: a cause, or what has kept the bits all through.
-fn is_chosen(scene: &Scene<'_>, ledger: &Ledger, account: &Account, fact: Fact, all: bool) -> bool {
+fn is_chosen(basis: &Basis<'_>, ledger: &Ledger, account: &Account, fact: Fact) -> bool {
     if ledger.tells(fact) {
         return false;
     }
     if !is_cause(&account.block, fact) {
         return ledger.is_steady(&account.block, fact);
     }
-    all || !is_left_out(scene, account, fact)
+    basis.all || !is_left_out(basis.scene, account, fact)
 }
 
 /// Whether a given fact of an account is asked further: not of data inputs, constants and nets without a driver.
-fn is_asked(
-    scene: &Scene<'_>,
-    drivers: &Drivers,
-    ledger: &Ledger,
-    account: &Account,
-    fact: Fact,
-    all: bool,
-) -> bool
-    ensures { result ≡ true → marks_net drivers.now.by_input fact.net ≡ false }
+fn is_asked(basis: &Basis<'_>, ledger: &Ledger, account: &Account, fact: Fact) -> bool
+    ensures { result ≡ true → marks_net basis.now.drivers.now.by_input fact.net ≡ false }
 {
-    if is_marked(drivers.by_input.slice(), fact.net) {
+    if is_marked(basis.drivers.by_input.slice(), fact.net) {
         return false;
     }
-    match scene.driver(fact.net) {
-        Driver::Gate(_) => is_chosen(scene, ledger, account, fact, all),
-        Driver::Flop(..) => is_chosen(scene, ledger, account, fact, all),
+    match basis.scene.driver(fact.net) {
+        Driver::Gate(_) => is_chosen(basis, ledger, account, fact),
+        Driver::Flop(..) => is_chosen(basis, ledger, account, fact),
         _ => false,
     }
 }
@@ -76,17 +69,15 @@ fn is_asked(
 #[tactic(auto, using(crate::proofs::FurtherLemmas::asks_none, crate::proofs::FurtherLemmas::asks_one))]
 fn push_fact(
     facts: &mut Vec<Fact>,
-    scene: &Scene<'_>,
-    drivers: &Drivers,
+    basis: &Basis<'_>,
     ledger: &Ledger,
     account: &Account,
     fact: Fact,
-    all: bool,
 ) -> Result<(), NoMemory>
     requires { Contains account.now.block.given fact }
-    ensures { OnOk result (AsksMore drivers.now account.now facts.old.items facts.new.items) }
+    ensures { OnOk result (AsksMore basis.now.drivers.now account.now facts.old.items facts.new.items) }
 {
-    if is_asked(scene, drivers, ledger, account, fact, all) {
+    if is_asked(basis, ledger, account, fact) {
         facts.push(fact)?;
     }
     Ok(())
@@ -96,79 +87,57 @@ fn push_fact(
 #[tactic(auto, using(crate::proofs::FurtherLemmas::asks_none))]
 fn push_given(
     facts: &mut Vec<Fact>,
-    scene: &Scene<'_>,
-    drivers: &Drivers,
+    basis: &Basis<'_>,
     ledger: &Ledger,
     account: &Account,
-    all: bool,
 ) -> Result<(), NoMemory>
-    ensures { OnOk result (AsksMore drivers.now account.now facts.old.items facts.new.items) }
+    ensures { OnOk result (AsksMore basis.now.drivers.now account.now facts.old.items facts.new.items) }
 {
     'given: for fact in account.block.given.slice() {
-        push_fact(facts, scene, drivers, ledger, account, *fact, all)?;
+        push_fact(facts, basis, ledger, account, *fact)?;
     }
     Ok(())
 }
 
-/// The same, with what has kept its bits counted.
-fn push_account(
-    facts: &mut Vec<Fact>,
-    scene: &Scene<'_>,
-    drivers: &Drivers,
-    ledger: &mut Ledger,
-    account: &Account,
-    all: bool,
-) -> Result<(), NoMemory>
-    ensures { OnOk result (AsksMore drivers.now account.now facts.old.items facts.new.items) }
-{
-    ledger.count(account.holds.slice());
-    push_given(facts, scene, drivers, ledger, account, all)?;
-    ledger.clear(account.holds.slice());
-    Ok(())
-}
-
-/// The same of an account of a layer, and of another one nothing.
+/// The same of an account of a layer, with what has kept its bits counted, and of another one nothing.
 fn push_layer(
     facts: &mut Vec<Fact>,
-    scene: &Scene<'_>,
-    drivers: &Drivers,
+    basis: &Basis<'_>,
     ledger: &mut Ledger,
     accounts: &[Account],
     place: usize,
     layer: u32,
-    all: bool,
 ) -> Result<(), NoMemory>
     requires there { place < length accounts.now }
-    requires each { All (IsAccount (circuit scene.now.moments.now.net) scene.now.moments.now.states scene.now.moments.now.inputs) accounts.now }
-    requires before { All (IsNext scene.now.moments.now drivers.now accounts.now layer) facts.old.items }
-    ensures { OnOk result (All (IsNext scene.now.moments.now drivers.now accounts.now layer) facts.new.items) }
+    requires each { All (IsAccount (circuit basis.now.scene.now.moments.now.net) basis.now.scene.now.moments.now.states basis.now.scene.now.moments.now.inputs) accounts.now }
+    requires before { All (IsNext basis.now.scene.now.moments.now basis.now.drivers.now accounts.now layer) facts.old.items }
+    ensures { OnOk result (All (IsNext basis.now.scene.now.moments.now basis.now.drivers.now accounts.now layer) facts.new.items) }
 {
     let account = &accounts[place];
     if account.layer != layer {
         return Ok(());
     }
-    push_account(facts, scene, drivers, ledger, account, all)?;
+    ledger.count(account.holds.slice());
+    push_given(facts, basis, ledger, account)?;
+    ledger.clear(account.holds.slice());
     Ok(())
 }
 
 /// The facts that accounts of a layer ask further, which stand from a place on.
 #[tactic(auto, using(crate::proofs::FurtherLemmas::next_none))]
 pub(crate) fn further_facts(
-    alloc: Global,
-    scene: &Scene<'_>,
-    drivers: &Drivers,
+    basis: &Basis<'_>,
     ledger: &mut Ledger,
     accounts: &[Account],
     from: usize,
     layer: u32,
-    all: bool,
 ) -> Result<Vec<Fact>, NoMemory>
-    requires { All (IsAccount (circuit scene.now.moments.now.net) scene.now.moments.now.states scene.now.moments.now.inputs) accounts.now }
-    ensures { IfOk result (λ facts. All (IsNext scene.now.moments.now drivers.now accounts.now layer) facts.items) }
+    requires { All (IsAccount (circuit basis.now.scene.now.moments.now.net) basis.now.scene.now.moments.now.states basis.now.scene.now.moments.now.inputs) accounts.now }
+    ensures { IfOk result (λ facts. All (IsNext basis.now.scene.now.moments.now basis.now.drivers.now accounts.now layer) facts.items) }
 {
-    let mut facts = Vec::new(alloc);
+    let mut facts = Vec::new(basis.alloc);
     'accounts: for i in from..accounts.len() {
-        push_layer(&mut facts, scene, drivers, ledger, accounts, i, layer, all)?;
+        push_layer(&mut facts, basis, ledger, accounts, i, layer)?;
     }
     Ok(facts)
 }

@@ -2,11 +2,11 @@
 ghost use Rattle.std.specs.Prelude.{◌≡◌, ◌<◌, ◌+◌, length, IfOk, MatchOption};
 ghost use Rattle.bs_inspect_causes.specs.Layers.{ForcesAt, IsReady, IsUnit, IsUnitBlock};
 
-use crate::drivers::Drivers;
+use crate::basis::Basis;
 use crate::facts::{copied, sources_at};
+use crate::units::Unit;
 use bs_bits::{List, NoMemory};
 use bs_net_facts::{Block, Fact, Moments};
-use std::alloc::Global;
 
 /// The cycle before.
 fn cycle_before(at: u32) -> Option<u32>
@@ -36,54 +36,35 @@ fn source_cycle(moments: &Moments<'_>, flop: bool, at: u32) -> Option<u32>
 }
 
 /// The block of a unit by the flip-flops and data inputs of a cycle.
-fn block_from(
-    alloc: Global,
-    moments: &Moments<'_>,
-    drivers: &Drivers,
-    facts: &[Fact],
-    at: u32,
-    flop: bool,
-    cycle: u32,
-) -> Result<Block, NoMemory>
-    requires ready { IsReady moments.now drivers.now }
-    requires unit { IsUnit moments.now drivers.now at flop facts.now }
-    requires forces { ForcesAt moments.now at flop cycle }
-    ensures { IfOk result (λ b. IsUnitBlock moments.now facts.now at b) }
+fn block_from(basis: &Basis<'_>, facts: &[Fact], unit: Unit, cycle: u32) -> Result<Block, NoMemory>
+    requires ready { IsReady basis.now.scene.now.moments.now basis.now.drivers.now }
+    requires unit { IsUnit basis.now.scene.now.moments.now basis.now.drivers.now unit.at unit.flop facts.now }
+    requires forces { ForcesAt basis.now.scene.now.moments.now unit.at unit.flop cycle }
+    ensures { IfOk result (λ b. IsUnitBlock basis.now.scene.now.moments.now facts.now unit.at b) }
 {
-    let _ = flop;
-    let given = sources_at(alloc, moments, drivers, cycle)?;
-    let bits = copied(alloc, facts)?;
+    let given = sources_at(basis, cycle)?;
+    let bits = copied(basis.alloc, facts)?;
     Ok(Block {
         bits,
-        since: at,
-        at,
+        since: unit.at,
+        at: unit.at,
         given,
         begun: false,
     })
 }
 
 /// The block of a unit of the first moment.
-fn first_block(
-    alloc: Global,
-    moments: &Moments<'_>,
-    drivers: &Drivers,
-    facts: &[Fact],
-    at: u32,
-    flop: bool,
-) -> Result<Block, NoMemory>
-    requires unit { IsUnit moments.now drivers.now at flop facts.now }
-    requires first { at ≡ 0 }
-    ensures { IfOk result (λ b. IsUnitBlock moments.now facts.now at b) }
+fn first_block(basis: &Basis<'_>, facts: &[Fact], unit: Unit) -> Result<Block, NoMemory>
+    requires unit { IsUnit basis.now.scene.now.moments.now basis.now.drivers.now unit.at unit.flop facts.now }
+    requires first { unit.at ≡ 0 }
+    ensures { IfOk result (λ b. IsUnitBlock basis.now.scene.now.moments.now facts.now unit.at b) }
 {
-    let _ = moments;
-    let _ = drivers;
-    let _ = flop;
-    let bits = copied(alloc, facts)?;
+    let bits = copied(basis.alloc, facts)?;
     Ok(Block {
         bits,
-        since: at,
-        at,
-        given: List::new(alloc),
+        since: unit.at,
+        at: unit.at,
+        given: List::new(basis.alloc),
         begun: true,
     })
 }
@@ -91,19 +72,16 @@ fn first_block(
 /// The block of a unit by all flip-flops and data inputs: of the cycle before for flip-flops, else of the cycle itself.
 #[tactic(auto, using(crate::proofs::BlockLemmas::one_more))]
 pub(crate) fn sourced_block(
-    alloc: Global,
-    moments: &Moments<'_>,
-    drivers: &Drivers,
+    basis: &Basis<'_>,
     facts: &[Fact],
-    at: u32,
-    flop: bool,
+    unit: Unit,
 ) -> Result<Block, NoMemory>
-    requires ready { IsReady moments.now drivers.now }
-    requires unit { IsUnit moments.now drivers.now at flop facts.now }
-    ensures { IfOk result (λ b. IsUnitBlock moments.now facts.now at b) }
+    requires ready { IsReady basis.now.scene.now.moments.now basis.now.drivers.now }
+    requires unit { IsUnit basis.now.scene.now.moments.now basis.now.drivers.now unit.at unit.flop facts.now }
+    ensures { IfOk result (λ b. IsUnitBlock basis.now.scene.now.moments.now facts.now unit.at b) }
 {
-    match source_cycle(moments, flop, at) {
-        Some(cycle) => block_from(alloc, moments, drivers, facts, at, flop, cycle),
-        None => first_block(alloc, moments, drivers, facts, at, flop),
+    match source_cycle(basis.scene.moments, unit.flop, unit.at) {
+        Some(cycle) => block_from(basis, facts, unit, cycle),
+        None => first_block(basis, facts, unit),
     }
 }

@@ -4,7 +4,8 @@ ghost use Rattle.std.specs.List.{AllWithin};
 ghost use Rattle.std.specs.List.Sorted.{IsPermutation};
 ghost use Rattle.bs_inspect_causes.specs.Layers.{IsLike, IsUnitAt, KeepsFirst, Repeats};
 
-use crate::drivers::{Drivers, is_marked};
+use crate::basis::Basis;
+use crate::drivers::is_marked;
 use bs_bits::{List, NoMemory};
 use bs_inspect_holds::Scene;
 use bs_net_facts::Fact;
@@ -75,49 +76,37 @@ fn distinct(alloc: Global, facts: &[Fact]) -> Result<List<Fact>, NoMemory>
 }
 
 /// Facts in the order of their units, each once.
-pub(crate) fn ordered(
-    alloc: Global,
-    scene: &Scene<'_>,
-    drivers: &Drivers,
-    facts: Vec<Fact>,
-) -> Result<List<Fact>, NoMemory>
+pub(crate) fn ordered(basis: &Basis<'_>, facts: Vec<Fact>) -> Result<List<Fact>, NoMemory>
     ensures { IfOk result (λ kept. KeepsFirst facts.items (length facts.items) kept) }
 {
-    let sorted = in_order(scene, drivers.by_flop.slice(), facts)?;
-    let kept = distinct(alloc, sorted.as_slice())?;
+    let sorted = in_order(basis.scene, basis.drivers.by_flop.slice(), facts)?;
+    let kept = distinct(basis.alloc, sorted.as_slice())?;
     drop(sorted);
     Ok(kept)
 }
 
 /// Whether a fact is of the unit that another begins.
 #[tactic(auto, using(crate::proofs::UnitLemmas::like_of))]
-fn is_like(scene: &Scene<'_>, drivers: &Drivers, first: Fact, flop: bool, fact: Fact) -> bool
-    ensures { result ≡ true → IsLike drivers.now first.cycle flop fact }
+fn is_like(basis: &Basis<'_>, first: Fact, flop: bool, fact: Fact) -> bool
+    ensures { result ≡ true → IsLike basis.now.drivers.now first.cycle flop fact }
 {
     let cycle = fact.cycle == first.cycle;
-    let group = scene.group(fact.net) == scene.group(first.net);
-    let kind = is_marked(drivers.by_flop.slice(), fact.net) == flop;
+    let group = basis.scene.group(fact.net) == basis.scene.group(first.net);
+    let kind = is_marked(basis.drivers.by_flop.slice(), fact.net) == flop;
     cycle && group && kind
 }
 
 /// The place behind the unit that a fact begins.
 #[tactic(auto, using(crate::proofs::UnitLemmas::like_more))]
-fn unit_end(
-    scene: &Scene<'_>,
-    drivers: &Drivers,
-    facts: &[Fact],
-    from: usize,
-    first: Fact,
-    flop: bool,
-) -> usize
+fn unit_end(basis: &Basis<'_>, facts: &[Fact], from: usize, first: Fact, flop: bool) -> usize
     requires there { from < length facts.now }
-    requires like { AllWithin (IsLike drivers.now first.cycle flop) facts.now from (from + 1) }
+    requires like { AllWithin (IsLike basis.now.drivers.now first.cycle flop) facts.now from (from + 1) }
     ensures more { from < result }
     ensures within { result ≤ length facts.now }
-    ensures alike { AllWithin (IsLike drivers.now first.cycle flop) facts.now from result }
+    ensures alike { AllWithin (IsLike basis.now.drivers.now first.cycle flop) facts.now from result }
 {
     'facts: for i in from + 1..facts.len() {
-        if !is_like(scene, drivers, first, flop, facts[i]) {
+        if !is_like(basis, first, flop, facts[i]) {
             return i;
         }
     }
@@ -134,13 +123,13 @@ pub(crate) struct Unit {
 
 /// The unit that begins at a place of ordered facts.
 #[tactic(auto, using(crate::proofs::UnitLemmas::like_first, crate::proofs::UnitLemmas::unit_is))]
-pub(crate) fn unit_at(scene: &Scene<'_>, drivers: &Drivers, facts: &[Fact], from: usize) -> Unit
+pub(crate) fn unit_at(basis: &Basis<'_>, facts: &[Fact], from: usize) -> Unit
     requires { from < length facts.now }
-    ensures { IsUnitAt drivers.now facts.now from result }
+    ensures { IsUnitAt basis.now.drivers.now facts.now from result }
 {
     let first = facts[from];
-    let flop = is_marked(drivers.by_flop.slice(), first.net);
-    let stop = unit_end(scene, drivers, facts, from, first, flop);
+    let flop = is_marked(basis.drivers.by_flop.slice(), first.net);
+    let stop = unit_end(basis, facts, from, first, flop);
     Unit {
         stop,
         at: first.cycle,

@@ -1,12 +1,13 @@
 -- Whether the trace of a report has as many bits as a netlist has flip-flops and data inputs, and whether names are those of a netlist.
-use Rattle.std.specs.Prelude.{ℕ, ◌==◌, not, Bool, true, List, ◌++◌, length, codes, decimal, Option, Some, None, Result, Ok, Err}
+use Rattle.std.specs.Prelude.{ℕ, ◌==◌, not, Bool, true, List, ◌++◌, length, codes, decimal, Option, Some, None, Result, Ok, Err, if◌then◌else◌}
 use Rattle.std.specs.List.{position}
 use Rattle.bs_net.specs.Parts.{Parts}
 use Rattle.bs_net.specs.Netlist.{circuit_of}
 use Rattle.bs_report.specs.declared.report.Report.{Report}
 use Rattle.bs_top_plan.specs.Plan.{Reason, exactly}
 use Rattle.bs_inspect_report.specs.Known.{first_unknown}
-use Rattle.bs_top_files.specs.Refusals.{Case}
+use Rattle.bs_top_files.specs.Readings.{is_known}
+use Rattle.bs_top_files.specs.Refusals.{Case, partial_reason}
 use Rattle.bs_inspect_files.specs.Words.{name_reason}
 
 -- the place of the first list of another length
@@ -18,9 +19,13 @@ fit_of (Some i) input = Err (exactly (codes "TraceState " ++ decimal i))
 fit_of None (Some i) = Err (exactly (codes "TraceInput " ++ decimal i))
 fit_of None None = Ok true
 
--- the trace fits the netlist, or the place of its first state or input that does not
+-- the trace has the netlist's widths, or the place of its first state or input that has not
+abbrev pub widths_in : Parts → Report → Result Bool (Reason Case)
+widths_in r report = fit_of (misfit (length r.flops) report.states) (misfit (length (circuit_of r).inputs) report.inputs)
+
+-- all of the trace is known, and it fits the netlist
 abbrev pub fit_in : Parts → Report → Result Bool (Reason Case)
-fit_in r report = fit_of (misfit (length r.flops) report.states) (misfit (length (circuit_of r).inputs) report.inputs)
+fit_in r report = if is_known report then widths_in r report else Err partial_reason
 
 abbrev pub known_of : Option (List ℕ) → Result Bool (Reason Case)
 known_of None = Ok true

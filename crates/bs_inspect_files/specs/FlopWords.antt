@@ -6,12 +6,11 @@ use Rattle.bs_inspect_netlist.specs.declared.fault.PatternFault.{PatternFault}
 use Rattle.bs_inspect_netlist.specs.declared.fault.PatternFault.TheVariants as pattern
 use Rattle.bs_note_places.specs.Quotes.{shown_line}
 
--- an order of a scan chain; a line counts from 1, a flip-flop from 0
+-- an order of a scan chain; a line counts from 1
 abbrev pub order_words : OrderFault → List ℕ
 order_words (chain.Line line) = codes "Line " ++ decimal line
 order_words (chain.Unknown line) = codes "Unknown " ++ decimal line
 order_words (chain.Twice line) = codes "Twice " ++ decimal line
-order_words (chain.Missing flop) = codes "Missing " ++ decimal flop
 order_words chain.NoMemory = []
 
 -- a pattern, by how many bits there are

@@ -1,5 +1,6 @@
 -- What names, an order and a pattern are to a request: a value, or the reason of their refusal; and the same as the notes see them.
-use Rattle.std.specs.Prelude.{ℕ, Bool, true, List, [], ◌++◌, codes, decimal, Option, Some, None, Result, Ok, Err}
+use Rattle.std.specs.Prelude.{ℕ, ◌==◌, ◌&&◌, ◌||◌, nat_eq, nat_le, not, Bool, true, List, [], ◌++◌, codes, decimal, drop, filter, length, Option, Some, None, Result, Ok, Err, if◌then◌else◌}
+use Rattle.std.specs.List.{starts_with}
 use Rattle.bs_net.specs.Parts.{Parts}
 use Rattle.bs_inspect_netlist.specs.Called.{first_unnamed}
 use Rattle.bs_inspect_netlist.specs.Order.{order_in, pattern_in}
@@ -7,8 +8,10 @@ use Rattle.bs_inspect_netlist.specs.declared.fault.OrderFault.{OrderFault}
 use Rattle.bs_inspect_netlist.specs.declared.fault.OrderFault.TheVariants as chain
 use Rattle.bs_inspect_netlist.specs.declared.fault.PatternFault.{PatternFault}
 use Rattle.bs_inspect_netlist.specs.declared.fault.PatternFault.TheVariants as pattern
-use Rattle.bs_note_files.specs.Notes.{Saying, saying, file_text, plain_text}
-use Rattle.bs_inspect_notes.specs.Names.{net_text}
+use Rattle.bs_note_files.specs.Notes.{Saying, saying, plain_text}
+use Rattle.bs_inspect_notes.specs.declared.name.Subject.TheVariants.{Flops}
+use Rattle.bs_inspect_notes.specs.Names.{key_saying, net_text, numbered}
+use Rattle.bs_inspect_report.specs.Keys.{flop_keys}
 use Rattle.bs_top_plan.specs.Plan.{Reason, exactly, any_of}
 use Rattle.bs_top_files.specs.NoteCases.{NoteCase, at_line}
 use Rattle.bs_top_files.specs.Noting.{noted_by}
@@ -44,49 +47,52 @@ order_read r text = with_reason order_reason (order_in r text)
 abbrev pub form_saying : Saying
 form_saying = saying (codes "a line is one name, of visible characters alone") (codes "the key of a flip-flop, or its name as RTL writes it")
 
-abbrev pub unknown_saying : Saying
-unknown_saying = saying (codes "no flip-flop has this name") (codes "`flops` tells the keys")
-
 abbrev pub twice_saying : Saying
 twice_saying = saying (codes "the flip-flop of this line has a line already") (codes "take one of them out")
 
-abbrev pub missing_text : List ℕ → ℕ → List ℕ
-missing_text path flop =
-    file_text path (codes "no line names flip-flop " ++ (decimal flop ++ codes " of the netlist")) ++
-    plain_text (codes "`flops` tells its number and its key")
-
-abbrev pub order_note_reason : (path text : List ℕ) → OrderFault → Reason NoteCase
-order_note_reason path text (chain.Line number) = any_of (at_line path text number form_saying)
-order_note_reason path text (chain.Unknown number) = any_of (at_line path text number unknown_saying)
-order_note_reason path text (chain.Twice number) = any_of (at_line path text number twice_saying)
-order_note_reason path text (chain.Missing flop) = exactly (missing_text path flop)
-order_note_reason path text chain.NoMemory = exactly []
+abbrev pub order_note_reason : Parts → (path text : List ℕ) → OrderFault → Reason NoteCase
+order_note_reason r path text (chain.Line number) = any_of (at_line path text number form_saying)
+order_note_reason r path text (chain.Unknown number) = any_of (at_line path text number (key_saying Flops (flop_keys r) (numbered text number)))
+order_note_reason r path text (chain.Twice number) = any_of (at_line path text number twice_saying)
+order_note_reason r path text chain.NoMemory = exactly []
 
 abbrev pub order_noted : List ℕ → Parts → List ℕ → Result (List ℕ) (Reason NoteCase)
-order_noted path r text = noted_by (order_note_reason path text) (order_in r text)
+order_noted path r text = noted_by (order_note_reason r path text) (order_in r text)
 
 -- ---- a pattern
 
 abbrev pub pattern_reason : PatternFault → Reason Case
 pattern_reason fault = exactly (pattern_words fault)
 
--- as many bits as there are flip-flops
+-- a bit for each line of the order
 abbrev pub pattern_read : ℕ → List ℕ → Result (List Bool) (Reason Case)
-pattern_read width text = with_reason pattern_reason (pattern_in width text)
+pattern_read count text = with_reason pattern_reason (pattern_in count text)
 
 abbrev pub bits_text : List ℕ
 bits_text = plain_text (codes "the bits of a pattern are characters 0 and 1 alone, the first one for the first line of the order")
 
 abbrev pub width_text : ℕ → ℕ → List ℕ
-width_text width count = plain_text (codes "there are " ++ (decimal count ++ (codes " bits, and the netlist's flip-flops are " ++ decimal width)))
+width_text lines count = plain_text (codes "there are " ++ (decimal count ++ (codes " bits, and the lines of the order are " ++ decimal lines)))
 
 abbrev pub pattern_text : ℕ → PatternFault → List ℕ
-pattern_text width pattern.Bits = bits_text
-pattern_text width (pattern.Width count) = width_text width count
-pattern_text width pattern.NoMemory = []
+pattern_text lines pattern.Bits = bits_text
+pattern_text lines (pattern.Width count) = width_text lines count
+pattern_text lines pattern.NoMemory = []
 
 abbrev pub pattern_note_reason : ℕ → PatternFault → Reason NoteCase
-pattern_note_reason width fault = exactly (pattern_text width fault)
+pattern_note_reason lines fault = exactly (pattern_text lines fault)
 
 abbrev pub pattern_noted : ℕ → List ℕ → Result (List Bool) (Reason NoteCase)
-pattern_noted width text = noted_by (pattern_note_reason width) (pattern_in width text)
+pattern_noted lines text = noted_by (pattern_note_reason lines) (pattern_in lines text)
+
+-- the file that a word names behind `@`
+abbrev pub file_in : List ℕ → Option (List ℕ)
+file_in word = if starts_with nat_eq word (codes "@") then Some (drop (length (codes "@")) word) else None
+
+-- a space, or one of the bytes 9 to 13
+abbrev pub is_white : ℕ → Bool
+is_white b = (b == 32) || (nat_le 9 b && nat_le b 13)
+
+-- the bits of a file: white space between them is passed over
+abbrev pub joined : List ℕ → List ℕ
+joined text = filter (λ b. not (is_white b)) text

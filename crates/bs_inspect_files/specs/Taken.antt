@@ -17,6 +17,7 @@ use Rattle.bs_top_files.specs.Refusals.{Case}
 use Rattle.bs_inspect_files.specs.Readings.{called_in, called_noted}
 use Rattle.bs_inspect_files.specs.Fits.{fit_in, known_in}
 use Rattle.bs_inspect_files.specs.Saying.{fit_noted, known_noted}
+use Rattle.bs_inspect_files.specs.declared.ready.BenchFiles.{BenchFiles as CodeBenchFiles}
 use Rattle.bs_inspect_files.specs.declared.ready.OneRun.{OneRun as CodeOneRun}
 use Rattle.bs_inspect_files.specs.declared.ready.TraceFiles.{TraceFiles as CodeTraceFiles}
 use Rattle.bs_inspect_files.specs.declared.ready.RunFiles.{RunFiles as CodeRunFiles}
@@ -67,6 +68,22 @@ run_files_of netlist stimulus = do
 
 abbrev pub run_files_in : CodeRunFiles → RunFiles
 run_files_in t = record { raw = t.net.raw; runs = t.runs }
+
+-- a netlist's parts, recorded runs, and a report whose trace fits the parts, or the execution of an answer as one
+pub record BenchFiles : Type 0 where
+  pub run_files : RunFiles
+  pub report : Report
+
+-- three files, and last whether the trace of the report fits the netlist
+abbrev pub bench_files_of : (netlist stimulus report : List ℕ) → Plan Case BenchFiles
+bench_files_of netlist stimulus report = do
+  run_files ← run_files_of netlist stimulus
+  content ← trace_of report
+  fits ← read_as files.Report (fit_in run_files.raw content)
+  end record { run_files = run_files; report = content }
+
+abbrev pub bench_files_in : CodeBenchFiles → BenchFiles
+bench_files_in t = record { run_files = run_files_in t.run_files; report = t.report }
 
 -- a netlist's parts, what its signature is taken of, and a report
 pub record ReportFiles : Type 0 where
@@ -135,6 +152,13 @@ run_files_looked netlist stimulus = do
   runs ← stimulus_looked raw stimulus
   end record { raw = raw; runs = runs }
 
+abbrev pub bench_files_looked : (netlist stimulus report : List ℕ) → Plan NoteCase BenchFiles
+bench_files_looked netlist stimulus report = do
+  run_files ← run_files_looked netlist stimulus
+  content ← trace_looked report
+  fits ← read_as files.Report (fit_noted report run_files.raw content)
+  end record { run_files = run_files; report = content }
+
 abbrev pub one_run_looked : (netlist stimulus : List ℕ) → ℕ → Plan NoteCase OneRun
 one_run_looked netlist stimulus run = do
   run_files ← run_files_looked netlist stimulus
@@ -199,6 +223,30 @@ abbrev pub fit_step_looked : List ℕ → Parts → Report → Plan NoteCase Tra
 fit_step_looked path raw content = do
   fits ← read_as files.Report (fit_noted path raw content)
   end record { raw = raw; report = content }
+
+-- behind recorded runs
+abbrev pub drive_step : RunFiles → List ℕ → Plan Case BenchFiles
+drive_step run_files report = do
+  content ← trace_of report
+  fits ← read_as files.Report (fit_in run_files.raw content)
+  end record { run_files = run_files; report = content }
+
+abbrev pub drive_step_looked : RunFiles → List ℕ → Plan NoteCase BenchFiles
+drive_step_looked run_files report = do
+  content ← trace_looked report
+  fits ← read_as files.Report (fit_noted report run_files.raw content)
+  end record { run_files = run_files; report = content }
+
+-- behind these and the report
+abbrev pub driven_step : RunFiles → Report → Plan Case BenchFiles
+driven_step run_files content = do
+  fits ← read_as files.Report (fit_in run_files.raw content)
+  end record { run_files = run_files; report = content }
+
+abbrev pub driven_step_looked : List ℕ → RunFiles → Report → Plan NoteCase BenchFiles
+driven_step_looked path run_files content = do
+  fits ← read_as files.Report (fit_noted path run_files.raw content)
+  end record { run_files = run_files; report = content }
 
 -- behind the trace that fits
 abbrev pub chart_step : List (List ℕ) → TraceFiles → Plan Case TraceFiles

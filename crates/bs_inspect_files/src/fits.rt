@@ -8,9 +8,9 @@ ghost use Rattle.bs_top_plan.specs.Walks.{Reads};
 ghost use Rattle.bs_top_files.specs.NoteCases.{HasNote, NoteSays};
 ghost use Rattle.bs_top_files.specs.Refusals.{CheckSays, HasWords};
 ghost use Rattle.bs_inspect_notes.specs.Names.{name_text, state_text, trace_text};
-ghost use Rattle.bs_inspect_files.specs.Fits.{fit_in, known_in, misfit};
+ghost use Rattle.bs_inspect_files.specs.Fits.{fit_in, known_in, misfit, widths_in};
 ghost use Rattle.bs_inspect_values.specs.Saying.{all_keys};
-ghost use Rattle.bs_inspect_files.specs.Saying.{fit_noted, known_noted};
+ghost use Rattle.bs_inspect_files.specs.Saying.{fit_noted, known_noted, widths_noted};
 ghost use Rattle.bs_inspect_files.specs.Words.{name_words};
 
 use crate::refusals::name_refusal;
@@ -20,6 +20,7 @@ use bs_inspect_report::first_unknown;
 use bs_inspect_values::{all_bytes, numbered};
 use bs_net::Netlist;
 use bs_report::Report;
+use bs_top_files::{is_known, partial_diagnostic};
 use bs_top_plan::{Unread, both};
 use std::alloc::Global;
 
@@ -54,8 +55,30 @@ fn input_diagnostic(alloc: Global, path: &str, place: u64) -> Unread
     both(words, note)
 }
 
-/// Whether the trace of a report fits a netlist, or the diagnostic of it.
+/// Whether the trace of a report has a netlist's widths, or the diagnostic of it.
 #[tactic(auto, using(crate::proofs::FitLemmas::all_fit, crate::proofs::FitLemmas::state_words, crate::proofs::FitLemmas::state_note, crate::proofs::FitLemmas::input_words, crate::proofs::FitLemmas::input_note))]
+fn widths_or_diagnostic(
+    alloc: Global,
+    path: &str,
+    net: &Netlist,
+    report: &Report,
+) -> Result<(), Unread>
+    ensures words { Reads CheckSays (λ _. true) (widths_in net.now.raw report.now) (worded result) }
+    ensures note { Reads NoteSays (λ _. true) (widths_noted path.now net.now.raw report.now) (noted result) }
+    ensures states { IfOk result (λ _. All (λ s. length s ≡ length (circuit net.now).flops) report.now.states) }
+    ensures inputs { IfOk result (λ _. All (λ x. length x ≡ length (circuit net.now).inputs) report.now.inputs) }
+{
+    if let Some(place) = misfit(net.width(), report.states.slice()) {
+        return Err(state_diagnostic(alloc, path, place as u64));
+    }
+    if let Some(place) = misfit(net.data_inputs().len(), report.inputs.slice()) {
+        return Err(input_diagnostic(alloc, path, place as u64));
+    }
+    Ok(())
+}
+
+/// Whether all of a report's trace is known and it fits a netlist, or the diagnostic of it.
+#[tactic(auto, using(bs_top_files::proofs::NotingLemmas::words_where, bs_top_files::proofs::NotingLemmas::note_where, bs_top_files::proofs::NotingLemmas::words_not, bs_top_files::proofs::NotingLemmas::note_not))]
 pub fn fit_or_diagnostic(
     alloc: Global,
     path: &str,
@@ -67,13 +90,11 @@ pub fn fit_or_diagnostic(
     ensures states { IfOk result (λ _. All (λ s. length s ≡ length (circuit net.now).flops) report.now.states) }
     ensures inputs { IfOk result (λ _. All (λ x. length x ≡ length (circuit net.now).inputs) report.now.inputs) }
 {
-    if let Some(place) = misfit(net.width(), report.states.slice()) {
-        return Err(state_diagnostic(alloc, path, place as u64));
+    if is_known(report) {
+        widths_or_diagnostic(alloc, path, net, report)
+    } else {
+        Err(partial_diagnostic(alloc, path))
     }
-    if let Some(place) = misfit(net.data_inputs().len(), report.inputs.slice()) {
-        return Err(input_diagnostic(alloc, path, place as u64));
-    }
-    Ok(())
 }
 
 // ---- names that are asked for

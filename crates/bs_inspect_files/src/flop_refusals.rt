@@ -23,7 +23,6 @@ pub fn order_refusal(alloc: Global, fault: OrderFault) -> Refusal
         OrderFault::Line(line) => numbered(alloc, b"Line ", line),
         OrderFault::Unknown(line) => numbered(alloc, b"Unknown ", line),
         OrderFault::Twice(line) => numbered(alloc, b"Twice ", line),
-        OrderFault::Missing(flop) => numbered(alloc, b"Missing ", flop),
         OrderFault::NoMemory => Refusal::NoMemory,
     }
 }

@@ -3,7 +3,7 @@
 //!
 //! Modules: `refusals` and `flop_refusals` (the words of a refusal), `fits` (whether a trace fits a
 //! netlist, and names are its own, or a diagnostic), `called`, `order` and `pattern` (names, a scan chain's order and a pattern: a
-//! reader each, `*_or_diagnostic`), `ready` (`TraceFiles`, `PageFiles`, `RunFiles`, `ReportFiles`, `OneRun`, `Scanned`), `tracing`,
+//! reader each, `*_or_diagnostic`), `ready` (`TraceFiles`, `PageFiles`, `RunFiles`, `BenchFiles`, `ReportFiles`, `OneRun`, `Scanned`), `tracing`,
 //! `paging` and `loading` (the walks).
 //! The netlist, the report and the stimulus are fetched and read by bs_top_files; an answer of `reach` in place of a report by
 //! bs_inspect_answers; a simulation's values by bs_inspect_values; what names, an order and a pattern are is said by bs_inspect_netlist. Used above: `WalksTold CheckSays
@@ -24,5 +24,8 @@ mod tracing;
 
 pub use loading::{load_named, load_scanned};
 pub use paging::load_page_files;
-pub use ready::{OneRun, PageFiles, ReportFiles, RunFiles, Scanned, TraceFiles};
-pub use tracing::{load_charted, load_one_run, load_picked, load_report_files, load_run_files};
+pub use pattern::file_in;
+pub use ready::{BenchFiles, OneRun, PageFiles, ReportFiles, RunFiles, Scanned, TraceFiles};
+pub use tracing::{
+    load_bench_files, load_charted, load_one_run, load_picked, load_report_files, load_run_files,
+};

@@ -1,18 +1,22 @@
 //! The walks over the files: each is fetched and read once, up to the first that stops the walk.
 ghost use Rattle.std.specs.Prelude.{◌≡◌, map};
+ghost use Rattle.bs_top_plan.specs.declared.file.File.TheVariants as files;
+ghost use Rattle.bs_top_plan.specs.Plan.{read_as};
 ghost use Rattle.bs_top_plan.specs.Telling.{WalksDiagnosed};
 ghost use Rattle.bs_top_files.specs.NoteCases.{NoteSays};
 ghost use Rattle.bs_top_files.specs.Refusals.{CheckSays};
-ghost use Rattle.bs_inspect_files.specs.FlopFiles.{chain_step, chain_step_looked, named_looked, named_of, order_looked, order_of, pattern_step, pattern_step_looked, scanned_in, scanned_looked, scanned_of};
+ghost use Rattle.bs_inspect_files.specs.Readings.{pattern_noted, pattern_read};
+ghost use Rattle.bs_inspect_files.specs.FlopFiles.{bits_file, bits_file_looked, bits_looked, bits_of, chain_step, chain_step_looked, joined_step, joined_step_looked, named_looked, named_of, order_looked, order_of, pattern_step, pattern_step_looked, scanned_in, scanned_looked, scanned_of};
 
 use crate::called::called_or_diagnostic;
 use crate::order::order_or_diagnostic;
-use crate::pattern::pattern_or_diagnostic;
+use crate::pattern::{file_in, joined, pattern_or_diagnostic};
 use crate::ready::Scanned;
+use bs_bits::Bits;
 use bs_net::Netlist;
 use bs_outside::Shelf;
 use bs_top_files::load_netlist;
-use bs_top_plan::{File, WalkStop, fetch_file, settle_diagnostic};
+use bs_top_plan::{File, JobFault, WalkStop, fetch_file, settle_diagnostic};
 use std::alloc::Global;
 
 /// Drops a value, which a walk that stops lets go.
@@ -53,18 +57,77 @@ fn load_order<S: Shelf>(
     settle_diagnostic(File::Map, order_or_diagnostic(alloc, order, &bytes, net))
 }
 
+/// The bits of a text, one for each of so many lines.
+fn load_bits<S: Shelf>(
+    alloc: Global,
+    _shelf: &mut S,
+    text: &[u8],
+    lines: usize,
+) -> Result<Bits, WalkStop>
+    ensures { WalksDiagnosed CheckSays NoteSays S.held S.faults S.leads _shelf.old _shelf.new
+        (read_as files.State (pattern_read lines text.now)) (read_as files.State (pattern_noted lines text.now)) (λ bits. bits) (λ bits. bits) result }
+{
+    settle_diagnostic(File::State, pattern_or_diagnostic(alloc, text, lines))
+}
+
+/// The bits of a file's text.
+fn load_joined<S: Shelf>(
+    alloc: Global,
+    shelf: &mut S,
+    text: &[u8],
+    lines: usize,
+) -> Result<Bits, WalkStop>
+    ensures { WalksDiagnosed CheckSays NoteSays S.held S.faults S.leads shelf.old shelf.new
+        (joined_step lines text.now) (joined_step_looked lines text.now) (λ bits. bits) (λ bits. bits) result }
+{
+    match joined(alloc, text) {
+        Ok(bits) => load_bits(alloc, shelf, bits.as_slice(), lines),
+        Err(_) => Err(WalkStop::Plain(JobFault::NoMemory)),
+    }
+}
+
+/// The bits of a file.
+fn load_bits_file<S: Shelf>(
+    alloc: Global,
+    shelf: &mut S,
+    name: &str,
+    lines: usize,
+) -> Result<Bits, WalkStop>
+    ensures { WalksDiagnosed CheckSays NoteSays S.held S.faults S.leads shelf.old shelf.new
+        (bits_file lines name.now) (bits_file_looked lines name.now) (λ bits. bits) (λ bits. bits) result }
+{
+    let bytes = fetch_file(alloc, shelf, File::Dump, name)?;
+    load_joined(alloc, shelf, &bytes, lines)
+}
+
+/// The bits of a word, or of the file that it names behind `@`.
+fn load_word<S: Shelf>(
+    alloc: Global,
+    shelf: &mut S,
+    word: &str,
+    lines: usize,
+) -> Result<Bits, WalkStop>
+    ensures { WalksDiagnosed CheckSays NoteSays S.held S.faults S.leads shelf.old shelf.new
+        (bits_of lines word.now) (bits_looked lines word.now) (λ bits. bits) (λ bits. bits) result }
+{
+    match file_in(word) {
+        Some(name) => load_bits_file(alloc, shelf, name, lines),
+        None => load_bits(alloc, shelf, word.as_bytes(), lines),
+    }
+}
+
 /// A netlist with the order of its scan chain, and a pattern.
 fn load_pattern<S: Shelf>(
     alloc: Global,
-    _shelf: &mut S,
+    shelf: &mut S,
     net: Netlist,
     order: Vec<usize>,
-    pattern: &[u8],
+    pattern: &str,
 ) -> Result<Scanned, WalkStop>
-    ensures { WalksDiagnosed CheckSays NoteSays S.held S.faults S.leads _shelf.old _shelf.new
+    ensures { WalksDiagnosed CheckSays NoteSays S.held S.faults S.leads shelf.old shelf.new
         (pattern_step net.raw order.items pattern.now) (pattern_step_looked net.raw order.items pattern.now) scanned_in scanned_in result }
 {
-    match settle_diagnostic(File::State, pattern_or_diagnostic(alloc, pattern, &net)) {
+    match load_word(alloc, shelf, pattern, order.len()) {
         Ok(bits) => Ok(Scanned {
             net,
             order,
@@ -84,7 +147,7 @@ fn load_chain<S: Shelf>(
     shelf: &mut S,
     net: Netlist,
     order: &str,
-    pattern: &[u8],
+    pattern: &str,
 ) -> Result<Scanned, WalkStop>
     ensures { WalksDiagnosed CheckSays NoteSays S.held S.faults S.leads shelf.old shelf.new
         (chain_step net.raw order.now pattern.now) (chain_step_looked net.raw order.now pattern.now) scanned_in scanned_in result }
@@ -98,13 +161,14 @@ fn load_chain<S: Shelf>(
     }
 }
 
-/// A netlist, the order of its scan chain, and a pattern in that order.
+/// A netlist, the order of its scan chain, which may lack flip-flops, and a pattern in that order: bits, or the name of their file behind
+/// `@`.
 pub fn load_scanned<S: Shelf>(
     alloc: Global,
     shelf: &mut S,
     netlist: &str,
     order: &str,
-    pattern: &[u8],
+    pattern: &str,
 ) -> Result<Scanned, WalkStop>
     ensures { WalksDiagnosed CheckSays NoteSays S.held S.faults S.leads shelf.old shelf.new
         (scanned_of netlist.now order.now pattern.now) (scanned_looked netlist.now order.now pattern.now) scanned_in scanned_in result }

@@ -8,15 +8,20 @@ ghost use Rattle.bs_top_plan.specs.Walks.{Reads};
 ghost use Rattle.bs_top_files.specs.NoteCases.{HasNote, IsNoteAtLine, NoteSays};
 ghost use Rattle.bs_top_files.specs.Refusals.{CheckSays, HasWords};
 ghost use Rattle.bs_inspect_netlist.specs.declared.fault.OrderFault.TheVariants.{NoMemory as OrderWant};
-ghost use Rattle.bs_inspect_files.specs.Readings.{form_saying, missing_text, order_note_reason, order_noted, order_read, twice_saying, unknown_saying};
+ghost use Rattle.bs_inspect_files.specs.Readings.{form_saying, order_note_reason, order_noted, order_read, twice_saying};
+ghost use Rattle.bs_inspect_notes.specs.declared.name.Subject.TheVariants.{Flops};
+ghost use Rattle.bs_inspect_notes.specs.Names.{key_saying, numbered};
+ghost use Rattle.bs_inspect_report.specs.Keys.{flop_keys};
 ghost use Rattle.bs_inspect_files.specs.FlopWords.{order_words};
 
 use crate::flop_refusals::order_refusal;
-use bs_bits::{NoMemory, push_number, push_piece};
+use bs_bits::NoMemory;
 use bs_inspect_answers::line_note;
 use bs_inspect_netlist::{OrderFault, read_order};
+use bs_inspect_notes::Subject;
+use bs_inspect_values::{flop_bytes, key_note};
 use bs_net::Netlist;
-use bs_note_files::{Message, file_note};
+use bs_note_files::Message;
 use bs_top_plan::{Unread, both};
 use std::alloc::Global;
 
@@ -27,16 +32,6 @@ fn form_saying() -> Message<'static>
     Message {
         sentence: b"a line is one name, of visible characters alone",
         label: b"the key of a flip-flop, or its name as RTL writes it",
-    }
-}
-
-/// What is said of a name that is that of no flip-flop.
-fn unknown_saying() -> Message<'static>
-    ensures { said result ≡ unknown_saying }
-{
-    Message {
-        sentence: b"no flip-flop has this name",
-        label: b"`flops` tells the keys",
     }
 }
 
@@ -60,11 +55,18 @@ fn form_note(alloc: Global, path: &str, text: &[u8], number: u64) -> Result<Vec<
 }
 
 /// A note on a line whose name is that of no flip-flop.
-fn unknown_note(alloc: Global, path: &str, text: &[u8], number: u64) -> Result<Vec<u8>, NoMemory>
-    ensures { IfOk result (λ note. IsNoteAtLine path.now text.now number unknown_saying note.items) }
+fn unknown_note(
+    alloc: Global,
+    net: &Netlist,
+    path: &str,
+    text: &[u8],
+    number: u64,
+) -> Result<Vec<u8>, NoMemory>
+    ensures { IfOk result (λ note. IsNoteAtLine path.now text.now number (key_saying Flops (flop_keys net.now.raw) (numbered text.now number)) note.items) }
 {
-    let message = unknown_saying();
-    let note = line_note(alloc, path, text, number, message)?;
+    let keys = flop_bytes(alloc, net)?;
+    let all = keys.as_slice();
+    let note = key_note(alloc, Subject::Flops, path, text, number, all)?;
     Ok(note)
 }
 
@@ -77,46 +79,40 @@ fn twice_note(alloc: Global, path: &str, text: &[u8], number: u64) -> Result<Vec
     Ok(note)
 }
 
-/// A note on a flip-flop that has no line.
-fn missing_note(alloc: Global, path: &str, flop: u64) -> Result<Vec<u8>, NoMemory>
-    ensures { IfOk result (λ note. note.items ≡ missing_text path.now flop) }
-{
-    let mut said = b"no line names flip-flop ".to_vec(alloc)?;
-    push_number(&mut said, flop)?;
-    push_piece(&mut said, b" of the netlist")?;
-    let mut note = file_note(alloc, path, &said)?;
-    push_piece(&mut note, b"note: `flops` tells its number and its key\n")?;
-    Ok(note)
-}
-
 /// The note on a text that is no order.
 fn order_note(
     alloc: Global,
+    net: &Netlist,
     path: &str,
     text: &[u8],
     fault: OrderFault,
 ) -> Result<Vec<u8>, NoMemory>
-    ensures { IfOk result (λ note. Says NoteSays (order_note_reason path.now text.now fault) note.items) }
+    ensures { IfOk result (λ note. Says NoteSays (order_note_reason net.now.raw path.now text.now fault) note.items) }
 {
     match fault {
         OrderFault::Line(number) => form_note(alloc, path, text, number),
-        OrderFault::Unknown(number) => unknown_note(alloc, path, text, number),
+        OrderFault::Unknown(number) => unknown_note(alloc, net, path, text, number),
         OrderFault::Twice(number) => twice_note(alloc, path, text, number),
-        OrderFault::Missing(flop) => missing_note(alloc, path, flop),
         OrderFault::NoMemory => Err(NoMemory),
     }
 }
 
 /// The diagnostic of a text that is no order.
 #[tactic(auto, using(bs_top_files::proofs::NotingLemmas::both_words, bs_top_files::proofs::NotingLemmas::both_note, bs_top_files::proofs::NotingLemmas::both_want))]
-fn order_diagnostic(alloc: Global, path: &str, text: &[u8], fault: OrderFault) -> Unread
+fn order_diagnostic(
+    alloc: Global,
+    net: &Netlist,
+    path: &str,
+    text: &[u8],
+    fault: OrderFault,
+) -> Unread
     ensures words { HasWords (order_words fault) (word_refusal result) }
     ensures want { fault ≡ OrderWant → word_refusal result ≡ Want }
-    ensures note { HasNote (order_note_reason path.now text.now fault) (note_refusal result) }
+    ensures note { HasNote (order_note_reason net.now.raw path.now text.now fault) (note_refusal result) }
     ensures none { fault ≡ OrderWant → note_refusal result ≡ Want }
 {
     let words = order_refusal(alloc, fault);
-    let note = order_note(alloc, path, text, fault);
+    let note = order_note(alloc, net, path, text, fault);
     both(words, note)
 }
 
@@ -132,6 +128,6 @@ pub fn order_or_diagnostic(
 {
     match read_order(alloc, net, text) {
         Ok(order) => Ok(order),
-        Err(fault) => Err(order_diagnostic(alloc, path, text, fault)),
+        Err(fault) => Err(order_diagnostic(alloc, net, path, text, fault)),
     }
 }

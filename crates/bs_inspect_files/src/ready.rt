@@ -36,6 +36,15 @@ pub struct RunFiles {
     ghost inputs: { runs.width ≡ length (circuit net).inputs },
 }
 
+/// A netlist, recorded runs, and a report whose trace has as many bits as the netlist.
+#[derive(Drop)]
+pub struct BenchFiles {
+    pub run_files: RunFiles,
+    pub report: Report,
+    ghost more: { length report.states ≡ length report.inputs + 1 },
+    ghost inputs: { All (λ x. length x ≡ length (circuit run_files.net).inputs) report.inputs },
+}
+
 /// A netlist, what its signature is taken of, and a report.
 #[derive(Drop)]
 pub struct ReportFiles {
@@ -54,7 +63,8 @@ pub struct OneRun {
     ghost recorded: { IsMoment (inputs_of run_files.runs) moment },
 }
 
-/// A netlist, the flip-flops of a scan chain in its order, by their numbers from 0, and a pattern in that order.
+/// A netlist, the flip-flops of a scan chain in its order, by their numbers from 0, of which some may be left out, and a pattern in that
+/// order.
 #[derive(Drop)]
 pub struct Scanned {
     pub net: Netlist,

@@ -4,11 +4,11 @@ ghost use Rattle.bs_net.specs.Netlist.{circuit};
 ghost use Rattle.bs_top_plan.specs.Telling.{WalksDiagnosed};
 ghost use Rattle.bs_top_files.specs.NoteCases.{NoteSays};
 ghost use Rattle.bs_top_files.specs.Refusals.{CheckSays};
-ghost use Rattle.bs_inspect_files.specs.Taken.{chart_step, chart_step_looked, charted_looked, charted_of, one_run_in, one_run_looked, one_run_of, drawn_step, drawn_step_looked, run_files_in, run_files_looked, run_files_of, picked_looked, picked_of, choice_step, choice_step_looked, fit_step, fit_step_looked, report_files_in, report_files_looked, report_files_of, report_files_step, report_files_step_looked, report_step, report_step_looked, runs_step, runs_step_looked, trace_files_in, trace_files_looked, trace_files_of};
+ghost use Rattle.bs_inspect_files.specs.Taken.{bench_files_in, bench_files_looked, bench_files_of, chart_step, chart_step_looked, charted_looked, charted_of, one_run_in, one_run_looked, one_run_of, drawn_step, drawn_step_looked, drive_step, drive_step_looked, driven_step, driven_step_looked, run_files_in, run_files_looked, run_files_of, picked_looked, picked_of, choice_step, choice_step_looked, fit_step, fit_step_looked, report_files_in, report_files_looked, report_files_of, report_files_step, report_files_step_looked, report_step, report_step_looked, runs_step, runs_step_looked, trace_files_in, trace_files_looked, trace_files_of};
 
 use crate::called::called_or_diagnostic;
 use crate::fits::{fit_or_diagnostic, known_or_diagnostic};
-use crate::ready::{OneRun, ReportFiles, RunFiles, TraceFiles};
+use crate::ready::{BenchFiles, OneRun, ReportFiles, RunFiles, TraceFiles};
 use bs_inspect_answers::load_trace;
 use bs_net::Netlist;
 use bs_outside::Shelf;
@@ -284,5 +284,64 @@ pub fn load_one_run<S: Shelf>(
             let_go(run_files);
             Err(stop)
         }
+    }
+}
+
+/// A netlist, recorded runs and a report, where its trace fits.
+fn load_driven<S: Shelf>(
+    alloc: Global,
+    _shelf: &mut S,
+    run_files: RunFiles,
+    report: Report,
+    path: &str,
+) -> Result<BenchFiles, WalkStop>
+    requires { length report.states ≡ length report.inputs + 1 }
+    ensures { WalksDiagnosed CheckSays NoteSays S.held S.faults S.leads _shelf.old _shelf.new
+        (driven_step (run_files_in run_files) report) (driven_step_looked path.now (run_files_in run_files) report) bench_files_in bench_files_in result }
+{
+    let fits = fit_or_diagnostic(alloc, path, &run_files.net, &report);
+    match settle_diagnostic(File::Report, fits) {
+        Ok(()) => Ok(BenchFiles { run_files, report }),
+        Err(stop) => {
+            let_go(run_files);
+            let_go(report);
+            Err(stop)
+        }
+    }
+}
+
+/// A netlist and recorded runs, and the report of a file whose trace fits, or the answer of a file whose execution does.
+fn load_driving<S: Shelf>(
+    alloc: Global,
+    shelf: &mut S,
+    run_files: RunFiles,
+    path: &str,
+) -> Result<BenchFiles, WalkStop>
+    ensures { WalksDiagnosed CheckSays NoteSays S.held S.faults S.leads shelf.old shelf.new
+        (drive_step (run_files_in run_files) path.now) (drive_step_looked (run_files_in run_files) path.now) bench_files_in bench_files_in result }
+{
+    match load_trace(alloc, shelf, path) {
+        Ok(report) => load_driven(alloc, shelf, run_files, report, path),
+        Err(stop) => {
+            let_go(run_files);
+            Err(stop)
+        }
+    }
+}
+
+/// A netlist, recorded runs, and a report whose trace fits.
+pub fn load_bench_files<S: Shelf>(
+    alloc: Global,
+    shelf: &mut S,
+    netlist: &str,
+    runs: &str,
+    report: &str,
+) -> Result<BenchFiles, WalkStop>
+    ensures { WalksDiagnosed CheckSays NoteSays S.held S.faults S.leads shelf.old shelf.new
+        (bench_files_of netlist.now runs.now report.now) (bench_files_looked netlist.now runs.now report.now) bench_files_in bench_files_in result }
+{
+    match load_run_files(alloc, shelf, netlist, runs) {
+        Ok(run_files) => load_driving(alloc, shelf, run_files, report),
+        Err(stop) => Err(stop),
     }
 }

@@ -19,6 +19,7 @@ two_cycles =
       stop = stops.Reset;
       states = (false ∷ []) ∷ (true ∷ []) ∷ (true ∷ []) ∷ [];
       inputs = (true ∷ []) ∷ (false ∷ []) ∷ [];
+      free = [];
       log = [];
     }
 

@@ -3,7 +3,7 @@
 use crate::known::{know_by_given, know_by_trace, know_gates, note_gates};
 use crate::need::are_met;
 use crate::tables::{flag, put, put_nets};
-use crate::view::{Desk, View};
+use crate::view::Desk;
 use crate::walk::cheapest_sources;
 use bs_bits::NoMemory;
 use bs_net::NetId;
@@ -21,10 +21,11 @@ pub(crate) struct Choice {
 }
 
 /// Those of the fan-in's gates that are known.
-fn known_gates(view: &View<'_>, desk: &Desk) -> Result<Vec<usize>, NoMemory> {
-    let mut known = Vec::new(view.site.alloc);
-    'gates: for place in view.site.fanin.gates.as_slice() {
-        if let Some(gate) = view.site.scene.gate(*place) {
+fn known_gates(desk: &Desk<'_>) -> Result<Vec<usize>, NoMemory> {
+    let site = desk.site;
+    let mut known = Vec::new(site.alloc);
+    'gates: for place in site.fanin.gates.as_slice() {
+        if let Some(gate) = site.scene.gate(*place) {
             if desk.known_at(gate.out) != 0 {
                 known.push(*place)?;
             }
@@ -34,30 +35,26 @@ fn known_gates(view: &View<'_>, desk: &Desk) -> Result<Vec<usize>, NoMemory> {
 }
 
 /// Whether a source is needed to decide all bits. It is known from then on only if it is.
-fn is_needed(view: &View<'_>, desk: &mut Desk, gates: &[usize], net: NetId) -> bool {
+fn is_needed(desk: &mut Desk<'_>, gates: &[usize], net: NetId) -> bool {
     put(&mut desk.known, net.0 as usize, 0);
-    know_gates(view, desk, gates);
-    if are_met(view, desk) {
+    know_gates(desk, gates);
+    if are_met(desk) {
         return false;
     }
-    put(&mut desk.known, net.0 as usize, view.cycles);
+    let cycles = desk.cycles;
+    put(&mut desk.known, net.0 as usize, cycles);
     true
 }
 
 /// Leaves out each source without which all bits are decided, one after another, unless there are too many. The block's own nets are not
 /// tried where they are free.
-fn leave_out(
-    view: &View<'_>,
-    desk: &mut Desk,
-    gates: &[usize],
-    sources: &[NetId],
-) -> Result<Choice, NoMemory> {
-    let mut nets = Vec::new(view.site.alloc);
+fn leave_out(desk: &mut Desk<'_>, gates: &[usize], sources: &[NetId]) -> Result<Choice, NoMemory> {
+    let mut nets = Vec::new(desk.site.alloc);
     let mut own = false;
     'sources: for net in sources {
-        if view.free && flag(desk.own.as_slice(), *net) {
+        if desk.free && flag(desk.own.as_slice(), *net) {
             own = true;
-        } else if MAX_SOURCES <= sources.len() || is_needed(view, desk, gates, *net) {
+        } else if MAX_SOURCES <= sources.len() || is_needed(desk, gates, *net) {
             nets.push(*net)?;
         }
     }
@@ -65,24 +62,25 @@ fn leave_out(
 }
 
 /// Leaves out sources, and notes which gates are needed. What is known are then the sources that are left.
-fn lessen(view: &View<'_>, desk: &mut Desk, sources: &[NetId]) -> Result<Choice, NoMemory> {
+fn lessen(desk: &mut Desk<'_>, sources: &[NetId]) -> Result<Choice, NoMemory> {
+    let site = desk.site;
     put_nets(&mut desk.given, sources, true);
-    know_by_given(view, desk);
+    know_by_given(desk, site.fanin);
     put_nets(&mut desk.given, sources, false);
-    let gates = known_gates(view, desk)?;
-    let choice = leave_out(view, desk, gates.as_slice(), sources);
-    know_gates(view, desk, gates.as_slice());
-    note_gates(view, desk, gates.as_slice());
+    let gates = known_gates(desk)?;
+    let choice = leave_out(desk, gates.as_slice(), sources);
+    know_gates(desk, gates.as_slice());
+    note_gates(desk, gates.as_slice());
     drop(gates);
     choice
 }
 
 /// Sources of the fan-in that decide the bits at a cycle, or what their flip-flops load there. None can be left out. Where the block's
 /// own nets are free they cost nothing.
-pub(crate) fn choose(view: &View<'_>, desk: &mut Desk) -> Result<Choice, NoMemory> {
-    know_by_trace(view, desk);
-    let sources = cheapest_sources(view, desk)?;
-    let choice = lessen(view, desk, sources.as_slice());
+pub(crate) fn choose(desk: &mut Desk<'_>) -> Result<Choice, NoMemory> {
+    know_by_trace(desk);
+    let sources = cheapest_sources(desk)?;
+    let choice = lessen(desk, sources.as_slice());
     drop(sources);
     choice
 }

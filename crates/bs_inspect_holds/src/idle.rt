@@ -5,7 +5,7 @@ use crate::fanin::fanin_of;
 use crate::known::know_by_given;
 use crate::scene::Scene;
 use crate::tables::{flag, put_nets};
-use crate::view::{Desk, Site, View, give_constants};
+use crate::view::{Desk, give_constants};
 use bs_bits::{List, NoMemory};
 use bs_net::NetId;
 use bs_net_facts::Fact;
@@ -23,7 +23,8 @@ pub(crate) fn shares_vector(scene: &Scene<'_>, nets: &[NetId], net: NetId) -> bo
 
 /// Whether a net is worth telling beside sources: a gate's net at which a cone ends, or a vector by itself. It is not the block's own,
 /// and of no vector of theirs.
-pub(crate) fn is_beside(scene: &Scene<'_>, desk: &Desk, sources: &[NetId], net: NetId) -> bool {
+pub(crate) fn is_beside(desk: &Desk<'_>, sources: &[NetId], net: NetId) -> bool {
+    let scene = desk.site.scene;
     let telling = match scene.driver(net) {
         Driver::Gate(_) => true,
         Driver::Constant => false,
@@ -33,59 +34,32 @@ pub(crate) fn is_beside(scene: &Scene<'_>, desk: &Desk, sources: &[NetId], net: 
     telling && !own && !shares_vector(scene, sources, net)
 }
 
-/// The leaves of a fan-in that show 1 beside sources at a moment, the nearest first.
-fn ones_beside(view: &View<'_>, desk: &Desk, sources: &[NetId]) -> Result<Vec<NetId>, NoMemory> {
-    let mut ones = Vec::new(view.site.alloc);
-    'leaves: for net in view.site.fanin.leaves.as_slice() {
-        let one = view.with_bit(*net, true) != 0;
-        if one && is_beside(view.site.scene, desk, sources, *net) {
-            ones.push(*net)?;
-        }
-    }
-    Ok(ones)
-}
-
 /// Notes which of some nets given nets force at a cycle, down all cones.
-fn know_forced(view: &View<'_>, desk: &mut Desk, nets: &[NetId]) -> Result<(), NoMemory> {
-    let site = view.site;
+fn know_forced(desk: &mut Desk<'_>, nets: &[NetId]) -> Result<(), NoMemory> {
+    let site = desk.site;
     let ends = Vec::from_slice(site.alloc, desk.given.as_slice())?;
     let fanin = fanin_of(site.alloc, site.scene, nets, ends)?;
-    give_constants(site.scene, desk, fanin.leaves.as_slice());
-    let below = Site {
-        alloc: site.alloc,
-        scene: site.scene,
-        fanin: &fanin,
-        facts: site.facts,
-        flop: site.flop,
-        end: site.end,
-    };
-    let all = View {
-        site: &below,
-        cycle: view.cycle,
-        cycles: view.cycles,
-        free: false,
-    };
-    know_by_given(&all, desk);
+    give_constants(desk, fanin.leaves.as_slice());
+    know_by_given(desk, &fanin);
     drop(fanin);
     Ok(())
 }
 
 /// Tells that those of some nets show 1 at a cycle that sources do not force there.
 pub(crate) fn push_unforced(
-    view: &View<'_>,
-    desk: &mut Desk,
+    desk: &mut Desk<'_>,
     sources: &[NetId],
     nets: &[NetId],
     idle: &mut List<Fact>,
 ) -> Result<(), NoMemory> {
     put_nets(&mut desk.given, sources, true);
-    know_forced(view, desk, nets)?;
+    know_forced(desk, nets)?;
     put_nets(&mut desk.given, sources, false);
     'nets: for net in nets {
         if desk.known_at(*net) == 0 {
             idle.push(Fact {
                 net: *net,
-                cycle: view.cycle,
+                cycle: desk.cycle,
                 bit: true,
             })?;
         }
@@ -95,13 +69,18 @@ pub(crate) fn push_unforced(
 
 /// Tells what shows 1 at a moment below a block and does not matter, where sources decide it: the nearest first.
 pub(crate) fn push_idle(
-    view: &View<'_>,
-    desk: &mut Desk,
+    desk: &mut Desk<'_>,
     sources: &[NetId],
     idle: &mut List<Fact>,
 ) -> Result<(), NoMemory> {
-    let ones = ones_beside(view, desk, sources)?;
-    let done = push_unforced(view, desk, sources, ones.as_slice(), idle);
-    drop(ones);
-    done
+    let site = desk.site;
+    let mut ones = Vec::new(site.alloc);
+    'leaves: for net in site.fanin.leaves.as_slice() {
+        let one = desk.with_bit(*net, true) != 0;
+        if one && is_beside(desk, sources, *net) {
+            ones.push(*net)?;
+        }
+    }
+    push_unforced(desk, sources, ones.as_slice(), idle)?;
+    Ok(())
 }

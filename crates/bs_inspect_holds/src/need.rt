@@ -2,7 +2,7 @@
 
 use crate::driver::Driver;
 use crate::scene::Scene;
-use crate::view::{Desk, View};
+use crate::view::Desk;
 use bs_bits::NoMemory;
 use bs_net::{Flop, Mode, NetId};
 use bs_net_facts::Fact;
@@ -28,15 +28,15 @@ impl Need {
 }
 
 /// Which nets decide the bit that a flip-flop loads at a moment.
-fn flop_need(view: &View<'_>, flop: Flop) -> Need {
-    let high = view.with_bit(flop.d, true) != 0;
+fn flop_need(desk: &Desk<'_>, flop: Flop) -> Need {
+    let high = desk.with_bit(flop.d, true) != 0;
     let (one, other, both) = match flop.mode {
         Mode::Plain => (flop.d, flop.d, false),
         Mode::Enable(enable) => {
-            let enabled = view.with_bit(enable, true) != 0;
+            let enabled = desk.with_bit(enable, true) != 0;
             (enable, if enabled { flop.d } else { flop.q }, true)
         }
-        Mode::Clear(clear) => match (view.with_bit(clear, true) != 0, high) {
+        Mode::Clear(clear) => match (desk.with_bit(clear, true) != 0, high) {
             (true, true) => (clear, clear, false),
             (false, false) => (flop.d, flop.d, false),
             _ => (clear, flop.d, high),
@@ -46,9 +46,9 @@ fn flop_need(view: &View<'_>, flop: Flop) -> Need {
 }
 
 /// Which nets decide a net's bit at a moment, or what its flip-flop loads there.
-pub(crate) fn need_of(view: &View<'_>, net: NetId) -> Need {
-    match view.site.scene.driver(net) {
-        Driver::Flop(_, flop) => flop_need(view, flop),
+pub(crate) fn need_of(desk: &Desk<'_>, net: NetId) -> Need {
+    match desk.site.scene.driver(net) {
+        Driver::Flop(_, flop) => flop_need(desk, flop),
         _ => Need {
             one: net,
             other: net,
@@ -84,9 +84,9 @@ pub(crate) fn roots_of(
 }
 
 /// Whether what is known at a moment decides all bits.
-pub(crate) fn are_met(view: &View<'_>, desk: &Desk) -> bool {
-    'facts: for fact in view.site.facts {
-        let need = need_of(view, fact.net);
+pub(crate) fn are_met(desk: &Desk<'_>) -> bool {
+    'facts: for fact in desk.site.facts {
+        let need = need_of(desk, fact.net);
         let one = desk.known_at(need.one) != 0;
         let other = desk.known_at(need.other) != 0;
         if !need.is_met(one, other) {
@@ -97,24 +97,24 @@ pub(crate) fn are_met(view: &View<'_>, desk: &Desk) -> bool {
 }
 
 /// The moments at which a flip-flop loads the bit that it has, by what is known beside that bit.
-fn flop_kept(view: &View<'_>, desk: &Desk, flop: Flop) -> u64 {
+fn flop_kept(desk: &Desk<'_>, flop: Flop) -> u64 {
     let input = desk.known_at(flop.d);
     match flop.mode {
         Mode::Plain => input,
-        Mode::Enable(enable) => { desk.known_at(enable) & (view.with_bit(enable, false) | input) }
+        Mode::Enable(enable) => { desk.known_at(enable) & (desk.with_bit(enable, false) | input) }
         Mode::Clear(clear) => {
-            let low = input & view.with_bit(flop.d, false);
-            low | (desk.known_at(clear) & (view.with_bit(clear, true) | input))
+            let low = input & desk.with_bit(flop.d, false);
+            low | (desk.known_at(clear) & (desk.with_bit(clear, true) | input))
         }
     }
 }
 
 /// The moments at which the flip-flops of the bits load the bits that they have.
-pub(crate) fn all_kept(view: &View<'_>, desk: &Desk) -> u64 {
-    let mut kept = view.cycles;
-    'facts: for fact in view.site.facts {
-        kept = match view.site.scene.driver(fact.net) {
-            Driver::Flop(_, flop) => kept & flop_kept(view, desk, flop),
+pub(crate) fn all_kept(desk: &Desk<'_>) -> u64 {
+    let mut kept = desk.cycles;
+    'facts: for fact in desk.site.facts {
+        kept = match desk.site.scene.driver(fact.net) {
+            Driver::Flop(_, flop) => kept & flop_kept(desk, flop),
             _ => 0,
         };
     }

@@ -4,13 +4,13 @@ ghost use Rattle.std.specs.Prelude.{◌≡◌, IfOk};
 use crate::choice::{Choice, choose};
 use crate::driver::Driver;
 use crate::fanin::{Fanin, fanin_of};
-use crate::hold::{Hold, Keeping, keep_all};
+use crate::hold::{Keeping, keep_all, share};
 use crate::idle::push_idle;
 use crate::need::roots_of;
 use crate::rare::{Kept, push_rare};
 use crate::scene::Scene;
 use crate::tables::{at, bit_of, cycles_from, flag, has, put_facts};
-use crate::view::{Desk, Site, View, give_constants};
+use crate::view::{Desk, Site, give_constants};
 use bs_bits::{List, NoMemory};
 use bs_net::NetId;
 use bs_net_facts::{Block, Cone, Fact, Moments};
@@ -58,78 +58,52 @@ fn push_facts(
 }
 
 /// Finds what decides the bits at a cycle, or what their flip-flops load there.
-fn find_causes(
-    site: &Site<'_>,
-    desk: &mut Desk,
-    cycle: u32,
-    found: &mut Finding,
-) -> Result<(), NoMemory> {
-    let view = View {
-        site,
-        cycle,
-        cycles: bit_of(cycle),
-        free: false,
-    };
-    let Choice { nets, own: _ } = choose(&view, desk)?;
-    push_facts(site.scene.moments, &mut found.given, nets.as_slice(), cycle)?;
-    let done = push_idle(&view, desk, nets.as_slice(), &mut found.idle);
+fn find_causes(desk: &mut Desk<'_>, cycle: u32, found: &mut Finding) -> Result<(), NoMemory> {
+    let moments = desk.site.scene.moments;
+    desk.look(cycle, bit_of(cycle), false);
+    let Choice { nets, own: _ } = choose(desk)?;
+    push_facts(moments, &mut found.given, nets.as_slice(), cycle)?;
+    let done = push_idle(desk, nets.as_slice(), &mut found.idle);
     drop(nets);
     done
-}
-
-/// Puts in the facts of the holds that keep the bits at a cycle.
-fn push_holds_at(kept: &Kept<'_>, facts: &mut List<Fact>, cycle: u32) -> Result<(), NoMemory> {
-    'holds: for hold in kept.holds {
-        if has(hold.cycles.as_slice(), cycle) {
-            push_facts(kept.site.scene.moments, facts, hold.nets.as_slice(), cycle)?;
-        }
-    }
-    Ok(())
 }
 
 /// Puts in the facts of holds, by ascending cycles.
 fn push_holds(kept: &Kept<'_>, facts: &mut List<Fact>) -> Result<(), NoMemory> {
     'cycles: for cycle in kept.first..kept.site.end {
-        push_holds_at(kept, facts, cycle)?;
+        'holds: for hold in kept.holds {
+            if has(hold.cycles.as_slice(), cycle) {
+                push_facts(kept.site.scene.moments, facts, hold.nets.as_slice(), cycle)?;
+            }
+        }
     }
     Ok(())
 }
 
-/// Puts in the facts of holds from the cycle on from which the bits stand, and those to tell beside them.
-fn find_holds(
-    site: &Site<'_>,
-    desk: &mut Desk,
-    holds: &[Hold],
-    found: &mut Finding,
-) -> Result<(), NoMemory> {
-    let first = found.since;
-    let cycles = cycles_from(site.alloc, first, site.end)?;
-    let kept = Kept {
-        site,
-        holds,
-        cycles: cycles.as_slice(),
-        first,
-    };
-    push_holds(&kept, &mut found.given)?;
-    let done = push_rare(&kept, desk, &mut found.idle);
-    drop(cycles);
-    done
-}
-
-/// Finds what set the bits of flip-flops, unless they have stood since the first moment, and what has kept them, which is noted.
+/// Finds what set the bits of flip-flops, unless they have stood since the first moment, what has kept them, which is noted, and what to
+/// tell beside it.
 fn find_with(
-    site: &Site<'_>,
-    desk: &mut Desk,
+    desk: &mut Desk<'_>,
     keeping: &mut Keeping,
     found: &mut Finding,
 ) -> Result<(), NoMemory> {
-    let since = keep_all(site, desk, keeping)?;
+    let site = desk.site;
+    let since = keep_all(desk, keeping)?;
     found.since = since;
     found.begun = since == 0;
     if since > 0 {
-        find_causes(site, desk, since - 1, found)?;
+        find_causes(desk, since - 1, found)?;
     }
-    find_holds(site, desk, keeping.holds.as_slice(), found)
+    let mut left = cycles_from(site.alloc, since, site.end)?;
+    share(&mut keeping.holds, &mut left);
+    drop(left);
+    let kept = Kept {
+        site,
+        holds: keeping.holds.as_slice(),
+        first: since,
+    };
+    push_holds(&kept, &mut found.given)?;
+    push_rare(&kept, desk, &mut found.idle)
 }
 
 /// Whether all nets have their bits at a cycle.
@@ -155,35 +129,32 @@ fn shown_since(site: &Site<'_>) -> u32 {
 }
 
 /// Finds what set the bits of flip-flops, and what has kept them.
-fn find_kept(site: &Site<'_>, desk: &mut Desk, found: &mut Finding) -> Result<(), NoMemory> {
+fn find_kept(desk: &mut Desk<'_>, found: &mut Finding) -> Result<(), NoMemory> {
+    let site = desk.site;
     let first = shown_since(site);
     let mut keeping = Keeping {
         first,
-        left: cycles_from(site.alloc, first, site.end)?,
+        cycles: cycles_from(site.alloc, first, site.end)?,
         holds: Vec::new(site.alloc),
     };
-    let done = find_with(site, desk, &mut keeping, found);
+    let done = find_with(desk, &mut keeping, found);
     drop(keeping);
     done
 }
 
-/// Puts in the gates of the fan-in that are needed.
-fn push_gates(site: &Site<'_>, desk: &Desk, gates: &mut List<u32>) -> Result<(), NoMemory> {
+/// Puts in the gates of the fan-in that are needed, and the flip-flops that drive the bits.
+fn push_cone(desk: &Desk<'_>, cone: &mut Cone) -> Result<(), NoMemory> {
+    let site = desk.site;
     'gates: for place in site.fanin.gates.as_slice() {
         if let Some(gate) = site.scene.gate(*place) {
             if flag(desk.used.as_slice(), gate.out) {
-                gates.push(at(site.scene.order, *place, u32::MAX))?;
+                cone.gates.push(at(site.scene.order, *place, u32::MAX))?;
             }
         }
     }
-    Ok(())
-}
-
-/// Puts in the flip-flops that drive the bits.
-fn push_flops(site: &Site<'_>, flops: &mut List<u32>) -> Result<(), NoMemory> {
     'facts: for fact in site.facts {
         if let Driver::Flop(number, _) = site.scene.driver(fact.net) {
-            flops.push(number)?;
+            cone.flops.push(number)?;
         }
     }
     Ok(())
@@ -191,16 +162,15 @@ fn push_flops(site: &Site<'_>, flops: &mut List<u32>) -> Result<(), NoMemory> {
 
 /// Finds what forces the bits, and what a pass over them needs.
 fn find(site: &Site<'_>, found: &mut Finding) -> Result<(), NoMemory> {
-    let mut desk = Desk::new(site.alloc, site.scene.nets)?;
-    give_constants(site.scene, &mut desk, site.fanin.leaves.as_slice());
+    let mut desk = Desk::new(&*site)?;
+    give_constants(&mut desk, site.fanin.leaves.as_slice());
     put_facts(&mut desk.own, site.facts, true);
     if site.flop {
-        find_kept(site, &mut desk, found)?;
+        find_kept(&mut desk, found)?;
     } else {
-        find_causes(site, &mut desk, site.end, found)?;
+        find_causes(&mut desk, site.end, found)?;
     }
-    push_gates(site, &desk, &mut found.cone.gates)?;
-    push_flops(site, &mut found.cone.flops)?;
+    push_cone(&desk, &mut found.cone)?;
     Ok(())
 }
 

@@ -2,8 +2,9 @@
 
 use crate::hold::Hold;
 use crate::idle::{is_beside, push_unforced, shares_vector};
-use crate::tables::{at, bit_of, has, put_facts};
-use crate::view::{Desk, Site, View};
+use crate::scene::Scene;
+use crate::tables::{bit_of, has, put_facts};
+use crate::view::{Desk, Site};
 use bs_bits::{List, NoMemory};
 use bs_net::NetId;
 use bs_net_facts::Fact;
@@ -14,12 +15,11 @@ const MAX_CYCLES: u64 = 3;
 /// How many rare nets are told of a block.
 const MAX_NETS: usize = 3;
 
-/// The cycles from one on up to the block's, at which holds keep the bits of flip-flops.
+/// The cycles from one on up to the block's, each with the hold that keeps the bits of flip-flops there.
 #[derive(Clone, Copy)]
 pub(crate) struct Kept<'a> {
     pub(crate) site: &'a Site<'a>,
     pub(crate) holds: &'a [Hold],
-    pub(crate) cycles: &'a [u64],
     pub(crate) first: u32,
 }
 
@@ -31,12 +31,11 @@ struct Rare {
 }
 
 /// At how many of a hold's cycles a net shows 1.
-fn ones_of_hold(kept: &Kept<'_>, hold: &Hold, net: NetId) -> u64 {
+fn ones_of_hold(scene: &Scene<'_>, hold: &Hold, net: NetId) -> u64 {
     let mut ones = 0u64;
     let mut first = 0u32;
-    'words: for i in 0..hold.cycles.len() {
-        let shown = kept.site.scene.shown(net, first);
-        let word = shown & hold.cycles[i] & at(kept.cycles, i, 0);
+    'words: for cycles in hold.cycles.as_slice() {
+        let word = scene.shown(net, first) & *cycles;
         ones = ones.saturating_add(u64::from(word.count_ones()));
         first = first.saturating_add(64);
     }
@@ -44,18 +43,18 @@ fn ones_of_hold(kept: &Kept<'_>, hold: &Hold, net: NetId) -> u64 {
 }
 
 /// At how many cycles a net shows 1 beside the sources that keep the bits there.
-fn ones_of(kept: &Kept<'_>, desk: &Desk, net: NetId) -> u64 {
+fn ones_of(kept: &Kept<'_>, desk: &Desk<'_>, net: NetId) -> u64 {
     let mut ones = 0u64;
     'holds: for hold in kept.holds {
-        if is_beside(kept.site.scene, desk, hold.nets.as_slice(), net) {
-            ones = ones.saturating_add(ones_of_hold(kept, hold, net));
+        if is_beside(desk, hold.nets.as_slice(), net) {
+            ones = ones.saturating_add(ones_of_hold(desk.site.scene, hold, net));
         }
     }
     ones
 }
 
 /// The rare leaves of the fan-in, the nearest first.
-fn rare_leaves(kept: &Kept<'_>, desk: &Desk) -> Result<Vec<Rare>, NoMemory> {
+fn rare_leaves(kept: &Kept<'_>, desk: &Desk<'_>) -> Result<Vec<Rare>, NoMemory> {
     let cycles = u64::from(kept.site.end.saturating_sub(kept.first));
     let mut rare = Vec::new(kept.site.alloc);
     'leaves: for net in kept.site.fanin.leaves.as_slice() {
@@ -70,22 +69,17 @@ fn rare_leaves(kept: &Kept<'_>, desk: &Desk) -> Result<Vec<Rare>, NoMemory> {
 /// Tells that a net shows 1 at a cycle, unless the sources that keep the bits there force it or are of its vector.
 fn push_cycle(
     kept: &Kept<'_>,
-    desk: &mut Desk,
+    desk: &mut Desk<'_>,
     net: NetId,
     cycle: u32,
     idle: &mut List<Fact>,
 ) -> Result<(), NoMemory> {
-    let view = View {
-        site: kept.site,
-        cycle,
-        cycles: bit_of(cycle),
-        free: false,
-    };
+    desk.look(cycle, bit_of(cycle), false);
     'holds: for hold in kept.holds {
         let nets = hold.nets.as_slice();
         let keeps = has(hold.cycles.as_slice(), cycle);
         if keeps && !shares_vector(kept.site.scene, nets, net) {
-            push_unforced(&view, desk, nets, &[net], idle)?;
+            push_unforced(desk, nets, &[net], idle)?;
         }
     }
     Ok(())
@@ -94,7 +88,7 @@ fn push_cycle(
 /// Tells at which cycles a net shows 1. It gives whether there is one.
 fn push_net(
     kept: &Kept<'_>,
-    desk: &mut Desk,
+    desk: &mut Desk<'_>,
     net: NetId,
     idle: &mut List<Fact>,
 ) -> Result<bool, NoMemory> {
@@ -110,7 +104,7 @@ fn push_net(
 /// Tells of the nets that show 1 at so many cycles, up to so many of them. It gives how many more there may be.
 fn push_nets(
     kept: &Kept<'_>,
-    desk: &mut Desk,
+    desk: &mut Desk<'_>,
     rare: &[Rare],
     ones: u64,
     room: usize,
@@ -127,30 +121,18 @@ fn push_nets(
     Ok(left)
 }
 
-/// Tells of the rarest nets first, up to so many of them.
-fn push_all(
-    kept: &Kept<'_>,
-    desk: &mut Desk,
-    rare: &[Rare],
-    idle: &mut List<Fact>,
-) -> Result<(), NoMemory> {
-    let mut room = MAX_NETS;
-    'ones: for ones in 1..MAX_CYCLES + 1 {
-        room = push_nets(kept, desk, rare, ones, room, idle)?;
-    }
-    Ok(())
-}
-
 /// Tells what shows 1 at few cycles at which bits are kept, and does not matter there: the rarest nets first.
 pub(crate) fn push_rare(
     kept: &Kept<'_>,
-    desk: &mut Desk,
+    desk: &mut Desk<'_>,
     idle: &mut List<Fact>,
 ) -> Result<(), NoMemory> {
     let rare = rare_leaves(kept, desk)?;
     put_facts(&mut desk.given, kept.site.facts, true);
-    let done = push_all(kept, desk, rare.as_slice(), idle);
+    let mut room = MAX_NETS;
+    'ones: for ones in 1..MAX_CYCLES + 1 {
+        room = push_nets(kept, desk, rare.as_slice(), ones, room, idle)?;
+    }
     put_facts(&mut desk.given, kept.site.facts, false);
-    drop(rare);
-    done
+    Ok(())
 }

@@ -22,31 +22,14 @@ pub(crate) struct Site<'a> {
     pub(crate) end: u32,
 }
 
-/// What a pass over a fan-in looks at: some of the 64 moments among which one is.
-#[derive(Clone, Copy)]
-pub(crate) struct View<'a> {
+/// What a pass over a fan-in looks at, some of the 64 moments among which one is, and what is noted of each net while facts are chosen.
+#[derive(Drop)]
+pub(crate) struct Desk<'a> {
     pub(crate) site: &'a Site<'a>,
     pub(crate) cycle: u32,
     pub(crate) cycles: u64,
     /// Whether the block's own nets cost nothing.
     pub(crate) free: bool,
-}
-
-impl<'a> View<'a> {
-    /// The moments at which a net has this bit.
-    pub(crate) fn with_bit(&self, net: NetId, bit: bool) -> u64 {
-        let word = self.site.scene.shown(net, self.cycle);
-        if bit {
-            word & self.cycles
-        } else {
-            !word & self.cycles
-        }
-    }
-}
-
-/// What is noted of each net while facts are chosen.
-#[derive(Drop)]
-pub(crate) struct Desk {
     /// The cycles, of 64, at which given nets decide it.
     pub(crate) known: Vec<u64>,
     /// What it takes to decide it.
@@ -61,10 +44,16 @@ pub(crate) struct Desk {
     pub(crate) used: Vec<bool>,
 }
 
-impl Desk {
-    /// Nothing, of so many nets.
-    pub(crate) fn new(alloc: Global, count: usize) -> Result<Desk, NoMemory> {
+impl<'a> Desk<'a> {
+    /// Nothing is looked at or noted.
+    pub(crate) fn new(site: &'a Site<'a>) -> Result<Desk<'a>, NoMemory> {
+        let alloc = site.alloc;
+        let count = site.scene.nets;
         Ok(Desk {
+            site,
+            cycle: 0,
+            cycles: 0,
+            free: false,
             known: vec![in alloc; 0; count]?,
             costs: vec![in alloc; 0; count]?,
             given: vec![in alloc; false; count]?,
@@ -74,6 +63,23 @@ impl Desk {
         })
     }
 
+    /// Looks at some of the 64 moments among which one is.
+    pub(crate) fn look(&mut self, cycle: u32, cycles: u64, free: bool) {
+        self.cycle = cycle;
+        self.cycles = cycles;
+        self.free = free;
+    }
+
+    /// The moments at which a net has this bit.
+    pub(crate) fn with_bit(&self, net: NetId, bit: bool) -> u64 {
+        let word = self.site.scene.shown(net, self.cycle);
+        if bit {
+            word & self.cycles
+        } else {
+            !word & self.cycles
+        }
+    }
+
     /// The cycles at which given nets decide a net.
     pub(crate) fn known_at(&self, net: NetId) -> u64 {
         at(self.known.as_slice(), net.0 as usize, 0)
@@ -81,7 +87,8 @@ impl Desk {
 }
 
 /// Gives the constants among some nets.
-pub(crate) fn give_constants(scene: &Scene<'_>, desk: &mut Desk, nets: &[NetId]) {
+pub(crate) fn give_constants(desk: &mut Desk<'_>, nets: &[NetId]) {
+    let scene = desk.site.scene;
     'nets: for net in nets {
         match scene.driver(*net) {
             Driver::Constant => put(&mut desk.given, net.0 as usize, true),

@@ -3,7 +3,7 @@
 use crate::costs::{cheaper, cheapest_input, cheapest_need, price};
 use crate::need::Need;
 use crate::tables::{flag, put, put_nets};
-use crate::view::{Desk, View};
+use crate::view::Desk;
 use bs_bits::NoMemory;
 use bs_net::NetId;
 
@@ -17,7 +17,7 @@ struct Walk {
 }
 
 /// Takes those of some nets that are not taken.
-fn take(desk: &mut Desk, walk: &mut Walk, nets: &[NetId]) -> Result<(), NoMemory> {
+fn take(desk: &mut Desk<'_>, walk: &mut Walk, nets: &[NetId]) -> Result<(), NoMemory> {
     'nets: for net in nets {
         if !flag(desk.taken.as_slice(), *net) {
             walk.nets.push(*net)?;
@@ -28,13 +28,8 @@ fn take(desk: &mut Desk, walk: &mut Walk, nets: &[NetId]) -> Result<(), NoMemory
 }
 
 /// Takes what decides a net: of a gate its cheapest input, if one decides it, and else all. A leaf is a source, unless it is a constant.
-fn take_below(
-    view: &View<'_>,
-    desk: &mut Desk,
-    walk: &mut Walk,
-    net: NetId,
-) -> Result<(), NoMemory> {
-    let site = view.site;
+fn take_below(desk: &mut Desk<'_>, walk: &mut Walk, net: NetId) -> Result<(), NoMemory> {
+    let site = desk.site;
     let Some(place) = site.fanin.gate(site.scene, net) else {
         if !flag(desk.given.as_slice(), net) {
             walk.sources.push(net)?;
@@ -44,26 +39,26 @@ fn take_below(
     let Some(gate) = site.scene.gate(place) else {
         return Ok(());
     };
-    match cheapest_input(view, desk, gate) {
+    match cheapest_input(desk, gate) {
         Some(input) => take(desk, walk, &[input]),
         None => take(desk, walk, gate.ins.slice()),
     }
 }
 
 /// Takes what decides the nets of a walk, from a place on.
-fn descend(view: &View<'_>, desk: &mut Desk, walk: &mut Walk, from: usize) -> Result<(), NoMemory> {
-    'nets: for i in from..view.site.scene.nets {
+fn descend(desk: &mut Desk<'_>, walk: &mut Walk, from: usize) -> Result<(), NoMemory> {
+    'nets: for i in from..desk.site.scene.nets {
         if i >= walk.nets.len() {
             return Ok(());
         }
         let net = walk.nets[i];
-        take_below(view, desk, walk, net)?;
+        take_below(desk, walk, net)?;
     }
     Ok(())
 }
 
 /// Takes what decides a bit. It gives whether sources came in.
-fn settle(view: &View<'_>, desk: &mut Desk, walk: &mut Walk, need: Need) -> Result<bool, NoMemory> {
+fn settle(desk: &mut Desk<'_>, walk: &mut Walk, need: Need) -> Result<bool, NoMemory> {
     let from = walk.nets.len();
     let before = walk.sources.len();
     if need.both {
@@ -72,19 +67,19 @@ fn settle(view: &View<'_>, desk: &mut Desk, walk: &mut Walk, need: Need) -> Resu
         let net = cheaper(desk, need.one, need.other);
         take(desk, walk, &[net])?;
     }
-    descend(view, desk, walk, from)?;
+    descend(desk, walk, from)?;
     Ok(before < walk.sources.len())
 }
 
 /// Takes what decides all bits, the cheapest first. What is taken costs nothing from then on.
-fn settle_all(view: &View<'_>, desk: &mut Desk, walk: &mut Walk) -> Result<(), NoMemory> {
-    price(view, desk);
-    'facts: for _ in 0..view.site.facts.len() {
-        let Some(need) = cheapest_need(view, desk) else {
+fn settle_all(desk: &mut Desk<'_>, walk: &mut Walk) -> Result<(), NoMemory> {
+    price(desk);
+    'facts: for _ in 0..desk.site.facts.len() {
+        let Some(need) = cheapest_need(desk) else {
             return Ok(());
         };
-        if settle(view, desk, walk, need)? {
-            price(view, desk);
+        if settle(desk, walk, need)? {
+            price(desk);
         }
     }
     Ok(())
@@ -92,12 +87,12 @@ fn settle_all(view: &View<'_>, desk: &mut Desk, walk: &mut Walk) -> Result<(), N
 
 /// Sources of the fan-in that decide all bits at a moment, by ascending numbers. The costs are least one bit after another, and the
 /// block's own nets cost nothing where they are free.
-pub(crate) fn cheapest_sources(view: &View<'_>, desk: &mut Desk) -> Result<Vec<NetId>, NoMemory> {
+pub(crate) fn cheapest_sources(desk: &mut Desk<'_>) -> Result<Vec<NetId>, NoMemory> {
     let mut walk = Walk {
-        nets: Vec::new(view.site.alloc),
-        sources: Vec::new(view.site.alloc),
+        nets: Vec::new(desk.site.alloc),
+        sources: Vec::new(desk.site.alloc),
     };
-    settle_all(view, desk, &mut walk)?;
+    settle_all(desk, &mut walk)?;
     walk.sources.sort_by_key(|net| net.0)?;
     let Walk { nets, sources } = walk;
     put_nets(&mut desk.taken, nets.as_slice(), false);

@@ -1,6 +1,7 @@
 pub mod SpreadLemmas
 pub mod MomentCountLemmas
-pub mod SizeLemmas
-pub mod RowLemmas
 pub mod LineLemmas
+pub mod ReadingLemmas
+pub mod TriedLemmas
+pub mod EnoughLemmas
 pub mod SignatureLemmas

@@ -1,15 +1,12 @@
 -- Lists, one after another.
-use Rattle.std.proofs.Common.{◌≡◌, ℕ, suc, ◌<◌, ◌≤◌, ◌+◌, List, [], ◌∷◌, ◌++◌, length, take, get_or, ap, sym, subst, ◌∙◌, arith, append_assoc}
-use Rattle.std.specs.Prelude.{All}
+use Rattle.std.proofs.Common.{◌≡◌, ℕ, ◌<◌, ◌+◌, List, [], ◌∷◌, ◌++◌, length, take, get_or, ap, sym, ◌∙◌, arith, append_assoc}
 use Rattle.std.specs.List.{flat_map, sum_by}
 use Rattle.std.proofs.lemmas.Grind.{flat_map-append}
 use Rattle.std.proofs.lemmas.List.{take_more, append-nil}
 use Rattle.std.proofs.lemmas.List.Sums.{sum_by-append}
-use Rattle.bs_inspect_lists.specs.Lines.{list_line, row_line}
+use Rattle.bs_inspect_lists.specs.Lines.{list_line}
 use Rattle.bs_inspect_lists.specs.MomentCount.{number_of}
-use Rattle.bs_inspect_lists.specs.declared.spread.TheConstants.{MAX_MOMENTS}
 use Rattle.bs_inspect_lists.specs.declared.lists.MomentCount.{MomentCount}
-use Rattle.bs_inspect_lists.specs.declared.rows.SignatureRow.{SignatureRow}
 
 piece_more : {X : Type 0} (f : X → List ℕ) (xs : List X) (old before after : List ℕ) (i : ℕ) (d : X) → i < length xs →
     before ≡ old ++ flat_map f (take i xs) → after ≡ before ++ f (get_or xs i d) → after ≡ old ++ flat_map f (take (i + 1) xs)
@@ -24,24 +21,6 @@ piece_more {X} f xs old before after i d lt e goes =
 pub list_more : (all : List MomentCount) (old before after : List ℕ) (i : ℕ) (d : MomentCount) → i < length all → before ≡ old ++ flat_map list_line (take i all) →
     after ≡ before ++ list_line (get_or all i d) → after ≡ old ++ flat_map list_line (take (i + 1) all)
 list_more all old before after i d lt e goes = piece_more list_line all old before after i d lt e goes
-
-pub row_more : (all : List SignatureRow) (old before after : List ℕ) (i : ℕ) (d : SignatureRow) → i < length all → before ≡ old ++ flat_map row_line (take i all) →
-    after ≡ before ++ row_line (get_or all i d) → after ≡ old ++ flat_map row_line (take (i + 1) all)
-row_more all old before after i d lt e goes = piece_more row_line all old before after i d lt e goes
-
--- ---- few lists in each row
-
-abbrev pub AreFew : SignatureRow → Type 0
-AreFew row = length row.lists.items ≤ MAX_MOMENTS
-
-pub row_few : (all : List SignatureRow) (i : ℕ) (d : SignatureRow) → i < length all → All AreFew all → length (get_or all i d).lists.items ≤ MAX_MOMENTS
-row_few all i d lt few = few i d lt
-
-pub first_few : (all others : List SignatureRow) (row : SignatureRow) → all ≡ row ∷ others → All AreFew all → length row.lists.items ≤ MAX_MOMENTS
-first_few all others row e few = (subst (All AreFew) e few) 0 row (omega arith)
-
-pub others_few : (all others : List SignatureRow) (row : SignatureRow) → all ≡ row ∷ others → All AreFew all → All AreFew others
-others_few all others row e few = λ k d lt. (subst (All AreFew) e few) (suc k) d (omega (arith, lt))
 
 pub sum_more : (all : List MomentCount) (i before n : ℕ) (d : MomentCount) → i < length all → before ≡ sum_by (λ (entry : MomentCount). number_of entry.count) (take i all) →
     n ≡ number_of (get_or all i d).count → before + n ≡ sum_by (λ (entry : MomentCount). number_of entry.count) (take (i + 1) all)

@@ -8,6 +8,8 @@ use Rattle.std.proofs.lemmas.List.Sums.{sum_by_push}
 use Rattle.std.specs.List.{range_with_len}
 use Rattle.std.proofs.lemmas.List.Elements.{All-append}
 use Rattle.std.proofs.lemmas.List.FromFn.{map-range_with_len_more}
+use Rattle.bs_seen.specs.declared.seen.Seen.{Seen}
+use Rattle.bs_seen.specs.Seen.{whole}
 use Rattle.bs_net.specs.Circuit.{Circuit}
 use Rattle.bs_log.specs.declared.line.Line.{Line}
 use Rattle.bs_scan.specs.Choice.{Chosen, depth_of}
@@ -27,18 +29,19 @@ use Rattle.bs_preimage.specs.Listed.{HasListed}
 use Rattle.bs_preimage.specs.Preimage.{PreimageState, next_activation}
 use Rattle.bs_preimage.specs.declared.listing.Listing.{Listing}
 use Rattle.bs_inspect_lists.specs.Spread.{count_taken, later_moments, moment_taken}
-use Rattle.bs_inspect_lists.specs.MomentCount.{AreMomentCounts, Counts, IsCountOf, IsMomentCount, counted_as, room_of, weight_of, weights_of}
-use Rattle.bs_inspect_lists.specs.declared.counting.TheConstants.{MAX_LEMMAS, MAX_LISTED}
+use Rattle.bs_inspect_lists.specs.MomentCount.{AreMomentCounts, Counts, IsCountOf, IsMomentCount, counted_as, most_lemmas, most_listed, room_of, weight_of, weights_of}
+use Rattle.bs_inspect_lists.specs.declared.counting.Aim.{Aim}
+use Rattle.bs_inspect_lists.specs.declared.counting.TheConstants.{MAX_LISTED}
 use Rattle.bs_inspect_lists.specs.declared.spread.TheConstants.{MAX_MOMENTS}
 use Rattle.bs_inspect_lists.specs.declared.counting.PredecessorCount.{PredecessorCount}
 use Rattle.bs_inspect_lists.specs.declared.counting.PredecessorCount.TheVariants.{Whole, More, Spent}
 use Rattle.bs_inspect_lists.specs.declared.lists.MomentCount.{MomentCount}
 
-ends_count : (asked : List (List Bool)) (b : ℕ) (lines : List Line) (cands : List Cand) (end : ListEnd) →
-    IsRightEnd asked (MAX_LISTED + 1) b lines cands end → Counts asked cands (counted_as cands end)
-ends_count asked b lines cands (Finished id) h = (h.0, refl)
-ends_count asked b lines cands Candidates h = h
-ends_count asked b lines cands Conflicts h = (refl, omega (arith, h.0))
+ends_count : (aim : Aim) (asked : List (List Bool)) (b : ℕ) (lines : List Line) (cands : List Cand) (end : ListEnd) →
+    IsRightEnd asked (most_listed aim + 1) b lines cands end → Counts aim asked cands (counted_as cands end)
+ends_count aim asked b lines cands (Finished id) h = (h.0, refl)
+ends_count aim asked b lines cands Candidates h = h
+ends_count aim asked b lines cands Conflicts h = (refl, omega (arith, h.0))
 
 abbrev is_spent : PredecessorCount → Bool
 is_spent (Whole n) = false
@@ -51,22 +54,31 @@ ends_spent cands (Finished id) n e = absurd (false≢true (ap is_spent e))
 ends_spent cands Candidates n e = absurd (false≢true (ap is_spent e))
 ends_spent cands Conflicts n e = refl
 
-pub is_count : (old new : PreimageState) (present stored : List Bool) (listing : Listing) (count : PredecessorCount) →
-    HasListed old new present stored None None (MAX_LISTED + 1) MAX_LEMMAS listing → count ≡ counted_as listing.cands listing.end →
-    IsCountOf old.circuit old.choice present (stored ∷ []) count
-is_count old new present stored listing count h e =
-    subst (IsCountOf old.circuit old.choice present (stored ∷ [])) (sym e)
+is_count : (aim : Aim) (old new : PreimageState) (present : Seen) (stored : List Bool) (listing : Listing) (count : PredecessorCount) →
+    HasListed old new present stored None None (most_listed aim + 1) (most_lemmas aim) listing → count ≡ counted_as listing.cands listing.end →
+    IsCountOf aim old.circuit old.choice present (stored ∷ []) count
+is_count aim old new present stored listing count h e =
+    subst (IsCountOf aim old.circuit old.choice present (stored ∷ [])) (sym e)
     (record {
       cands = listing.cands;
       ascend = h.ascend;
       right = h.candidates;
-      is = ends_count (predecessors old.circuit old.choice present (stored ∷ [])) MAX_LEMMAS h.lines listing.cands listing.end h.ends;
+      is = ends_count aim (predecessors old.circuit old.choice present (stored ∷ [])) (most_lemmas aim) h.lines listing.cands listing.end h.ends;
       spent = λ n spent. record {
         held = stored;
         is = refl;
         hard = record { activation = next_activation old.problem; many = h.bound (ends_spent listing.cands listing.end n spent) };
       };
     })
+
+-- the same with the bounds by other names
+pub is_count_by : (aim : Aim) (most lemmas : ℕ) (old new : PreimageState) (present : Seen) (stored : List Bool) (listing : Listing) (count : PredecessorCount) →
+    most ≡ most_listed aim → lemmas ≡ most_lemmas aim → HasListed old new present stored None None (most + 1) lemmas listing →
+    count ≡ counted_as listing.cands listing.end → IsCountOf aim old.circuit old.choice present (stored ∷ []) count
+is_count_by aim most lemmas old new present stored listing count m l h e =
+    is_count aim old new present stored listing count
+    (subst (λ (n : ℕ). HasListed old new present stored None None (most_listed aim + 1) n listing) l
+    (subst (λ (n : ℕ). HasListed old new present stored None None (n + 1) lemmas listing) m h)) e
 
 -- what a register of one signature holds
 held_by : (c : Circuit) (choice : Chosen) (run : Run) (d cycle : ℕ) → d ≡ 1 →
@@ -107,98 +119,98 @@ stored_wide r raw choice s m dump p is same e =
     (wide_by (circuit_of raw) choice (run_of (inputs_of s) m.run) (depth_of choice) m.cycle))
 
 pub state_wide : (r : Recording) (raw : Parts) (choice : Chosen) (s : Stimulus) (m : Moment) (dump : Dump) (p : PreimageState) → r ≡ recording_of raw choice s →
-    p.circuit ≡ circuit_of raw → dump ≡ dump_at r m → length dump.state ≡ length p.circuit.flops
+    p.circuit ≡ circuit_of raw → dump ≡ dump_at r m → length dump.state.bits ≡ length p.circuit.flops
 state_wide r raw choice s m dump p is same e =
-    ap (λ (d : Dump). length d.state) e
-    ∙ (ap (λ (q : Recording). length (dump_at q m).state) is
+    ap (λ (d : Dump). length d.state.bits) e
+    ∙ (ap (λ (q : Recording). length (dump_at q m).state.bits) is
     ∙ (length_state (circuit_of raw) (run_of (inputs_of s) m.run) m.cycle ∙ ap (λ (c : Circuit). length c.flops) (sym same)))
 
-moment_counted_is : (raw : Parts) (choice : Chosen) (s : Stimulus) (r : Recording) (m : Moment) (dump : Dump) (count : PredecessorCount) → r ≡ recording_of raw choice s →
-    depth_of choice ≡ 1 → dump ≡ dump_at r m → IsCountOf (circuit_of raw) choice dump.state (option_to_list dump.stored) count →
-    IsCountOf (circuit_of raw) choice (state_of (circuit_of raw) (inputs_of s) m) (stored_at (circuit_of raw) choice (run_of (inputs_of s) m.run) m.cycle) count
-moment_counted_is raw choice s r m dump count is one e h =
+moment_counted_is : (aim : Aim) (raw : Parts) (choice : Chosen) (s : Stimulus) (r : Recording) (m : Moment) (dump : Dump) (count : PredecessorCount) → r ≡ recording_of raw choice s →
+    depth_of choice ≡ 1 → dump ≡ dump_at r m → IsCountOf aim (circuit_of raw) choice dump.state (option_to_list dump.stored) count →
+    IsCountOf aim (circuit_of raw) choice (whole (state_of (circuit_of raw) (inputs_of s) m)) (stored_at (circuit_of raw) choice (run_of (inputs_of s) m.run) m.cycle) count
+moment_counted_is aim raw choice s r m dump count is one e h =
     let shown : dump ≡ dump_at (recording_of raw choice s) m = e ∙ ap (λ (q : Recording). dump_at q m) is in
-    let state : dump.state ≡ state_of (circuit_of raw) (inputs_of s) m = ap (λ (d : Dump). d.state) shown in
+    let state : dump.state ≡ whole (state_of (circuit_of raw) (inputs_of s) m) = ap (λ (d : Dump). d.state) shown in
     let stored : option_to_list dump.stored ≡ stored_at (circuit_of raw) choice (run_of (inputs_of s) m.run) m.cycle =
     ap (λ (d : Dump). option_to_list d.stored) shown ∙ held_by (circuit_of raw) choice (run_of (inputs_of s) m.run) (depth_of choice) m.cycle one in
-    subst (λ (t : List (List Bool)). IsCountOf (circuit_of raw) choice (state_of (circuit_of raw) (inputs_of s) m) t count) stored
-    (subst (λ (x : List Bool). IsCountOf (circuit_of raw) choice x (option_to_list dump.stored) count) state h)
+    subst (λ (t : List (List Bool)). IsCountOf aim (circuit_of raw) choice (whole (state_of (circuit_of raw) (inputs_of s) m)) t count) stored
+    (subst (λ (x : Seen). IsCountOf aim (circuit_of raw) choice x (option_to_list dump.stored) count) state h)
 
 -- the same of the circuit and the choice that a search is about
-pub moment_counted_as : (r : Recording) (raw : Parts) (choice : Chosen) (s : Stimulus) (m : Moment) (dump : Dump) (p : PreimageState) (count : PredecessorCount) → r ≡ recording_of raw choice s →
+pub moment_counted_as : (aim : Aim) (r : Recording) (raw : Parts) (choice : Chosen) (s : Stimulus) (m : Moment) (dump : Dump) (p : PreimageState) (count : PredecessorCount) → r ≡ recording_of raw choice s →
     p.circuit ≡ circuit_of raw → p.choice ≡ choice → depth_of choice ≡ 1 → dump ≡ dump_at r m →
-    IsCountOf p.circuit p.choice dump.state (option_to_list dump.stored) count →
-    IsCountOf (circuit_of raw) choice (state_of (circuit_of raw) (inputs_of s) m) (stored_at (circuit_of raw) choice (run_of (inputs_of s) m.run) m.cycle) count
-moment_counted_as r raw choice s m dump p count is circuit same one e h =
-    moment_counted_is raw choice s r m dump count is one e
-    (subst (λ (c : Circuit). IsCountOf c choice dump.state (option_to_list dump.stored) count) circuit
-    (subst (λ (ch : Chosen). IsCountOf p.circuit ch dump.state (option_to_list dump.stored) count) same h))
+    IsCountOf aim p.circuit p.choice dump.state (option_to_list dump.stored) count →
+    IsCountOf aim (circuit_of raw) choice (whole (state_of (circuit_of raw) (inputs_of s) m)) (stored_at (circuit_of raw) choice (run_of (inputs_of s) m.run) m.cycle) count
+moment_counted_as aim r raw choice s m dump p count is circuit same one e h =
+    moment_counted_is aim raw choice s r m dump count is one e
+    (subst (λ (c : Circuit). IsCountOf aim c choice dump.state (option_to_list dump.stored) count) circuit
+    (subst (λ (ch : Chosen). IsCountOf aim p.circuit ch dump.state (option_to_list dump.stored) count) same h))
 
 pub moment_there : (r : Recording) (raw : Parts) (choice : Chosen) (s : Stimulus) (m : Moment) → r ≡ recording_of raw choice s →
     IsMoment (inputs_of s) m → IsMoment r.runs m
 moment_there r raw choice s m is h = subst (λ (q : Recording). IsMoment q.runs m) (sym is) h
 
-pub few_listed : (old new : PreimageState) (present stored : List Bool) (b : ℕ) (listing : Listing) →
-    HasListed old new present stored None None (MAX_LISTED + 1) b listing → length listing.cands ≤ MAX_LISTED + 1
-few_listed old new present stored b listing h = by listing.end h.ends
+pub few_listed : (most : ℕ) (old new : PreimageState) (present : Seen) (stored : List Bool) (b : ℕ) (listing : Listing) →
+    most ≤ MAX_LISTED → HasListed old new present stored None None (most + 1) b listing → length listing.cands ≤ MAX_LISTED + 1
+few_listed most old new present stored b listing le h = by listing.end h.ends
   where
-    by : (end : ListEnd) → IsRightEnd (predecessors old.circuit old.choice present (stored ∷ [])) (MAX_LISTED + 1) b h.lines listing.cands end → length listing.cands ≤ MAX_LISTED + 1
-    by (Finished id) e = omega (arith, e.1)
-    by Candidates e = omega (arith, e)
-    by Conflicts e = omega (arith, e.0)
+    by : (end : ListEnd) → IsRightEnd (predecessors old.circuit old.choice present (stored ∷ [])) (most + 1) b h.lines listing.cands end → length listing.cands ≤ MAX_LISTED + 1
+    by (Finished id) e = omega (arith, e.1, le)
+    by Candidates e = omega (arith, e, le)
+    by Conflicts e = omega (arith, e.0, le)
 
 -- ---- moments, one after another
 
-pub none_counted : (c : Circuit) (choice : Chosen) (runs : List Run) (counts : List MomentCount) → counts ≡ [] → All (IsMomentCount c choice runs) counts
-none_counted c choice runs counts e = subst (All (IsMomentCount c choice runs)) (sym e) (λ k d lt. absurd (omega (arith, lt)))
+pub none_counted : (aim : Aim) (c : Circuit) (choice : Chosen) (runs : List Run) (counts : List MomentCount) → counts ≡ [] → All (IsMomentCount aim c choice runs) counts
+none_counted aim c choice runs counts e = subst (All (IsMomentCount aim c choice runs)) (sym e) (λ k d lt. absurd (omega (arith, lt)))
 
-pub one_counted : (c : Circuit) (choice : Chosen) (runs : List Run) (counts after : List MomentCount) (one : MomentCount) → All (IsMomentCount c choice runs) counts →
-    IsMomentCount c choice runs one → after ≡ counts ++ one ∷ [] → All (IsMomentCount c choice runs) after
-one_counted c choice runs counts after one all is e =
-    subst (All (IsMomentCount c choice runs)) (sym e) (All-append (IsMomentCount c choice runs) counts (one ∷ []) all (λ k d lt. alone k d lt))
+pub one_counted : (aim : Aim) (c : Circuit) (choice : Chosen) (runs : List Run) (counts after : List MomentCount) (one : MomentCount) → All (IsMomentCount aim c choice runs) counts →
+    IsMomentCount aim c choice runs one → after ≡ counts ++ one ∷ [] → All (IsMomentCount aim c choice runs) after
+one_counted aim c choice runs counts after one all is e =
+    subst (All (IsMomentCount aim c choice runs)) (sym e) (All-append (IsMomentCount aim c choice runs) counts (one ∷ []) all (λ k d lt. alone k d lt))
   where
-    alone : (k : ℕ) (d : MomentCount) → k < 1 → IsMomentCount c choice runs (get_or (one ∷ []) k d)
+    alone : (k : ℕ) (d : MomentCount) → k < 1 → IsMomentCount aim c choice runs (get_or (one ∷ []) k d)
     alone zero d lt = is
     alone (suc k) d lt = absurd (omega (arith, lt))
 
 -- the moments of the first places that are taken
 -- the first moments that are taken are counted
-pub record TellsSo (c : Circuit) (choice : Chosen) (runs : List Run) (counts : List MomentCount) (spent k : ℕ) : Type 0 where
+pub record TellsSo (aim : Aim) (c : Circuit) (choice : Chosen) (runs : List Run) (counts : List MomentCount) (spent k : ℕ) : Type 0 where
   pub long : length counts ≡ k
   pub moments : map (λ (t : MomentCount). t.moment) counts ≡ map (moment_taken (later_moments runs)) (range_with_len 0 k)
-  pub each : All (IsMomentCount c choice runs) counts
-  pub spent_is : spent ≡ weights_of counts
-  pub begun : (i : ℕ) → i < length counts → weights_of (take i counts) < room_of (length c.flops)
+  pub each : All (IsMomentCount aim c choice runs) counts
+  pub spent_is : spent ≡ weights_of aim counts
+  pub begun : (i : ℕ) → i < length counts → weights_of aim (take i counts) < room_of aim (length c.flops)
 
-pub tells_none : (c : Circuit) (choice : Chosen) (runs : List Run) (counts : List MomentCount) → counts ≡ [] → TellsSo c choice runs counts 0 0
-tells_none c choice runs counts e = rw e record {
+pub tells_none : (aim : Aim) (c : Circuit) (choice : Chosen) (runs : List Run) (counts : List MomentCount) → counts ≡ [] → TellsSo aim c choice runs counts 0 0
+tells_none aim c choice runs counts e = rw e record {
   long = refl;
   moments = refl;
-  each = none_counted c choice runs [] refl;
+  each = none_counted aim c choice runs [] refl;
   spent_is = refl;
   begun = λ i lt. absurd (omega (arith, lt));
 }
 
-pub tells_more : (c : Circuit) (choice : Chosen) (runs : List Run) (counts after : List MomentCount) (one : MomentCount) (m : Moment) (spent weight room k : ℕ) →
-    TellsSo c choice runs counts spent k → IsMomentCount c choice runs one → one.moment ≡ m → m ≡ moment_taken (later_moments runs) k →
-    weight ≡ weight_of one.count → spent < room → room ≡ room_of (length c.flops) → after ≡ counts ++ one ∷ [] →
-    TellsSo c choice runs after (spent + weight) (k + 1)
-tells_more c choice runs counts after one m spent weight room k so is at here weighs less rooms goes = rw goes record {
+pub tells_more : (aim : Aim) (c : Circuit) (choice : Chosen) (runs : List Run) (counts after : List MomentCount) (one : MomentCount) (m : Moment) (spent weight room k : ℕ) →
+    TellsSo aim c choice runs counts spent k → IsMomentCount aim c choice runs one → one.moment ≡ m → m ≡ moment_taken (later_moments runs) k →
+    weight ≡ weight_of aim one.count → spent < room → room ≡ room_of aim (length c.flops) → after ≡ counts ++ one ∷ [] →
+    TellsSo aim c choice runs after (spent + weight) (k + 1)
+tells_more aim c choice runs counts after one m spent weight room k so is at here weighs less rooms goes = rw goes record {
   long = length-append counts (one ∷ []) ∙ omega (arith, so.long);
   moments =
       map-append (λ (t : MomentCount). t.moment) counts (one ∷ [])
       ∙ ((λ i. so.moments i ++ (at ∙ here) i ∷ [])
       ∙ sym (map-range_with_len_more (moment_taken (later_moments runs)) 0 k k (omega arith)));
-  each = one_counted c choice runs counts (counts ++ one ∷ []) one so.each is refl;
-  spent_is = (λ i. so.spent_is i + weighs i) ∙ sym (sum_by_push (λ (t : MomentCount). weight_of t.count) counts one);
+  each = one_counted aim c choice runs counts (counts ++ one ∷ []) one so.each is refl;
+  spent_is = (λ i. so.spent_is i + weighs i) ∙ sym (sum_by_push (λ (t : MomentCount). weight_of aim t.count) counts one);
   begun = λ i lt. before i (nat_lt i (length counts)) refl (omega (arith, lt, length-append counts (one ∷ [])));
 }
   where
-    same_part : (i : ℕ) → i ≤ length counts → weights_of (take i counts) < room_of (length c.flops) →
-        weights_of (take i (counts ++ one ∷ [])) < room_of (length c.flops)
-    same_part i le h = subst (λ (t : List MomentCount). weights_of t < room_of (length c.flops)) (sym (take-append-le i counts (one ∷ []) le)) h
+    same_part : (i : ℕ) → i ≤ length counts → weights_of aim (take i counts) < room_of aim (length c.flops) →
+        weights_of aim (take i (counts ++ one ∷ [])) < room_of aim (length c.flops)
+    same_part i le h = subst (λ (t : List MomentCount). weights_of aim t < room_of aim (length c.flops)) (sym (take-append-le i counts (one ∷ []) le)) h
 
-    before : (i : ℕ) (b : Bool) → nat_lt i (length counts) ≡ b → i ≤ length counts → weights_of (take i (counts ++ one ∷ [])) < room_of (length c.flops)
+    before : (i : ℕ) (b : Bool) → nat_lt i (length counts) ≡ b → i ≤ length counts → weights_of aim (take i (counts ++ one ∷ [])) < room_of aim (length c.flops)
     before i true e le = same_part i le (so.begun i (ltb-true i (length counts) e))
     before i false e le =
         same_part i le
@@ -207,14 +219,14 @@ tells_more c choice runs counts after one m spent weight room k so is at here we
           less,
           rooms,
           so.spent_is,
-          ap weights_of (take_all i counts (ltb-false i (length counts) e)),
+          ap (weights_of aim) (take_all i counts (ltb-false i (length counts) e)),
         ))
 
 -- ---- all that are counted
 
-pub all_are_counted : (c : Circuit) (choice : Chosen) (runs : List Run) (counts : List MomentCount) (n count spent k : ℕ) → n ≡ length (later_moments runs) →
-    count ≡ min n MAX_MOMENTS → count ≤ k → k ≤ count → TellsSo c choice runs counts spent k → AreMomentCounts c choice runs counts
-all_are_counted c choice runs counts n count spent k long least le ge so =
+pub all_are_counted : (aim : Aim) (c : Circuit) (choice : Chosen) (runs : List Run) (counts : List MomentCount) (n count spent k : ℕ) → n ≡ length (later_moments runs) →
+    count ≡ min n MAX_MOMENTS → count ≤ k → k ≤ count → TellsSo aim c choice runs counts spent k → AreMomentCounts aim c choice runs counts
+all_are_counted aim c choice runs counts n count spent k long least le ge so =
     let taken : count ≡ count_taken (length (later_moments runs)) = least ∙ ap (λ (m : ℕ). min m MAX_MOMENTS) long in
     record {
       moments = so.moments ∙ ap (λ (m : ℕ). map (moment_taken (later_moments runs)) (range_with_len 0 m)) (sym so.long);
@@ -224,10 +236,10 @@ all_are_counted c choice runs counts n count spent k long least le ge so =
       ended = inl (omega (arith, so.long, ge, le, taken));
     }
 
-pub enough_counted : (c : Circuit) (choice : Chosen) (runs : List Run) (counts : List MomentCount) (n count spent room k : ℕ) → n ≡ length (later_moments runs) →
-    count ≡ min n MAX_MOMENTS → k < count → room ≡ room_of (length c.flops) → room ≤ spent → TellsSo c choice runs counts spent k →
-    AreMomentCounts c choice runs counts
-enough_counted c choice runs counts n count spent room k long least lt rooms le so =
+pub enough_counted : (aim : Aim) (c : Circuit) (choice : Chosen) (runs : List Run) (counts : List MomentCount) (n count spent room k : ℕ) → n ≡ length (later_moments runs) →
+    count ≡ min n MAX_MOMENTS → k < count → room ≡ room_of aim (length c.flops) → room ≤ spent → TellsSo aim c choice runs counts spent k →
+    AreMomentCounts aim c choice runs counts
+enough_counted aim c choice runs counts n count spent room k long least lt rooms le so =
     let taken : count ≡ count_taken (length (later_moments runs)) = least ∙ ap (λ (m : ℕ). min m MAX_MOMENTS) long in
     record {
       moments = so.moments ∙ ap (λ (m : ℕ). map (moment_taken (later_moments runs)) (range_with_len 0 m)) (sym so.long);

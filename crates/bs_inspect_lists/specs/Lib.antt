@@ -1,7 +1,8 @@
 -- what public contracts rest on
 pub mod Signature
-pub mod Sizes
-pub mod Rows
+pub mod Enough
+pub mod Tried
+pub mod Reading
 pub mod MomentCount
 pub mod Spread
 pub mod Lines

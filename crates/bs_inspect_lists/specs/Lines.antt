@@ -1,12 +1,11 @@
 -- The lines on lists (docs/FORMATS.md, "Texts of `backspace_inspect`").
-use Rattle.std.specs.Prelude.{ℕ, ◌+◌, ◌*◌, ◌/◌, ◌%◌, ◌==◌, List, [], ◌∷◌, ◌++◌, length, codes, decimal, if◌then◌else◌}
+use Rattle.std.specs.Prelude.{ℕ, ◌+◌, ◌*◌, ◌/◌, ◌%◌, ◌==◌, List, [], ◌∷◌, ◌++◌, length, codes, decimal, Option, Some, None, if◌then◌else◌}
 use Rattle.std.specs.List.{count_by, flat_map, sum_by}
 use Rattle.bs_bits.specs.Lines.{line}
 use Rattle.bs_inspect_lists.specs.MomentCount.{is_cut, number_of}
 use Rattle.bs_inspect_lists.specs.declared.counting.PredecessorCount.{PredecessorCount}
 use Rattle.bs_inspect_lists.specs.declared.counting.PredecessorCount.TheVariants.{Whole, More, Spent}
 use Rattle.bs_inspect_lists.specs.declared.lists.MomentCount.{MomentCount}
-use Rattle.bs_inspect_lists.specs.declared.rows.SignatureRow.{SignatureRow}
 
 -- what a list counts
 abbrev pub count_words : PredecessorCount → List ℕ
@@ -40,14 +39,11 @@ abbrev pub lists_line : ℕ → List MomentCount → List ℕ
 lists_line bits lists =
     line (counts_words bits (length lists) ++ (decimals (mean_of lists) ++ (codes " " ++ decimal (count_cut lists))))
 
-abbrev pub row_line : SignatureRow → List ℕ
-row_line row = lists_line row.bits row.lists.items
+-- the same, and each moment with its list
+abbrev pub lists_text : ℕ → List MomentCount → List ℕ
+lists_text bits lists = lists_line bits lists ++ flat_map list_line lists
 
--- the row of the proposed signature, with its lists
-abbrev pub first_text : SignatureRow → List ℕ
-first_text row = row_line row ++ flat_map list_line row.lists.items
-
--- the same, and the rows of more bits
-abbrev pub rows_text : List SignatureRow → List ℕ
-rows_text [] = []
-rows_text (row ∷ rows) = first_text row ++ flat_map row_line rows
+-- how many items are enough
+abbrev pub enough_line : Option ℕ → List ℕ
+enough_line None = line (codes "enough none")
+enough_line (Some count) = line (codes "enough " ++ decimal count)

@@ -1,6 +1,8 @@
 -- How many predecessors the states at some moments have.
-use Rattle.std.specs.Prelude.{◌≡◌, ◌⊎◌, ℕ, ◌<◌, ◌≤◌, ◌+◌, ◌-◌, ◌/◌, ◌^◌, max, Bool, true, false, List, [], ◌∷◌, length, map, take, All, None, if◌then◌else◌}
+use Rattle.std.specs.Prelude.{◌≡◌, ◌⊎◌, ℕ, ◌<◌, ◌≤◌, ◌+◌, ◌-◌, ◌/◌, ◌^◌, max, not, ◌==◌, Bool, true, false, List, [], ◌∷◌, length, map, take, All, None, if◌then◌else◌}
 use Rattle.std.specs.List.{range_with_len, sum_by}
+use Rattle.bs_seen.specs.declared.seen.Seen.{Seen}
+use Rattle.bs_seen.specs.Seen.{whole}
 use Rattle.bs_clause.specs.Literal.{Literal}
 use Rattle.bs_clause.specs.Range.{HasVariables}
 use Rattle.bs_clause.specs.UnitRun.{IsUnitRun}
@@ -17,11 +19,23 @@ use Rattle.bs_report.specs.declared.report.ListEnd.{ListEnd}
 use Rattle.bs_report.specs.declared.report.ListEnd.TheVariants.{Finished, Candidates, Conflicts}
 use Rattle.bs_report_good.specs.Step.{Ascend, IsCandidate, listed}
 use Rattle.bs_inspect_lists.specs.Spread.{count_taken, later_moments, moment_taken}
-use Rattle.bs_inspect_lists.specs.declared.counting.TheConstants.{MAX_LEMMAS, MAX_LISTED}
-use Rattle.bs_inspect_lists.specs.declared.lists.TheConstants.{MAX_LISTED_BITS}
+use Rattle.bs_inspect_lists.specs.declared.counting.Aim.{Aim}
+use Rattle.bs_inspect_lists.specs.declared.counting.Aim.TheVariants.{Numbers, Ones}
+use Rattle.bs_inspect_lists.specs.declared.counting.TheConstants.{MAX_LEMMAS, MAX_LISTED, MAX_TRY_LEMMAS}
+use Rattle.bs_inspect_lists.specs.declared.lists.TheConstants.{MAX_LISTED_BITS, MAX_OTHERS}
 use Rattle.bs_inspect_lists.specs.declared.counting.PredecessorCount.{PredecessorCount}
 use Rattle.bs_inspect_lists.specs.declared.counting.PredecessorCount.TheVariants.{Whole, More, Spent}
 use Rattle.bs_inspect_lists.specs.declared.lists.MomentCount.{MomentCount}
+
+-- how many members a list may have
+abbrev pub most_listed : Aim → ℕ
+most_listed Numbers = MAX_LISTED
+most_listed Ones = 1
+
+-- how many lemmas a solve may log
+abbrev pub most_lemmas : Aim → ℕ
+most_lemmas Numbers = MAX_LEMMAS
+most_lemmas Ones = MAX_TRY_LEMMAS
 
 -- what a list counts, by its end
 abbrev pub counted_as : List Cand → ListEnd → PredecessorCount
@@ -29,37 +43,37 @@ counted_as cands (Finished id) = Whole (length cands)
 counted_as cands Candidates = More
 counted_as cands Conflicts = Spent (length cands)
 
--- Whole: these are all that were asked for. More: they are one more than `MAX_LISTED`. Spent: the search for the next one was given up.
-abbrev pub Counts : List (List Bool) → List Cand → PredecessorCount → Type 0
-Counts asked cands (Whole n) = (listed cands ≡ asked) × (n ≡ length cands)
-Counts asked cands More = length cands ≡ MAX_LISTED + 1
-Counts asked cands (Spent n) = (n ≡ length cands) × (length cands ≤ MAX_LISTED)
+-- Whole: these are all that were asked for. More: they are one more than a list may have. Spent: the search for the next one was given up.
+abbrev pub Counts : Aim → List (List Bool) → List Cand → PredecessorCount → Type 0
+Counts aim asked cands (Whole n) = (listed cands ≡ asked) × (n ≡ length cands)
+Counts aim asked cands More = length cands ≡ most_listed aim + 1
+Counts aim asked cands (Spent n) = (n ≡ length cands) × (length cands ≤ most_listed aim)
 
--- `MAX_LEMMAS` may be too few for a solve: the variables that a unit run over the clauses and what a step assumes leaves open have more
--- values than that, whatever unit run it is
-pub record IsHard (e : Encoded) (asked : Present) : Type 0 where
+-- the lemmas that a solve may log may be too few: the variables that a unit run over the clauses and what a step assumes leaves open
+-- have more values than that, whatever unit run it is
+pub record IsHard (lemmas : ℕ) (e : Encoded) (asked : Present) : Type 0 where
   pub activation : Literal
   pub many : (run : List Literal) → HasVariables e.variables run → IsUnitRun e.clauses (assumptions_for e activation asked) run →
-      MAX_LEMMAS < 2 ^ (e.variables - length run)
+      lemmas < 2 ^ (e.variables - length run)
 
 -- one signature is stored, and the search for what agrees with it is hard
-pub record IsHardFor (c : Circuit) (choice : Chosen) (present : List Bool) (stored : List (List Bool)) : Type 0 where
+pub record IsHardFor (lemmas : ℕ) (c : Circuit) (choice : Chosen) (present : Seen) (stored : List (List Bool)) : Type 0 where
   pub held : List Bool
   pub is : stored ≡ held ∷ []
-  pub hard : IsHard (encoding_by c choice) (asking present held None)
+  pub hard : IsHard lemmas (encoding_by c choice) (asking present held None)
 
 -- the number is that of a list of predecessors that agree with the stored signatures; the search was given up only where it is hard
-pub record IsCountOf (c : Circuit) (choice : Chosen) (present : List Bool) (stored : List (List Bool)) (count : PredecessorCount) : Type 0 where
+pub record IsCountOf (aim : Aim) (c : Circuit) (choice : Chosen) (present : Seen) (stored : List (List Bool)) (count : PredecessorCount) : Type 0 where
   pub cands : List Cand
   pub ascend : Ascend (listed cands)
   pub right : All (IsCandidate c choice present stored) cands
-  pub is : Counts (predecessors c choice present stored) cands count
-  pub spent : (n : ℕ) → count ≡ Spent n → IsHardFor c choice present stored
+  pub is : Counts aim (predecessors c choice present stored) cands count
+  pub spent : (n : ℕ) → count ≡ Spent n → IsHardFor (most_lemmas aim) c choice present stored
 
 -- the same of a moment's state and of what the register holds there
-abbrev pub IsMomentCount : Circuit → Chosen → List Run → MomentCount → Type 0
-IsMomentCount c choice runs entry =
-    IsCountOf c choice (state_of c runs entry.moment) (stored_at c choice (run_of runs entry.moment.run) entry.moment.cycle) entry.count
+abbrev pub IsMomentCount : Aim → Circuit → Chosen → List Run → MomentCount → Type 0
+IsMomentCount aim c choice runs entry =
+    IsCountOf aim c choice (whole (state_of c runs entry.moment)) (stored_at c choice (run_of runs entry.moment.run) entry.moment.cycle) entry.count
 
 -- how many are counted: of a list that was cut those that it has, up to `MAX_LISTED`
 abbrev pub number_of : PredecessorCount → ℕ
@@ -72,21 +86,30 @@ is_cut (Whole n) = false
 is_cut More = true
 is_cut (Spent n) = true
 
--- how much of the room a list takes: one that was cut as much as a longest one
-abbrev pub weight_of : PredecessorCount → ℕ
-weight_of count = if is_cut count then MAX_LISTED else number_of count
+-- whether there is one predecessor, and no other
+abbrev pub is_one : PredecessorCount → Bool
+is_one (Whole n) = n == 1
+is_one More = false
+is_one (Spent n) = false
 
-abbrev pub weights_of : List MomentCount → ℕ
-weights_of all = sum_by (λ entry. weight_of entry.count) all
+-- How much of the room a list takes. For numbers it is that of its members, and one that was cut takes as much as a longest one; for
+-- ones it is 1 where the list is not of one predecessor.
+abbrev pub weight_of : Aim → PredecessorCount → ℕ
+weight_of Numbers count = if is_cut count then MAX_LISTED else number_of count
+weight_of Ones count = if not (is_one count) then 1 else 0
 
--- how many members there is room for in all lists, by the number of flip-flops
-abbrev pub room_of : ℕ → ℕ
-room_of width = MAX_LISTED_BITS / max width 1
+abbrev pub weights_of : Aim → List MomentCount → ℕ
+weights_of aim all = sum_by (λ entry. weight_of aim entry.count) all
+
+-- how much room there is for all lists, by the number of flip-flops
+abbrev pub room_of : Aim → ℕ → ℕ
+room_of Numbers width = MAX_LISTED_BITS / max width 1
+room_of Ones width = MAX_OTHERS + 1
 
 -- The first of the moments that are taken are counted, in their order: a further one while those before leave room.
-pub record AreMomentCounts (c : Circuit) (choice : Chosen) (runs : List Run) (all : List MomentCount) : Type 0 where
+pub record AreMomentCounts (aim : Aim) (c : Circuit) (choice : Chosen) (runs : List Run) (all : List MomentCount) : Type 0 where
   pub moments : map (λ entry. entry.moment) all ≡ map (moment_taken (later_moments runs)) (range_with_len 0 (length all))
-  pub each : All (IsMomentCount c choice runs) all
+  pub each : All (IsMomentCount aim c choice runs) all
   pub few : length all ≤ count_taken (length (later_moments runs))
-  pub begun : (i : ℕ) → i < length all → weights_of (take i all) < room_of (length c.flops)
-  pub ended : (length all ≡ count_taken (length (later_moments runs))) ⊎ (room_of (length c.flops) ≤ weights_of all)
+  pub begun : (i : ℕ) → i < length all → weights_of aim (take i all) < room_of aim (length c.flops)
+  pub ended : (length all ≡ count_taken (length (later_moments runs))) ⊎ (room_of aim (length c.flops) ≤ weights_of aim all)

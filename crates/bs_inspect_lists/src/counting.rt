@@ -3,12 +3,14 @@ ghost use Rattle.std.specs.Prelude.{◌≡◌, ◌≢◌, ◌<◌, ◌≤◌, �
 ghost use Rattle.std.specs.Option.{option_to_list};
 ghost use Rattle.bs_encode.specs.declared.encoding.TheConstants.{MAX_ACTIVATIONS};
 ghost use Rattle.bs_inspect_lists.specs.declared.counting.TheConstants.{MAX_LISTED};
-ghost use Rattle.bs_inspect_lists.specs.MomentCount.{IsCountOf, counted_as, is_cut, number_of, weight_of};
+ghost use Rattle.bs_inspect_lists.specs.declared.counting.Aim.TheVariants.{Numbers, Ones};
+ghost use Rattle.bs_inspect_lists.specs.MomentCount.{IsCountOf, counted_as, is_cut, is_one, most_lemmas, most_listed, number_of, weight_of};
 
 use bs_bits::{Bits, NoMemory};
 use bs_preimage::{Listing, Preimage};
 use bs_report::ListEnd;
 use bs_scan::Dump;
+use bs_seen::Seen;
 use std::alloc::Global;
 
 /// A list that has more members is cut. `run` without an option cuts a list there too.
@@ -17,12 +19,46 @@ pub const MAX_LISTED: usize = 256;
 /// A solve may log so many lemmas. So one hard list does not hold up the others.
 pub const MAX_LEMMAS: u64 = 10_000;
 
+/// The same where numbers of bits are tried: a signature whose lists are harder is not called enough.
+pub const MAX_TRY_LEMMAS: u64 = 2_000;
+
+/// What lists are made for.
+#[derive(Clone, Copy, Debug, PartialEq, Eq)]
+pub enum Aim {
+    /// Their numbers of predecessors.
+    Numbers,
+    /// Whether each has one alone.
+    Ones,
+}
+
+/// How many members a list may have.
+fn most_listed(aim: Aim) -> u64
+    ensures most { result ≡ most_listed aim }
+    ensures few { result ≤ MAX_LISTED }
+{
+    match aim {
+        Aim::Numbers => MAX_LISTED as u64,
+        Aim::Ones => 1,
+    }
+}
+
+/// How many lemmas a solve may log.
+fn most_lemmas(aim: Aim) -> u64
+    ensures most { result ≡ most_lemmas aim }
+    ensures some { 1 ≤ result }
+{
+    match aim {
+        Aim::Numbers => MAX_LEMMAS,
+        Aim::Ones => MAX_TRY_LEMMAS,
+    }
+}
+
 /// How many predecessors there are.
 #[derive(Clone, Copy, Debug, PartialEq, Eq)]
 pub enum PredecessorCount {
     /// So many, which is all.
     Whole(u32),
-    /// More than `MAX_LISTED`.
+    /// More than a list may have.
     More,
     /// So many were found before the search was given up.
     Spent(u32),
@@ -41,17 +77,18 @@ fn count_of(listing: &Listing) -> PredecessorCount
 }
 
 /// How many predecessors of a state agree with a signature.
-#[tactic(auto, using(crate::proofs::MomentCountLemmas::is_count, crate::proofs::MomentCountLemmas::few_listed))]
+#[tactic(auto, using(crate::proofs::MomentCountLemmas::is_count_by, crate::proofs::MomentCountLemmas::few_listed))]
 fn count_in(
     alloc: Global,
     preimage: &mut Preimage<'_>,
-    present: &Bits,
+    aim: Aim,
+    present: &Seen,
     stored: &Bits,
 ) -> Result<PredecessorCount, NoMemory>
-    requires state { length present.now ≡ length preimage.old.circuit.flops }
+    requires state { length present.now.bits ≡ length preimage.old.circuit.flops }
     requires signature { length stored.now ≡ length preimage.old.choice.items }
     requires calls { preimage.old.calls < MAX_ACTIVATIONS }
-    ensures count { IfOk result (IsCountOf preimage.old.circuit preimage.old.choice present.now (stored.now ∷ [])) }
+    ensures count { IfOk result (IsCountOf aim preimage.old.circuit preimage.old.choice present.now (stored.now ∷ [])) }
     ensures circuit { preimage.new.circuit ≡ preimage.old.circuit }
     ensures choice { preimage.new.choice ≡ preimage.old.choice }
     ensures calls { preimage.new.calls ≡ preimage.old.calls + 1 }
@@ -62,8 +99,8 @@ fn count_in(
         stored,
         None,
         &None,
-        MAX_LISTED as u64 + 1,
-        MAX_LEMMAS,
+        most_listed(aim) + 1,
+        most_lemmas(aim),
     )?;
     Ok(count_of(&listing))
 }
@@ -72,19 +109,20 @@ fn count_in(
 fn count_of_dump(
     alloc: Global,
     preimage: &mut Preimage<'_>,
+    aim: Aim,
     dump: &Dump,
 ) -> Result<PredecessorCount, NoMemory>
     requires held { dump.now.stored ≢ None }
-    requires state { length dump.now.state ≡ length preimage.old.circuit.flops }
+    requires state { length dump.now.state.bits ≡ length preimage.old.circuit.flops }
     requires signature { IfSome dump.now.stored (λ stored. length stored ≡ length preimage.old.choice.items) }
     requires calls { preimage.old.calls < MAX_ACTIVATIONS }
-    ensures count { IfOk result (IsCountOf preimage.old.circuit preimage.old.choice dump.now.state (option_to_list dump.now.stored)) }
+    ensures count { IfOk result (IsCountOf aim preimage.old.circuit preimage.old.choice dump.now.state (option_to_list dump.now.stored)) }
     ensures circuit { preimage.new.circuit ≡ preimage.old.circuit }
     ensures choice { preimage.new.choice ≡ preimage.old.choice }
     ensures calls { preimage.new.calls ≤ preimage.old.calls + 1 }
 {
     match &dump.stored {
-        Some(stored) => count_in(alloc, preimage, &dump.state, stored),
+        Some(stored) => count_in(alloc, preimage, aim, &dump.state, stored),
         None => unreachable!(),
     }
 }
@@ -93,18 +131,19 @@ fn count_of_dump(
 pub(crate) fn count_dump(
     alloc: Global,
     preimage: &mut Preimage<'_>,
+    aim: Aim,
     dump: Dump,
 ) -> Result<PredecessorCount, NoMemory>
     requires held { dump.stored ≢ None }
-    requires state { length dump.state ≡ length preimage.old.circuit.flops }
+    requires state { length dump.state.bits ≡ length preimage.old.circuit.flops }
     requires signature { IfSome dump.stored (λ stored. length stored ≡ length preimage.old.choice.items) }
     requires calls { preimage.old.calls < MAX_ACTIVATIONS }
-    ensures count { IfOk result (IsCountOf preimage.old.circuit preimage.old.choice dump.state (option_to_list dump.stored)) }
+    ensures count { IfOk result (IsCountOf aim preimage.old.circuit preimage.old.choice dump.state (option_to_list dump.stored)) }
     ensures circuit { preimage.new.circuit ≡ preimage.old.circuit }
     ensures choice { preimage.new.choice ≡ preimage.old.choice }
     ensures calls { preimage.new.calls ≤ preimage.old.calls + 1 }
 {
-    count_of_dump(alloc, preimage, &dump)
+    count_of_dump(alloc, preimage, aim, &dump)
 }
 
 /// How many are counted: of a list that was cut those that it has.
@@ -129,14 +168,44 @@ pub(crate) fn is_cut(count: PredecessorCount) -> bool
     }
 }
 
-/// How much of the room a list takes: one that was cut as much as a longest one.
-pub(crate) fn weight_of(count: PredecessorCount) -> u64
-    ensures weight { result ≡ weight_of count }
+/// Whether there is one predecessor, and no other.
+pub(crate) fn is_one(count: PredecessorCount) -> bool
+    ensures { result ≡ is_one count }
+{
+    match count {
+        PredecessorCount::Whole(number) => number == 1,
+        PredecessorCount::More => false,
+        PredecessorCount::Spent(_) => false,
+    }
+}
+
+/// How much of the room for members a list takes: one that was cut as much as a longest one.
+fn members_of(count: PredecessorCount) -> u64
+    ensures weight { result ≡ weight_of Numbers count }
     ensures small { result < 2 ^ 32 }
 {
     if is_cut(count) {
         MAX_LISTED as u64
     } else {
         u64::from(number_of(count))
+    }
+}
+
+/// One where a list is not of one predecessor.
+fn other_of(count: PredecessorCount) -> u64
+    ensures weight { result ≡ weight_of Ones count }
+    ensures small { result < 2 ^ 32 }
+{
+    if !is_one(count) { 1 } else { 0 }
+}
+
+/// How much of the room a list takes: as many as it has members, or one where it is not of one predecessor.
+pub(crate) fn weight_of(aim: Aim, count: PredecessorCount) -> u64
+    ensures weight { result ≡ weight_of aim count }
+    ensures small { result < 2 ^ 32 }
+{
+    match aim {
+        Aim::Numbers => members_of(count),
+        Aim::Ones => other_of(count),
     }
 }

@@ -1,14 +1,13 @@
 //! The lines on lists.
-ghost use Rattle.std.specs.Prelude.{◌≡◌, ◌≤◌, ◌*◌, ◌^◌, ◌++◌, length, All, OnOk};
+ghost use Rattle.std.specs.Prelude.{◌≡◌, ◌≤◌, ◌*◌, ◌^◌, ◌++◌, length, Some, OnOk};
 ghost use Rattle.std.specs.List.{flat_map, sum_by};
-ghost use Rattle.bs_inspect_lists.specs.Lines.{count_cut, count_words, counts_words, decimals, first_text, list_line, lists_line, mean_of, row_line, rows_text};
+ghost use Rattle.bs_inspect_lists.specs.Lines.{count_cut, count_words, counts_words, decimals, enough_line, list_line, lists_line, lists_text, mean_of};
 ghost use Rattle.bs_inspect_lists.specs.MomentCount.{number_of};
 ghost use Rattle.bs_inspect_lists.specs.declared.spread.TheConstants.{MAX_MOMENTS};
 
 use crate::counting::{PredecessorCount, is_cut, number_of};
 use crate::lists::MomentCount;
-use crate::rows::SignatureRow;
-use bs_bits::{NoMemory, end_line, push_number, push_piece};
+use bs_bits::{NoMemory, end_line, push_line, push_number, push_piece};
 
 /// Appends what a list counts.
 fn push_count(text: &mut Vec<u8>, count: PredecessorCount) -> Result<(), NoMemory>
@@ -101,14 +100,6 @@ fn push_lists(text: &mut Vec<u8>, bits: usize, lists: &[MomentCount]) -> Result<
     end_line(text)
 }
 
-/// Appends the line of a row.
-fn push_row(text: &mut Vec<u8>, row: &SignatureRow) -> Result<(), NoMemory>
-    requires { length row.now.lists.items ≤ MAX_MOMENTS }
-    ensures { OnOk result (text.new.items ≡ text.old.items ++ row_line row.now) }
-{
-    push_lists(text, row.bits, row.lists.as_slice())
-}
-
 /// Appends each moment with its list.
 #[tactic(auto, using(crate::proofs::LineLemmas::list_more))]
 fn push_each(text: &mut Vec<u8>, all: &[MomentCount]) -> Result<(), NoMemory>
@@ -120,38 +111,34 @@ fn push_each(text: &mut Vec<u8>, all: &[MomentCount]) -> Result<(), NoMemory>
     Ok(())
 }
 
-/// Appends the row of the proposed signature, with its lists.
-fn push_first(text: &mut Vec<u8>, row: &SignatureRow) -> Result<(), NoMemory>
-    requires { length row.now.lists.items ≤ MAX_MOMENTS }
-    ensures { OnOk result (text.new.items ≡ text.old.items ++ first_text row.now) }
+/// Appends how many lists there are, their mean, how many were cut, and each.
+pub(crate) fn push_text(
+    text: &mut Vec<u8>,
+    bits: usize,
+    lists: &[MomentCount],
+) -> Result<(), NoMemory>
+    requires { length lists.now ≤ MAX_MOMENTS }
+    ensures { OnOk result (text.new.items ≡ text.old.items ++ lists_text bits lists.now) }
 {
-    push_row(text, row)?;
-    push_each(text, row.lists.as_slice())
+    push_lists(text, bits, lists)?;
+    push_each(text, lists)
 }
 
-/// Appends the rows of more bits.
-#[tactic(auto, using(crate::proofs::LineLemmas::row_more, crate::proofs::LineLemmas::row_few))]
-fn push_further(text: &mut Vec<u8>, rows: &[SignatureRow]) -> Result<(), NoMemory>
-    requires { All (λ row. length row.lists.items ≤ MAX_MOMENTS) rows.now }
-    ensures { OnOk result (text.new.items ≡ text.old.items ++ flat_map row_line rows.now) }
+/// Appends a number of items that is enough.
+fn push_number_line(text: &mut Vec<u8>, count: usize) -> Result<(), NoMemory>
+    ensures { OnOk result (text.new.items ≡ text.old.items ++ enough_line (Some count)) }
 {
-    'rows: for i in 0..rows.len() {
-        push_row(text, &rows[i])?;
-    }
-    Ok(())
+    push_piece(text, b"enough ")?;
+    push_number(text, count as u64)?;
+    end_line(text)
 }
 
-/// Appends the row of the proposed signature, with its lists, and the rows of more bits.
-#[tactic(auto, using(crate::proofs::LineLemmas::first_few, crate::proofs::LineLemmas::others_few))]
-pub(crate) fn push_rows(text: &mut Vec<u8>, rows: &[SignatureRow]) -> Result<(), NoMemory>
-    requires { All (λ row. length row.lists.items ≤ MAX_MOMENTS) rows.now }
-    ensures { OnOk result (text.new.items ≡ text.old.items ++ rows_text rows.now) }
+/// Appends how many items are enough.
+pub(crate) fn push_enough(text: &mut Vec<u8>, enough: Option<usize>) -> Result<(), NoMemory>
+    ensures { OnOk result (text.new.items ≡ text.old.items ++ enough_line enough) }
 {
-    match rows {
-        [] => Ok(()),
-        [first, others @ ..] => {
-            push_first(text, first)?;
-            push_further(text, others)
-        }
+    match enough {
+        Some(count) => push_number_line(text, count),
+        None => push_line(text, b"enough none"),
     }
 }

@@ -8,9 +8,9 @@ ghost use Rattle.bs_scan.specs.Crash.{recording_of};
 ghost use Rattle.bs_scan.specs.Moments.{IsMoment};
 ghost use Rattle.bs_preimage.specs.Preimage.{fresh};
 ghost use Rattle.bs_inspect_lists.specs.MomentCount.{AreMomentCounts, IsMomentCount, room_of};
-ghost use Rattle.bs_inspect_lists.specs.declared.lists.TheConstants.{MAX_LISTED_BITS};
+ghost use Rattle.bs_inspect_lists.specs.declared.lists.TheConstants.{MAX_LISTED_BITS, MAX_OTHERS};
 
-use crate::counting::{PredecessorCount, count_dump, weight_of};
+use crate::counting::{Aim, PredecessorCount, count_dump, weight_of};
 use crate::spread::{MAX_MOMENTS, count_later, moment_taken};
 use bs_bits::{List, NoMemory};
 use bs_chip::Chip;
@@ -24,6 +24,10 @@ use std::alloc::Global;
 /// How many bits the members of all lists by one signature may have, a bit a flip-flop: then no further list is begun.
 /// A list of a wide netlist takes longer, so there are fewer of them.
 pub const MAX_LISTED_BITS: usize = 1_048_576;
+
+/// With a signature that is enough so many lists may not be of one predecessor. In a run that begins with its reset on, the state of
+/// cycle 1 has lost all bits.
+pub const MAX_OTHERS: usize = 1;
 
 /// How many bytes the cycles that are kept of the runs may take. An eighth of what a backtrace keeps: few moments are looked at.
 const TRACK_BYTES: usize = 67_108_864;
@@ -39,6 +43,7 @@ pub struct MomentCount {
 #[tactic(auto, using(crate::proofs::MomentCountLemmas::moment_counted_as, crate::proofs::MomentCountLemmas::state_wide, crate::proofs::MomentCountLemmas::stored_wide, crate::proofs::MomentCountLemmas::held_there, crate::proofs::MomentCountLemmas::moment_there))]
 fn count_at(
     alloc: Global,
+    aim: Aim,
     chip: &mut Chip<'_>,
     preimage: &mut Preimage<'_>,
     net: &Netlist,
@@ -53,7 +58,7 @@ fn count_at(
     requires depth { depth_of choice.now ≡ 1 }
     requires moment { IsMoment (inputs_of runs.now) moment }
     requires later { 1 ≤ moment.cycle }
-    ensures counts { IfOk result (IsMomentCount (circuit net.now) choice.now (inputs_of runs.now)) }
+    ensures counts { IfOk result (IsMomentCount aim (circuit net.now) choice.now (inputs_of runs.now)) }
     ensures moment { IfOk result (λ entry. entry.moment ≡ moment) }
     ensures chip { chip.new ≡ chip.old }
     ensures circuit { preimage.new.circuit ≡ preimage.old.circuit }
@@ -64,22 +69,26 @@ fn count_at(
     let _choice = choice;
     let _runs = runs;
     let dump = chip.dump_at(alloc, moment.run, moment.cycle)?;
-    let count = count_dump(alloc, preimage, dump)?;
+    let count = count_dump(alloc, preimage, aim, dump)?;
     Ok(MomentCount { moment, count })
 }
 
-/// How many members there is room for in all lists, by the number of flip-flops.
-fn room_of(width: usize) -> u64
-    ensures room { result ≡ room_of width }
+/// How much room there is for all lists: for members, by the number of flip-flops, or for those that are not of one predecessor.
+fn room_of(aim: Aim, width: usize) -> u64
+    ensures room { result ≡ room_of aim width }
     ensures small { result ≤ MAX_LISTED_BITS }
 {
-    (MAX_LISTED_BITS / width.max(1)) as u64
+    match aim {
+        Aim::Numbers => (MAX_LISTED_BITS / width.max(1)) as u64,
+        Aim::Ones => MAX_OTHERS as u64 + 1,
+    }
 }
 
 /// The moments that are taken, each with its count, while there is room.
 #[tactic(auto, using(crate::proofs::MomentCountLemmas::none_counted, crate::proofs::MomentCountLemmas::all_are_counted, crate::proofs::MomentCountLemmas::enough_counted))]
 fn tell_each(
     alloc: Global,
+    aim: Aim,
     chip: &mut Chip<'_>,
     preimage: &mut Preimage<'_>,
     net: &Netlist,
@@ -89,11 +98,11 @@ fn tell_each(
     requires recording { chip.old.recording ≡ recording_of net.now.raw choice.now runs.now }
     requires preimage { preimage.old ≡ fresh (circuit net.now) choice.now }
     requires depth { depth_of choice.now ≡ 1 }
-    ensures { IfOk result (λ counts. AreMomentCounts (circuit net.now) choice.now (inputs_of runs.now) counts.items) }
+    ensures { IfOk result (λ counts. AreMomentCounts aim (circuit net.now) choice.now (inputs_of runs.now) counts.items) }
 {
     let all = count_later(runs);
     let count = all.min(MAX_MOMENTS);
-    let room = room_of(net.width());
+    let room = room_of(aim, net.width());
     let mut spent = 0u64;
     let mut counts = Vec::new(alloc);
     'moments: for k in 0..count {
@@ -101,8 +110,8 @@ fn tell_each(
             return Ok(counts);
         }
         let moment = moment_taken(runs, all, count, k);
-        let one = count_at(alloc, chip, preimage, net, choice, runs, moment)?;
-        spent += weight_of(one.count);
+        let one = count_at(alloc, aim, chip, preimage, net, choice, runs, moment)?;
+        spent += weight_of(aim, one.count);
         counts.push(one)?;
     }
     Ok(counts)
@@ -114,6 +123,7 @@ fn drop_search(_preimage: Preimage<'_>) {}
 /// The same by a search that is at its beginning.
 fn tell_by(
     alloc: Global,
+    aim: Aim,
     chip: &mut Chip<'_>,
     mut preimage: Preimage<'_>,
     net: &Netlist,
@@ -123,9 +133,9 @@ fn tell_by(
     requires recording { chip.old.recording ≡ recording_of net.now.raw choice.now runs.now }
     requires preimage { preimage ≡ fresh (circuit net.now) choice.now }
     requires depth { depth_of choice.now ≡ 1 }
-    ensures { IfOk result (λ counts. AreMomentCounts (circuit net.now) choice.now (inputs_of runs.now) counts.items) }
+    ensures { IfOk result (λ counts. AreMomentCounts aim (circuit net.now) choice.now (inputs_of runs.now) counts.items) }
 {
-    let counts = tell_each(alloc, chip, &mut preimage, net, choice, runs);
+    let counts = tell_each(alloc, aim, chip, &mut preimage, net, choice, runs);
     drop_search(preimage);
     counts
 }
@@ -142,6 +152,7 @@ fn play(alloc: Global, chip: &mut Chip<'_>) -> Result<(), NoMemory>
 /// The moments that are taken, each with its count, where the runs are stepped first.
 fn tell_played(
     alloc: Global,
+    aim: Aim,
     chip: &mut Chip<'_>,
     net: &Netlist,
     choice: &Choice,
@@ -150,11 +161,12 @@ fn tell_played(
     requires recording { chip.old.recording ≡ recording_of net.now.raw choice.now runs.now }
     requires width { choice.now.width ≡ length (circuit net.now).flops }
     requires depth { depth_of choice.now ≡ 1 }
-    ensures { IfOk result (λ counts. AreMomentCounts (circuit net.now) choice.now (inputs_of runs.now) counts.items) }
+    ensures { IfOk result (λ counts. AreMomentCounts aim (circuit net.now) choice.now (inputs_of runs.now) counts.items) }
 {
     play(alloc, chip)?;
     let counts = tell_by(
         alloc,
+        aim,
         chip,
         Preimage::new(alloc, net, choice)?,
         net,
@@ -170,6 +182,7 @@ fn drop_chip(_chip: Chip<'_>) {}
 /// The same by a chip whose runs are not stepped yet.
 fn tell_on(
     alloc: Global,
+    aim: Aim,
     mut chip: Chip<'_>,
     net: &Netlist,
     choice: &Choice,
@@ -178,18 +191,19 @@ fn tell_on(
     requires recording { chip.recording ≡ recording_of net.now.raw choice.now runs.now }
     requires width { choice.now.width ≡ length (circuit net.now).flops }
     requires depth { depth_of choice.now ≡ 1 }
-    ensures { IfOk result (λ counts. AreMomentCounts (circuit net.now) choice.now (inputs_of runs.now) counts.items) }
+    ensures { IfOk result (λ counts. AreMomentCounts aim (circuit net.now) choice.now (inputs_of runs.now) counts.items) }
 {
-    let counts = tell_played(alloc, &mut chip, net, choice, runs);
+    let counts = tell_played(alloc, aim, &mut chip, net, choice, runs);
     drop_chip(chip);
     counts
 }
 
 /// At `MAX_MOMENTS` moments of the runs behind reset, or at all where these are fewer: how many predecessors the state has that
-/// agree with the stored signature. No further one is counted where the lists before have `MAX_LISTED_BITS`. The lists share one
-/// search, whose log grows by a block for each member.
+/// agree with the stored signature. For numbers no further one is counted where the lists before have `MAX_LISTED_BITS`; for ones
+/// where more than `MAX_OTHERS` before are not of one predecessor. The lists share one search, whose log grows by a block for each member.
 pub fn count_lists(
     alloc: Global,
+    aim: Aim,
     net: &Netlist,
     choice: &Choice,
     runs: &Runs,
@@ -197,9 +211,9 @@ pub fn count_lists(
     requires states { choice.now.width ≡ length (circuit net.now).flops }
     requires inputs { runs.now.width ≡ length (circuit net.now).inputs }
     requires depth { depth_of choice.now ≡ 1 }
-    ensures { IfOk result (λ counts. AreMomentCounts (circuit net.now) choice.now (inputs_of runs.now) counts.items) }
+    ensures { IfOk result (λ counts. AreMomentCounts aim (circuit net.now) choice.now (inputs_of runs.now) counts.items) }
 {
     let chip = Chip::with_bound(alloc, net, choice, runs, TRACK_BYTES)?;
-    let counts = tell_on(alloc, chip, net, choice, runs)?;
+    let counts = tell_on(alloc, aim, chip, net, choice, runs)?;
     Ok(counts)
 }

@@ -1,77 +1,64 @@
-//! The proposal of a signature, and what lists of predecessors it leads to.
-ghost use Rattle.std.specs.Prelude.{◌≡◌, ◌<◌, ◌≤◌, ◌++◌, length, map, All, IfOk};
+//! The proposal of a signature, what lists of predecessors it leads to, and how many items are enough.
+ghost use Rattle.std.specs.Prelude.{◌≡◌, ◌<◌, ◌++◌, length, codes, IfOk, OnOk};
+ghost use Rattle.bs_bits.specs.Lines.{line};
 ghost use Rattle.bs_net.specs.Netlist.{circuit};
-ghost use Rattle.bs_inspect_proposal.specs.Proposal.{Proposes};
-ghost use Rattle.bs_inspect_lists.specs.Lines.{rows_text};
-ghost use Rattle.bs_inspect_lists.specs.Rows.{IsRow};
-ghost use Rattle.bs_inspect_lists.specs.Signature.{TellsSignature};
-ghost use Rattle.bs_inspect_lists.specs.Sizes.{most_of, sizes};
-ghost use Rattle.bs_inspect_lists.specs.declared.spread.TheConstants.{MAX_MOMENTS};
+ghost use Rattle.bs_inspect_lists.specs.Signature.{AppendsEnough, AppendsLists, TellsSignature, proposal_text};
 
-use crate::lines::push_rows;
-use crate::rows::{SignatureRow, rows_of};
-use crate::sizes::{most_of, sizes};
-use bs_bits::NoMemory;
-use bs_inspect_proposal::{Proposal, propose};
+use crate::enough::enough;
+use crate::lines::{push_enough, push_text};
+use crate::reading::lists_by;
+use bs_bits::{NoMemory, push_line, push_piece};
+use bs_inspect_proposal::mixed_lines;
 use bs_net::Netlist;
 use bs_stim::Runs;
 use std::alloc::Global;
 
-/// The rows of the lists, by an order of flip-flops.
-#[tactic(auto, using(crate::proofs::SignatureLemmas::order_within, crate::proofs::SignatureLemmas::sizes_as))]
-fn rows_in(
-    alloc: Global,
-    net: &Netlist,
-    runs: &Runs,
-    proposal: &Proposal,
-    bits: usize,
-) -> Result<Vec<SignatureRow>, NoMemory>
-    requires inputs { runs.now.width ≡ length (circuit net.now).inputs }
-    requires proposed { Proposes net.now.raw runs.now bits (most_of (length net.now.raw.flops) bits) proposal.now.order.items proposal.now.text.items }
-    ensures sizes { IfOk result (λ rows. map (λ row. row.bits) rows.items ≡ sizes (length net.now.raw.flops) bits) }
-    ensures each { IfOk result (λ rows. All (IsRow net.now.raw runs.now proposal.now.order.items) rows.items) }
+/// A text of lines with a line in front.
+fn with_head(alloc: Global, lines: &[u8]) -> Result<Vec<u8>, NoMemory>
+    ensures { IfOk result (λ text. text.items ≡ line (codes "choice mixed") ++ lines.now) }
 {
-    let sizes = sizes(alloc, net.width(), bits)?;
-    let rows = rows_of(
-        alloc,
-        net,
-        runs,
-        proposal.order.as_slice(),
-        sizes.as_slice(),
-    )?;
-    Ok(rows)
-}
-
-/// A text with rows behind it.
-fn with_rows(mut text: Vec<u8>, rows: &[SignatureRow]) -> Result<Vec<u8>, NoMemory>
-    requires { All (λ row. length row.lists.items ≤ MAX_MOMENTS) rows.now }
-    ensures { IfOk result (λ whole. whole.items ≡ text.items ++ rows_text rows.now) }
-{
-    push_rows(&mut text, rows)?;
+    let mut text = Vec::new(alloc);
+    push_line(&mut text, b"choice mixed")?;
+    push_piece(&mut text, lines)?;
     Ok(text)
 }
 
-/// A proposal with the lists behind it.
-#[tactic(auto, using(crate::proofs::SignatureLemmas::rows_few, crate::proofs::SignatureLemmas::tells))]
-fn with_lists(
-    alloc: Global,
-    net: &Netlist,
-    runs: &Runs,
-    proposal: Proposal,
-    bits: usize,
-) -> Result<Vec<u8>, NoMemory>
-    requires inputs { runs.now.width ≡ length (circuit net.now).inputs }
-    requires proposed { Proposes net.now.raw runs.now bits (most_of (length net.now.raw.flops) bits) proposal.order.items proposal.text.items }
-    ensures { IfOk result (λ text. TellsSignature net.now.raw runs.now bits text.items) }
+/// A proposal of so many items.
+fn proposal_text(alloc: Global, net: &Netlist, bits: usize) -> Result<Vec<u8>, NoMemory>
+    requires { 0 < bits }
+    ensures { IfOk result (λ text. text.items ≡ proposal_text net.now.raw bits) }
 {
-    let rows = rows_in(alloc, net, runs, &proposal, bits)?;
-    let text = with_rows(proposal.text, rows.as_slice())?;
+    let lines = mixed_lines(alloc, net, bits)?;
+    let text = with_head(alloc, lines.as_slice())?;
     Ok(text)
 }
 
-/// A proposal of a signature with so many items, and what lists of predecessors its single flip-flops lead to at moments of the
-/// runs; and the same of twice as many flip-flops and so on, in the order in which they are chosen.
-#[tactic(auto, using(crate::proofs::SignatureLemmas::proposed_as))]
+/// Appends the lists by a proposal of so many items.
+#[tactic(auto, using(crate::proofs::SignatureLemmas::by_few, crate::proofs::SignatureLemmas::appended_lists))]
+fn push_lists(text: &mut Vec<u8>, net: &Netlist, runs: &Runs, bits: usize) -> Result<(), NoMemory>
+    requires inputs { runs.now.width ≡ length (circuit net.now).inputs }
+    requires some { 0 < bits }
+    ensures { OnOk result (AppendsLists net.now.raw runs.now bits text.old.items text.new.items) }
+{
+    let lists = lists_by(*text.allocator(), net, runs, bits)?;
+    push_text(text, bits.min(net.width()), lists.as_slice())?;
+    Ok(())
+}
+
+/// Appends how many items are enough.
+#[tactic(auto, using(crate::proofs::SignatureLemmas::appended_enough))]
+fn push_enough_by(text: &mut Vec<u8>, net: &Netlist, runs: &Runs) -> Result<(), NoMemory>
+    requires inputs { runs.now.width ≡ length (circuit net.now).inputs }
+    ensures { OnOk result (AppendsEnough net.now.raw runs.now text.old.items text.new.items) }
+{
+    let found = enough(*text.allocator(), net, runs)?;
+    push_enough(text, found)?;
+    Ok(())
+}
+
+/// A proposal of a signature with so many items, the numbers of predecessors that it leads to at moments of the runs, and the least
+/// number of items with which nearly all states at such moments have one predecessor.
+#[tactic(auto, using(crate::proofs::SignatureLemmas::tells))]
 pub fn signature_text(
     alloc: Global,
     net: &Netlist,
@@ -82,7 +69,8 @@ pub fn signature_text(
     requires some { 0 < bits }
     ensures { IfOk result (λ text. TellsSignature net.now.raw runs.now bits text.items) }
 {
-    let proposal = propose(alloc, net, runs, bits, most_of(net.width(), bits))?;
-    let text = with_lists(alloc, net, runs, proposal, bits)?;
+    let mut text = proposal_text(alloc, net, bits)?;
+    push_lists(&mut text, net, runs, bits)?;
+    push_enough_by(&mut text, net, runs)?;
     Ok(text)
 }

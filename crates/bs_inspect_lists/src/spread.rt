@@ -9,7 +9,7 @@ use bs_scan::Moment;
 use bs_stim::Runs;
 
 /// The greatest number of moments that are taken. Each takes a list of predecessors.
-pub const MAX_MOMENTS: usize = 32;
+pub const MAX_MOMENTS: usize = 64;
 
 /// The number of moments behind reset in all runs.
 #[tactic(auto, using(crate::proofs::SpreadLemmas::none_later, crate::proofs::SpreadLemmas::more_later, crate::proofs::SpreadLemmas::all_later))]

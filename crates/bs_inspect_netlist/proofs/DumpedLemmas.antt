@@ -1,5 +1,7 @@
--- The dump at a cycle.
-use Rattle.std.proofs.Common.{◌≡◌, ℕ, ◌<◌, ◌==◌, Bool, true, false, List, [], length, Option, Some, None, refl, ap, sym, ◌∙◌, arith, slice_get, subst}
+-- The dump at a cycle, and the marks on its state.
+use Rattle.std.proofs.Common.{◌≡◌, ℕ, ◌<◌, ◌≤◌, ◌+◌, ◌==◌, Bool, true, false, List, [], length, drop, get_or, Option, Some, None, refl, ap, sym, ◌∙◌, arith, slice_get, subst}
+use Rattle.std.specs.List.{list_any}
+use Rattle.std.proofs.lemmas.List.{drop_all, drop_more}
 use Rattle.std.specs.Prelude.{nat_lt, slice_index_or, All, if◌then◌else◌}
 use Rattle.std.proofs.lemmas.Option.{get_or_from_slice_get, none-some}
 use Rattle.std.proofs.lemmas.Bool.{ltb-true, lt-ltb}
@@ -36,13 +38,31 @@ behind choice states cycle none = by (nat_lt cycle 1) refl
         rw two (same_none (depth_of choice == 2))
     by false e = absurd (none-some _ (rw e at (sym none)))
 
-is_dump : (choice : Chosen) (states : List (List Bool)) (cycle : ℕ) → IsDepth (depth_of choice) → IsDump (dumped choice states cycle)
-is_dump choice states cycle depth = record {
+is_dump : (choice : Chosen) (states : List (List Bool)) (marks : List Bool) (cycle : ℕ) → IsDepth (depth_of choice) →
+    IsDump (dumped choice states marks cycle)
+is_dump choice states marks cycle depth = record {
   kept = depth;
   alone = λ one. alone choice states cycle one;
   behind = λ none. behind choice states cycle none;
 }
 
-pub dump_is : (choice : Chosen) (states : List (List Bool)) (cycle : ℕ) (dump : Dump) → IsDepth (depth_of choice) → dump ≡ dumped choice states cycle →
-    IsDump dump
-dump_is choice states cycle dump depth e = subst IsDump (sym e) (is_dump choice states cycle depth)
+pub dump_is : (choice : Chosen) (states : List (List Bool)) (marks : List Bool) (cycle : ℕ) (dump : Dump) → IsDepth (depth_of choice) →
+    dump ≡ dumped choice states marks cycle → IsDump dump
+dump_is choice states marks cycle dump depth e = subst IsDump (sym e) (is_dump choice states marks cycle depth)
+
+-- ---- marks
+
+abbrev some_mark : List Bool → Bool
+some_mark marks = list_any (λ m. m) marks
+
+pub mark_more : (marks : List Bool) (i : ℕ) (d : Bool) → i < length marks → list_any (λ m. m) marks ≡ list_any (λ m. m) (drop i marks) →
+    get_or marks i d ≡ false → list_any (λ m. m) marks ≡ list_any (λ m. m) (drop (i + 1) marks)
+mark_more marks i d lt e not = e ∙ (ap some_mark (drop_more marks i d lt) ∙ rw not refl)
+
+pub mark_found : (marks : List Bool) (i : ℕ) (d : Bool) → i < length marks → list_any (λ m. m) marks ≡ list_any (λ m. m) (drop i marks) →
+    get_or marks i d ≡ true → true ≡ list_any (λ m. m) marks
+mark_found marks i d lt e is = sym (e ∙ (ap some_mark (drop_more marks i d lt) ∙ rw is refl))
+
+pub mark_none : (marks : List Bool) (i : ℕ) → length marks ≤ i → list_any (λ m. m) marks ≡ list_any (λ m. m) (drop i marks) →
+    false ≡ list_any (λ m. m) marks
+mark_none marks i le e = sym (e ∙ ap some_mark (drop_all i marks le))

@@ -14,7 +14,7 @@ use Rattle.bs_net_names.specs.Rtl.{same_name}
 use Rattle.bs_net_names.specs.declared.key.KeyParts.{KeyParts as CodeKeyParts}
 use Rattle.bs_inspect_netlist.specs.declared.fault.OrderFault.{OrderFault}
 use Rattle.bs_inspect_netlist.specs.declared.fault.OrderFault.TheVariants.{NoMemory}
-use Rattle.bs_inspect_netlist.specs.Order.{listed_at, listed_from, pattern_bit}
+use Rattle.bs_inspect_netlist.specs.Order.{is_unlisted, listed_at, listed_from, pattern_bit}
 
 -- a key more
 pub parts_more : (r : Parts) (keys : List CodeKeyParts) (key : CodeKeyParts) (fs : List Flop) (i : ℕ) (d : Flop) → i < length fs →
@@ -71,3 +71,10 @@ pub bits_more : (order : List ℕ) (pattern state : List Bool) (n : ℕ) → sta
 bits_more order pattern state n e =
     ap (λ (bs : List Bool). bs ++ pattern_bit order pattern n ∷ []) e
     ∙ (sym (map-append (pattern_bit order pattern) (range_with_len 0 n) (n ∷ [])) ∙ ap (map (pattern_bit order pattern)) (sym (range_push n)))
+
+-- a flip-flop more of which it is said whether it is listed
+pub unlisted_more : (order : List ℕ) (free : List Bool) (n : ℕ) → free ≡ map (is_unlisted order) (range_with_len 0 n) →
+    free ++ is_unlisted order n ∷ [] ≡ map (is_unlisted order) (range_with_len 0 (n + 1))
+unlisted_more order free n e =
+    ap (λ (bs : List Bool). bs ++ is_unlisted order n ∷ []) e
+    ∙ (sym (map-append (is_unlisted order) (range_with_len 0 n) (n ∷ [])) ∙ ap (map (is_unlisted order)) (sym (range_push n)))

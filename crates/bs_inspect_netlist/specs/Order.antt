@@ -1,15 +1,17 @@
--- The flip-flops of a scan chain in its order, and the state that a pattern in that order is (docs/FORMATS.md, "Orders of a scan chain").
-use Rattle.std.specs.Prelude.{ℕ, ◌+◌, ◌==◌, Bool, false, not, List, [], ◌∷◌, ◌++◌, length, map, codes, slice_index_or, Option, Some, None, Result, Ok, Err}
+-- The flip-flops of a scan chain in its order, and what a pattern in that order shows of a state (docs/FORMATS.md, "Orders of a scan chain").
+use Rattle.std.specs.Prelude.{ℕ, ◌+◌, ◌==◌, Bool, false, not, List, [], ◌∷◌, ◌++◌, length, map, codes, count_by, slice_index_or, Option, Some, None, Result, Ok, Err}
 use Rattle.std.specs.Prelude.{if◌then◌else◌}
-use Rattle.std.specs.List.{find, list_any, position, range_with_len}
+use Rattle.std.specs.List.{list_any, position, range_with_len}
 use Rattle.bs_bits.specs.Lines.{is_name, line, lines_of}
 use Rattle.bs_bits.specs.Reading.{◌>>=◌}
-use Rattle.bs_bits.specs.Text.{bits_of, bits_text}
+use Rattle.bs_bits.specs.Text.{bits_of}
+use Rattle.bs_seen.specs.declared.seen.Seen.{Seen}
+use Rattle.bs_seen.specs.SeenText.{seen_text}
 use Rattle.bs_net.specs.Parts.{Parts, key_at}
 use Rattle.bs_net_names.specs.Keys.{KeyParts, key_parts}
 use Rattle.bs_net_names.specs.Rtl.{same_name}
 use Rattle.bs_inspect_netlist.specs.declared.fault.OrderFault.{OrderFault}
-use Rattle.bs_inspect_netlist.specs.declared.fault.OrderFault.TheVariants.{Line, Unknown, Twice, Missing}
+use Rattle.bs_inspect_netlist.specs.declared.fault.OrderFault.TheVariants.{Line, Unknown, Twice}
 use Rattle.bs_inspect_netlist.specs.declared.fault.PatternFault.{PatternFault}
 use Rattle.bs_inspect_netlist.specs.declared.fault.PatternFault.TheVariants.{Bits, Width}
 
@@ -40,17 +42,17 @@ abbrev pub listed_from : List KeyParts → List ℕ → List (List ℕ) → Resu
 listed_from flops earlier [] = Ok earlier
 listed_from flops earlier (text ∷ texts) = listed_at flops earlier text >>= λ flop. listed_from flops (earlier ++ flop ∷ []) texts
 
--- the first of so many flip-flops that is none of these
-abbrev pub first_unlisted : ℕ → List ℕ → Option ℕ
-first_unlisted width order = find (λ flop. not (is_listed order flop)) (range_with_len 0 width)
-
-abbrev pub whole_of : List ℕ → Option ℕ → Result (List ℕ) OrderFault
-whole_of order None = Ok order
-whole_of order (Some flop) = Err (Missing flop)
-
--- the flip-flops that the lines of a text name: each once; or the first fault
+-- the flip-flops that the lines of a text name, none of them twice; or the first fault
 abbrev pub order_in : Parts → List ℕ → Result (List ℕ) OrderFault
-order_in r text = listed_from (flop_parts r) [] (lines_of text) >>= λ order. whole_of order (first_unlisted (length r.flops) order)
+order_in r text = listed_from (flop_parts r) [] (lines_of text)
+
+-- whether a flip-flop is none of these
+abbrev pub is_unlisted : List ℕ → ℕ → Bool
+is_unlisted order flop = not (is_listed order flop)
+
+-- how many of so many flip-flops are none of these
+abbrev pub unlisted_count : ℕ → List ℕ → ℕ
+unlisted_count width order = count_by (is_unlisted order) (range_with_len 0 width)
 
 -- ---- a pattern
 
@@ -58,7 +60,7 @@ abbrev pub of_width : ℕ → Option (List Bool) → Result (List Bool) PatternF
 of_width width None = Err Bits
 of_width width (Some bits) = if length bits == width then Ok bits else Err (Width (length bits))
 
--- as many bits as there are flip-flops
+-- so many bits: one for each line of the order
 abbrev pub pattern_in : ℕ → List ℕ → Result (List Bool) PatternFault
 pattern_in width text = of_width width (bits_of text)
 
@@ -70,10 +72,18 @@ bit_there pattern (Some k) = slice_index_or pattern k false
 abbrev pub pattern_bit : List ℕ → List Bool → ℕ → Bool
 pattern_bit order pattern flop = bit_there pattern (position (λ f. f == flop) order)
 
--- the state that a pattern in an order is
-abbrev pub unscanned : ℕ → List ℕ → List Bool → List Bool
-unscanned width order pattern = map (pattern_bit order pattern) (range_with_len 0 width)
+-- which of so many flip-flops are not in an order, where one is not
+abbrev pub unlisted_among : ℕ → List ℕ → List Bool
+unlisted_among width order =
+    if list_any (is_unlisted order) (range_with_len 0 width) then map (is_unlisted order) (range_with_len 0 width) else []
+
+-- what a pattern in an order shows of a state: nothing is known of the flip-flops that are not in the order
+abbrev pub unscanned : ℕ → List ℕ → List Bool → Seen
+unscanned width order pattern = record {
+  bits = map (pattern_bit order pattern) (range_with_len 0 width);
+  free = unlisted_among width order;
+}
 
 -- the first line of a dump of it
 abbrev pub state_line : ℕ → List ℕ → List Bool → List ℕ
-state_line width order pattern = line (codes "state " ++ bits_text (unscanned width order pattern))
+state_line width order pattern = line (codes "state " ++ seen_text (unscanned width order pattern))

@@ -5,7 +5,7 @@ use std::error::Error;
 use std::fmt::Display;
 use thiserror::Error;
 
-/// Why a text is no order of a scan chain (docs/FORMATS.md, "Orders of a scan chain"). A line counts from 1, a flip-flop from 0.
+/// Why a text is no order of a scan chain (docs/FORMATS.md, "Orders of a scan chain"). A line counts from 1.
 #[derive(Clone, Copy, Debug, PartialEq, Eq, Error)]
 pub enum OrderFault {
     #[error("line {0} is no name")]
@@ -14,8 +14,6 @@ pub enum OrderFault {
     Unknown(u64),
     #[error("the flip-flop of line {0} has a line already")]
     Twice(u64),
-    #[error("flip-flop {0} has no line")]
-    Missing(u64),
     #[error("out of memory")]
     NoMemory,
 }

@@ -1,5 +1,5 @@
 //! What is told of a netlist: its flip-flops and its data inputs one by one, with the keys that show the same value, the flip-flops
-//! that names stand for, its sizes, and the state that a pattern of its scan chain is.
+//! that names stand for, its sizes, and what a pattern of its scan chain shows of a state.
 //!
 //! Modules: `mark` and `marking` (a number for each net, from those of its gate's inputs), `bits`
 //! (lines of flip-flops and inputs), `called` (names), `tally`, `sizes`, `order` and `pattern` (a
@@ -21,8 +21,8 @@ mod tally;
 
 pub use bits::{flops_text, inputs_text};
 pub use called::{first_unnamed, keys_text};
-pub use dumped::{dump_text, last_dump, last_state};
+pub use dumped::{last_dump, last_state};
 pub use fault::{OrderFault, PatternFault};
-pub use order::read_order;
+pub use order::{read_order, unlisted_count};
 pub use pattern::{read_pattern, state_text, unscan};
 pub use sizes::stats_text;

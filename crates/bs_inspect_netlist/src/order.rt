@@ -1,13 +1,13 @@
 //! The order of a scan chain, by the names of its flip-flops.
-ghost use Rattle.std.specs.Prelude.{◌≡◌, ◌<◌, ◌∷◌, [], ◌++◌, ◌==◌, length, map, not, IfOk, OnOk};
-ghost use Rattle.std.specs.List.{find, list_any, position, range_with_len};
+ghost use Rattle.std.specs.Prelude.{◌≡◌, ◌<◌, ◌∷◌, [], ◌++◌, ◌==◌, length, map, IfOk, OnOk};
+ghost use Rattle.std.specs.List.{list_any, position};
 ghost use Rattle.bs_bits.specs.Lines.{lines_of};
 ghost use Rattle.bs_bits.specs.Reading.{Answers};
 ghost use Rattle.bs_net_names.specs.Keys.{parts_in};
 ghost use Rattle.bs_net_names.specs.Rtl.{same_name};
 ghost use Rattle.bs_net.specs.Netlist.{parts_of};
 ghost use Rattle.bs_inspect_netlist.specs.declared.fault.OrderFault.TheVariants.{NoMemory as Want};
-ghost use Rattle.bs_inspect_netlist.specs.Order.{first_unlisted, flop_named, flop_parts, if_new, is_listed, listed_at, listed_from, order_in, whole_of};
+ghost use Rattle.bs_inspect_netlist.specs.Order.{flop_named, flop_parts, if_new, is_listed, is_unlisted, listed_at, listed_from, order_in, unlisted_count};
 
 use crate::bits::key_at;
 use crate::fault::OrderFault;
@@ -101,29 +101,26 @@ fn read_listed(alloc: Global, flops: &[KeyParts<'_>], text: &[u8]) -> Result<Vec
     Ok(order)
 }
 
-/// The first of so many flip-flops that is none of these.
-fn first_unlisted(width: usize, order: &[usize]) -> Option<usize>
-    ensures { result ≡ first_unlisted width order.now }
-{
-    (0..width).find(|flop| !is_listed(order, *flop))
-}
-
-/// An order, where each of so many flip-flops is in it.
-fn whole(width: usize, order: Vec<usize>) -> Result<Vec<usize>, OrderFault>
-    ensures { Answers Want (λ order. order.items) result (whole_of order.items (first_unlisted width order.items)) }
-{
-    match first_unlisted(width, order.as_slice()) {
-        None => Ok(order),
-        Some(flop) => Err(OrderFault::Missing(flop as u64)),
-    }
-}
-
-/// The flip-flops of a scan chain in its order: a line of the text is the key of one, or that name as RTL writes it, and each has
-/// one line (docs/FORMATS.md, "Orders of a scan chain"). A flip-flop is its number in the netlist, from 0.
+/// The flip-flops of a scan chain in its order: a line of the text is the key of one, or that name as RTL writes it, and none has two
+/// (docs/FORMATS.md, "Orders of a scan chain"). A flip-flop is its number in the netlist, from 0.
 pub fn read_order(alloc: Global, net: &Netlist, text: &[u8]) -> Result<Vec<usize>, OrderFault>
     ensures { Answers Want (λ order. order.items) result (order_in net.now.raw text.now) }
 {
     let flops = flop_parts(alloc, net.raw())?;
     let order = read_listed(alloc, flops.as_slice(), text)?;
-    whole(net.width(), order)
+    Ok(order)
+}
+
+/// Whether a flip-flop is none of these.
+pub(crate) fn is_unlisted(order: &[usize], flop: usize) -> bool
+    ensures { result ≡ is_unlisted order.now flop }
+{
+    !is_listed(order, flop)
+}
+
+/// How many of so many flip-flops are not in an order.
+pub fn unlisted_count(width: usize, order: &[usize]) -> usize
+    ensures { result ≡ unlisted_count width order.now }
+{
+    (0..width).filter(|flop| is_unlisted(order, *flop)).count()
 }

@@ -1,14 +1,16 @@
-//! The state that a pattern in the order of a scan chain is.
+//! What a pattern in the order of a scan chain shows of a state.
 ghost use Rattle.std.specs.Prelude.{◌≡◌, ◌∷◌, [], ◌++◌, ◌==◌, codes, length, map, IfOk, Some};
-ghost use Rattle.std.specs.List.{position, range_with_len};
+ghost use Rattle.std.specs.List.{list_any, position, range_with_len};
 ghost use Rattle.bs_bits.specs.Lines.{line};
 ghost use Rattle.bs_bits.specs.Reading.{Answers};
-ghost use Rattle.bs_bits.specs.Text.{bits_text};
+ghost use Rattle.bs_seen.specs.SeenText.{seen_text};
 ghost use Rattle.bs_inspect_netlist.specs.declared.fault.PatternFault.TheVariants.{NoMemory as Want};
-ghost use Rattle.bs_inspect_netlist.specs.Order.{bit_there, of_width, pattern_bit, pattern_in, state_line, unscanned};
+ghost use Rattle.bs_inspect_netlist.specs.Order.{bit_there, is_unlisted, of_width, pattern_bit, pattern_in, state_line, unlisted_among, unscanned};
 
 use crate::fault::PatternFault;
+use crate::order::is_unlisted;
 use bs_bits::{Bits, NoMemory, end_line, push_piece};
+use bs_seen::Seen;
 use std::alloc::Global;
 
 /// Bits, where there are so many.
@@ -63,35 +65,80 @@ fn pattern_bit(order: &[usize], pattern: &Bits, flop: usize) -> bool
     bit_there(pattern, place_of(order, flop))
 }
 
-/// The state that a pattern is: each of so many flip-flops has the bit at its place in the order.
+/// The bits of so many flip-flops.
 #[tactic(auto, using(crate::proofs::OrderLemmas::bits_more))]
-pub fn unscan(
+fn pattern_bits(
     alloc: Global,
     width: usize,
     order: &[usize],
     pattern: &Bits,
 ) -> Result<Bits, NoMemory>
-    ensures { IfOk result (λ state. state ≡ unscanned width order.now pattern.now) }
+    ensures { IfOk result (λ bits. bits ≡ map (pattern_bit order.now pattern.now) (range_with_len 0 width)) }
 {
-    let mut state = Bits::new(alloc);
+    let mut bits = Bits::new(alloc);
     'flops: for flop in 0..width {
-        state.push(pattern_bit(order, pattern, flop))?;
+        bits.push(pattern_bit(order, pattern, flop))?;
     }
-    Ok(state)
+    Ok(bits)
+}
+
+/// Whether one of so many flip-flops is not in an order.
+fn lacks_one(width: usize, order: &[usize]) -> bool
+    ensures { result ≡ list_any (is_unlisted order.now) (range_with_len 0 width) }
+{
+    (0..width).any(|flop| is_unlisted(order, flop))
+}
+
+/// Which of so many flip-flops are not in an order.
+#[tactic(auto, using(crate::proofs::OrderLemmas::unlisted_more))]
+fn unlisted(alloc: Global, width: usize, order: &[usize]) -> Result<Bits, NoMemory>
+    ensures { IfOk result (λ free. free ≡ map (is_unlisted order.now) (range_with_len 0 width)) }
+{
+    let mut free = Bits::new(alloc);
+    'flops: for flop in 0..width {
+        free.push(is_unlisted(order, flop))?;
+    }
+    Ok(free)
+}
+
+/// The same, where one is not.
+fn unlisted_among(alloc: Global, width: usize, order: &[usize]) -> Result<Bits, NoMemory>
+    ensures { IfOk result (λ free. free ≡ unlisted_among width order.now) }
+{
+    if lacks_one(width, order) {
+        unlisted(alloc, width, order)
+    } else {
+        Ok(Bits::new(alloc))
+    }
+}
+
+/// What a pattern shows of a state: each of so many flip-flops has the bit at its place in the order, and nothing is known of those that
+/// are not in it.
+pub fn unscan(
+    alloc: Global,
+    width: usize,
+    order: &[usize],
+    pattern: &Bits,
+) -> Result<Seen, NoMemory>
+    ensures { IfOk result (λ seen. seen ≡ unscanned width order.now pattern.now) }
+{
+    let bits = pattern_bits(alloc, width, order, pattern)?;
+    let free = unlisted_among(alloc, width, order)?;
+    Ok(Seen { bits, free })
 }
 
 /// The line of a state in a dump.
-fn text_of(alloc: Global, state: &Bits) -> Result<Vec<u8>, NoMemory>
-    ensures { IfOk result (λ text. text.items ≡ line (codes "state " ++ bits_text state.now)) }
+fn text_of(alloc: Global, seen: &Seen) -> Result<Vec<u8>, NoMemory>
+    ensures { IfOk result (λ text. text.items ≡ line (codes "state " ++ seen_text seen.now)) }
 {
     let mut text = Vec::new(alloc);
     push_piece(&mut text, b"state ")?;
-    state.text(&mut text)?;
+    seen.text(&mut text)?;
     end_line(&mut text)?;
     Ok(text)
 }
 
-/// The first line of a dump: the state that a pattern in the order of a scan chain is.
+/// The first line of a dump: what a pattern in the order of a scan chain shows of a state.
 pub fn state_text(
     alloc: Global,
     width: usize,
@@ -100,7 +147,7 @@ pub fn state_text(
 ) -> Result<Vec<u8>, NoMemory>
     ensures { IfOk result (λ text. text.items ≡ state_line width order.now pattern.now) }
 {
-    let state = unscan(alloc, width, order, pattern)?;
-    let text = text_of(alloc, &state)?;
+    let seen = unscan(alloc, width, order, pattern)?;
+    let text = text_of(alloc, &seen)?;
     Ok(text)
 }

@@ -60,3 +60,10 @@ abbrev pub trace_text : List ℕ → ℕ → List ℕ
 trace_text file place =
     file_text file (codes "input " ++ (decimal place ++ codes " of the trace has not one bit for each data input of the netlist")) ++
     plain_text (codes "is it the report of this very netlist?")
+
+-- ---- an order of a scan chain
+
+-- flip-flops that have no line
+abbrev pub unlisted_text : (count width : ℕ) → List ℕ
+unlisted_text count width =
+    plain_text (codes "the order has no line for " ++ (decimal count ++ (codes " of " ++ (decimal width ++ codes " flip-flops: `-` stands for each of them"))))

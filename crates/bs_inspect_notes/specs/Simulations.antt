@@ -115,7 +115,7 @@ unknown_sentence subject key time =
 abbrev pub unknown_hint : Subject → List ℕ
 unknown_hint Inputs = plain_text (codes "drive each data input before the clock rises first: a run begins at reset, and its front cannot be left out")
 unknown_hint Flops =
-    plain_text (codes "take a later cycle, or begin with an initial value; of the last cycle the time is that of the last change; `backspace dump` has the state of a recorded run")
+    plain_text (codes "take a later cycle, or begin with an initial value; of the last cycle the time is that of the last change; `backspace dump .. RUN CYCLE` has the state of a recorded run, and `--partial` writes `-` for what is not known")
 
 abbrev pub unknown_text : Subject → List ℕ → List ℕ → ℕ → List ℕ
 unknown_text subject file key time = file_text file (unknown_sentence subject key time) ++ unknown_hint subject

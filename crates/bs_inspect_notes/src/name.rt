@@ -1,7 +1,7 @@
 //! Notes on names that are asked for, on the names in a simulation, and on a report of another netlist.
 ghost use Rattle.std.specs.Prelude.{◌≡◌, ◌-◌, map, IfOk};
 ghost use Rattle.bs_note_files.specs.Notes.{said};
-ghost use Rattle.bs_inspect_notes.specs.Names.{first_word, form_saying, key_sentence, keys_label, name_text, net_text, numbered, state_text, subject_word, trace_text, twice_saying};
+ghost use Rattle.bs_inspect_notes.specs.Names.{first_word, form_saying, key_sentence, keys_label, name_text, net_text, numbered, state_text, subject_word, trace_text, twice_saying, unlisted_text};
 
 use crate::listing::{push_name, push_some_near};
 use bs_bits::{NoMemory, next_line, next_word, push_number, push_piece};
@@ -159,5 +159,18 @@ pub fn trace_note(alloc: Global, file: &str, place: u64) -> Result<Vec<u8>, NoMe
     )?;
     let mut note = file_note(alloc, file, &said)?;
     push_piece(&mut note, b"note: is it the report of this very netlist?\n")?;
+    Ok(note)
+}
+
+/// A note on flip-flops of which nothing is known, where so many of so many are not in an order.
+pub fn unlisted_note(alloc: Global, count: usize, width: usize) -> Result<Vec<u8>, NoMemory>
+    ensures { IfOk result (λ note. note.items ≡ unlisted_text count width) }
+{
+    let mut said = b"the order has no line for ".to_vec(alloc)?;
+    push_number(&mut said, count as u64)?;
+    push_piece(&mut said, b" of ")?;
+    push_number(&mut said, width as u64)?;
+    push_piece(&mut said, b" flip-flops: `-` stands for each of them")?;
+    let note = plain_note(alloc, &said)?;
     Ok(note)
 }

@@ -289,7 +289,7 @@ fn unknown_hint(subject: Subject) -> &'static [u8]
             b"note: drive each data input before the clock rises first: a run begins at reset, and its front cannot be left out\n"
         }
         Subject::Flops => {
-            b"note: take a later cycle, or begin with an initial value; of the last cycle the time is that of the last change; `backspace dump` has the state of a recorded run\n"
+            b"note: take a later cycle, or begin with an initial value; of the last cycle the time is that of the last change; `backspace dump .. RUN CYCLE` has the state of a recorded run, and `--partial` writes `-` for what is not known\n"
         }
     }
 }

@@ -3,9 +3,9 @@ ghost use Rattle.std.specs.Prelude.{◌≡◌, ◌<◌, ◌≤◌, ◌*◌, ◌+
 ghost use Rattle.bs_stim.specs.Runs.{inputs_of};
 ghost use Rattle.bs_inspect_novel.specs.Shown.{is_viewed, IsColumn, IsMask};
 
+use crate::run::Run;
 use bs_bits::NoMemory;
 use bs_lanes_planes::put_bit;
-use bs_stim::Runs;
 use std::alloc::Global;
 
 /// So many words of zeros.
@@ -25,45 +25,39 @@ fn both(one: bool, other: bool) -> bool
 
 /// Whether a lane has a run that is not the one with a number, and lasts to a cycle.
 #[tactic(auto, using(crate::proofs::MaskLemmas::viewed_none, crate::proofs::MaskLemmas::viewed_one))]
-fn is_viewed(runs: &Runs, first: u32, number: u32, cycle: u32, lane: u32) -> bool
+fn is_viewed(run: &Run<'_>, first: u32, cycle: u32, lane: u32) -> bool
     requires lane { lane < 64 }
     requires first { first < 1024 }
-    ensures { result ≡ is_viewed (inputs_of runs.now) first number cycle lane }
+    ensures { result ≡ is_viewed (inputs_of run.now.runs.now) first run.now.number cycle lane }
 {
-    if first + lane >= runs.count() {
+    if first + lane >= run.runs.count() {
         return false;
     }
-    let lasts = cycle <= runs.cycles(first + lane + 1);
-    both(first + lane + 1 != number, lasts)
+    let lasts = cycle <= run.runs.cycles(first + lane + 1);
+    both(first + lane + 1 != run.number, lasts)
 }
 
 /// A mask of one word, made bit by bit.
 #[tactic(auto, using(crate::proofs::MaskLemmas::mask_begin, crate::proofs::MaskLemmas::mask_put, crate::proofs::MaskLemmas::mask_made))]
-fn put_lanes(runs: &Runs, first: u32, number: u32, cycle: u32, words: &mut Vec<u64>)
+fn put_lanes(run: &Run<'_>, first: u32, cycle: u32, words: &mut Vec<u64>)
     requires first { first < 1024 }
     requires one { length words.old.items ≡ 1 }
     ensures one { length words.new.items ≡ 1 }
-    ensures mask { IsMask (inputs_of runs.now) first number cycle (slice_index_or words.new.items 0 0) }
+    ensures mask { IsMask (inputs_of run.now.runs.now) first run.now.number cycle (slice_index_or words.new.items 0 0) }
 {
     'lanes: for k in 0..64u32 {
-        let viewed = is_viewed(runs, first, number, cycle, k);
+        let viewed = is_viewed(run, first, cycle, k);
         put_bit(words.as_mut_slice(), 0, k as usize, viewed);
     }
 }
 
 /// The lanes that have a run that is not the one with a number, and lasts to a cycle.
-pub(crate) fn mask_of(
-    alloc: Global,
-    runs: &Runs,
-    first: u32,
-    number: u32,
-    cycle: u32,
-) -> Result<u64, NoMemory>
+pub(crate) fn mask_of(run: &Run<'_>, first: u32, cycle: u32) -> Result<u64, NoMemory>
     requires { first < 1024 }
-    ensures { IfOk result (λ mask. IsMask (inputs_of runs.now) first number cycle mask) }
+    ensures { IfOk result (λ mask. IsMask (inputs_of run.now.runs.now) first run.now.number cycle mask) }
 {
-    let mut words = zeros(alloc, 1)?;
-    put_lanes(runs, first, number, cycle, &mut words);
+    let mut words = zeros(run.alloc, 1)?;
+    put_lanes(run, first, cycle, &mut words);
     Ok(words[0])
 }
 

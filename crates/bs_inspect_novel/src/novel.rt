@@ -8,6 +8,7 @@ ghost use Rattle.bs_inspect_novel.specs.Novel.{TellsSignals, TellsNovel, TellsOf
 ghost use Rattle.bs_inspect_novelty.specs.Known.{all_places, AreOwn, AreWhole};
 
 use crate::own::own_states;
+use crate::run::Run;
 use crate::sets::sets_of;
 use crate::text::{alone_text, first_of, novelties_text};
 use bs_bits::{Bits, List, NoMemory};
@@ -21,24 +22,21 @@ use std::alloc::Global;
 /// The text by the states of the run.
 #[tactic(auto, using(crate::proofs::NovelLemmas::first_showable))]
 fn text_by_states(
-    alloc: Global,
-    net: &Netlist,
-    runs: &Runs,
-    number: u32,
+    run: &Run<'_>,
     most: u64,
     signals: &[Signal<'_>],
     sets: &[List<Bits>],
     own: &List<Bits>,
 ) -> Result<Vec<u8>, NoMemory>
-    requires own { AreOwn (circuit net.now) (inputs_of runs.now) number own.now }
+    requires own { AreOwn (circuit run.now.net.now) (inputs_of run.now.runs.now) run.now.number own.now }
     requires narrow { All (λ s. length s.places < 2 ^ 32) signals.now }
-    requires sets { AreWhole (circuit net.now) (inputs_of runs.now) number (all_places signals.now) sets.now }
-    ensures { IfOk result (λ text. TellsOf (circuit net.now) (inputs_of runs.now) number most (map signal_in signals.now) text.items) }
+    requires sets { AreWhole (circuit run.now.net.now) (inputs_of run.now.runs.now) run.now.number (all_places signals.now) sets.now }
+    ensures { IfOk result (λ text. TellsOf (circuit run.now.net.now) (inputs_of run.now.runs.now) run.now.number most (map signal_in signals.now) text.items) }
 {
-    let novelties = novelties_of(alloc, net, runs, number, own, signals, sets)?;
+    let novelties = novelties_of(run.alloc, run.net, run.runs, run.number, own, signals, sets)?;
     let ordered = ordered(novelties)?;
     let first = first_of(ordered.as_slice(), most);
-    let text = novelties_text(alloc, net, runs, number, own, signals, first)?;
+    let text = novelties_text(run, own, signals, first)?;
     drop(ordered);
     Ok(text)
 }
@@ -46,44 +44,34 @@ fn text_by_states(
 /// The text by the values that other runs have.
 #[tactic(auto, using(crate::proofs::NovelLemmas::run_there))]
 fn text_by_sets(
-    alloc: Global,
-    net: &Netlist,
-    runs: &Runs,
-    number: u32,
+    run: &Run<'_>,
     most: u64,
     signals: &[Signal<'_>],
     sets: &[List<Bits>],
 ) -> Result<Vec<u8>, NoMemory>
-    requires inputs { runs.now.width ≡ length (circuit net.now).inputs }
-    requires from_one { 1 ≤ number }
-    requires there { number ≤ length runs.now.runs }
+    requires inputs { run.now.runs.now.width ≡ length (circuit run.now.net.now).inputs }
+    requires from_one { 1 ≤ run.now.number }
+    requires there { run.now.number ≤ length run.now.runs.now.runs }
     requires narrow { All (λ s. length s.places < 2 ^ 32) signals.now }
-    requires sets { AreWhole (circuit net.now) (inputs_of runs.now) number (all_places signals.now) sets.now }
-    ensures { IfOk result (λ text. TellsOf (circuit net.now) (inputs_of runs.now) number most (map signal_in signals.now) text.items) }
+    requires sets { AreWhole (circuit run.now.net.now) (inputs_of run.now.runs.now) run.now.number (all_places signals.now) sets.now }
+    ensures { IfOk result (λ text. TellsOf (circuit run.now.net.now) (inputs_of run.now.runs.now) run.now.number most (map signal_in signals.now) text.items) }
 {
-    let own = own_states(alloc, net, runs, number)?;
-    let text = text_by_states(alloc, net, runs, number, most, signals, sets, &own);
+    let own = own_states(run)?;
+    let text = text_by_states(run, most, signals, sets, &own);
     drop(own);
     text
 }
 
 /// The text of these signals.
-fn text_of(
-    alloc: Global,
-    net: &Netlist,
-    runs: &Runs,
-    number: u32,
-    most: u64,
-    signals: &[Signal<'_>],
-) -> Result<Vec<u8>, NoMemory>
-    requires inputs { runs.now.width ≡ length (circuit net.now).inputs }
-    requires from_one { 1 ≤ number }
-    requires there { number ≤ length runs.now.runs }
+fn text_of(run: &Run<'_>, most: u64, signals: &[Signal<'_>]) -> Result<Vec<u8>, NoMemory>
+    requires inputs { run.now.runs.now.width ≡ length (circuit run.now.net.now).inputs }
+    requires from_one { 1 ≤ run.now.number }
+    requires there { run.now.number ≤ length run.now.runs.now.runs }
     requires narrow { All (λ s. length s.places < 2 ^ 32) signals.now }
-    ensures { IfOk result (λ text. TellsOf (circuit net.now) (inputs_of runs.now) number most (map signal_in signals.now) text.items) }
+    ensures { IfOk result (λ text. TellsOf (circuit run.now.net.now) (inputs_of run.now.runs.now) run.now.number most (map signal_in signals.now) text.items) }
 {
-    let sets = sets_of(alloc, net, runs, number, signals)?;
-    let text = text_by_sets(alloc, net, runs, number, most, signals, sets.as_slice());
+    let sets = sets_of(run, signals)?;
+    let text = text_by_sets(run, most, signals, sets.as_slice());
     drop(sets);
     text
 }
@@ -101,42 +89,29 @@ fn all_signals<'a>(alloc: Global, keys: &[&'a str]) -> Result<Vec<Signal<'a>>, N
 
 /// The text of the signals of keys.
 #[tactic(auto, using(crate::proofs::NovelLemmas::tells_signals))]
-fn text_of_keys(
-    alloc: Global,
-    net: &Netlist,
-    runs: &Runs,
-    number: u32,
-    most: u64,
-    keys: &[&str],
-) -> Result<Vec<u8>, NoMemory>
-    requires inputs { runs.now.width ≡ length (circuit net.now).inputs }
-    requires from_one { 1 ≤ number }
-    requires there { number ≤ length runs.now.runs }
+fn text_of_keys(run: &Run<'_>, most: u64, keys: &[&str]) -> Result<Vec<u8>, NoMemory>
+    requires inputs { run.now.runs.now.width ≡ length (circuit run.now.net.now).inputs }
+    requires from_one { 1 ≤ run.now.number }
+    requires there { run.now.number ≤ length run.now.runs.now.runs }
     requires few { length keys.now < 2 ^ 32 }
-    requires keys { map (λ s. s.now) keys.now ≡ flop_keys_of net.now.raw }
-    ensures { IfOk result (λ text. TellsSignals net.now.raw (inputs_of runs.now) number most text.items) }
+    requires keys { map (λ s. s.now) keys.now ≡ flop_keys_of run.now.net.now.raw }
+    ensures { IfOk result (λ text. TellsSignals run.now.net.now.raw (inputs_of run.now.runs.now) run.now.number most text.items) }
 {
-    let signals = all_signals(alloc, keys)?;
-    let text = text_of(alloc, net, runs, number, most, signals.as_slice())?;
+    let signals = all_signals(run.alloc, keys)?;
+    let text = text_of(run, most, signals.as_slice())?;
     drop(signals);
     Ok(text)
 }
 
 /// The text of the signals of a netlist's flip-flops.
-fn text_of_flops(
-    alloc: Global,
-    net: &Netlist,
-    runs: &Runs,
-    number: u32,
-    most: u64,
-) -> Result<Vec<u8>, NoMemory>
-    requires inputs { runs.now.width ≡ length (circuit net.now).inputs }
-    requires from_one { 1 ≤ number }
-    requires there { number ≤ length runs.now.runs }
-    ensures { IfOk result (λ text. TellsSignals net.now.raw (inputs_of runs.now) number most text.items) }
+fn text_of_flops(run: &Run<'_>, most: u64) -> Result<Vec<u8>, NoMemory>
+    requires inputs { run.now.runs.now.width ≡ length (circuit run.now.net.now).inputs }
+    requires from_one { 1 ≤ run.now.number }
+    requires there { run.now.number ≤ length run.now.runs.now.runs }
+    ensures { IfOk result (λ text. TellsSignals run.now.net.now.raw (inputs_of run.now.runs.now) run.now.number most text.items) }
 {
-    let keys = flop_keys(alloc, net)?;
-    let text = text_of_keys(alloc, net, runs, number, most, keys.as_slice());
+    let keys = flop_keys(run.alloc, run.net)?;
+    let text = text_of_keys(run, most, keys.as_slice());
     drop(keys);
     text
 }
@@ -161,6 +136,12 @@ pub fn novel_text(
         let text = alone_text(alloc)?;
         return Ok(text);
     }
-    let text = text_of_flops(alloc, net, runs, number, most)?;
+    let run = Run {
+        alloc,
+        net,
+        runs,
+        number,
+    };
+    let text = text_of_flops(&run, most)?;
     Ok(text)
 }

@@ -6,11 +6,10 @@ ghost use Rattle.bs_scan.specs.Moments.{run_of, state_at};
 ghost use Rattle.bs_stim.specs.Runs.{inputs_of};
 ghost use Rattle.bs_inspect_novelty.specs.Known.{AreOwn};
 
+use crate::run::Run;
 use bs_bits::{Bits, List, NoMemory};
 use bs_chip::{Pass, step_to};
 use bs_lanes_planes::lane_bit;
-use bs_net::Netlist;
-use bs_stim::Runs;
 use std::alloc::Global;
 
 /// The bits of a lane.
@@ -35,71 +34,57 @@ fn lane_state(
 
 /// The state of the run with a number, where all runs stand.
 #[tactic(auto, using(crate::proofs::OwnLemmas::state_is, crate::proofs::OwnLemmas::state_room, crate::proofs::OwnLemmas::state_lane))]
-fn state_of(
-    alloc: Global,
-    net: &Netlist,
-    runs: &Runs,
-    pass: &Pass<'_>,
-    number: u32,
-) -> Result<Bits, NoMemory>
-    requires circuit { pass.now.circuit ≡ circuit net.now }
-    requires runs { pass.now.runs ≡ inputs_of runs.now }
-    requires from_one { 1 ≤ number }
-    requires there { number ≤ length (inputs_of runs.now) }
-    requires lasts { pass.now.cycle ≤ length (run_of (inputs_of runs.now) number) }
-    ensures { IfOk result (λ state. state ≡ state_at (circuit net.now) (run_of (inputs_of runs.now) number) pass.now.cycle) }
+fn state_of(run: &Run<'_>, pass: &Pass<'_>) -> Result<Bits, NoMemory>
+    requires circuit { pass.now.circuit ≡ circuit run.now.net.now }
+    requires runs { pass.now.runs ≡ inputs_of run.now.runs.now }
+    requires from_one { 1 ≤ run.now.number }
+    requires there { run.now.number ≤ length (inputs_of run.now.runs.now) }
+    requires lasts { pass.now.cycle ≤ length (run_of (inputs_of run.now.runs.now) run.now.number) }
+    ensures { IfOk result (λ state. state ≡ state_at (circuit run.now.net.now) (run_of (inputs_of run.now.runs.now) run.now.number) pass.now.cycle) }
 {
-    let _runs = runs;
     let _count = pass.count();
     let wide = pass.wide();
-    let state = lane_state(alloc, pass.planes(), wide, net.width(), number as usize - 1)?;
+    let state = lane_state(
+        run.alloc,
+        pass.planes(),
+        wide,
+        run.net.width(),
+        run.number as usize - 1,
+    )?;
     Ok(state)
 }
 
 /// Puts the states of the run with a number to none, by a pass that stands at reset.
 #[tactic(auto, using(crate::proofs::OwnLemmas::own_begin, crate::proofs::OwnLemmas::own_more, crate::proofs::OwnLemmas::own_all, crate::proofs::OwnLemmas::own_run))]
-fn push_states(
-    alloc: Global,
-    net: &Netlist,
-    runs: &Runs,
-    pass: &mut Pass<'_>,
-    number: u32,
-    own: &mut List<Bits>,
-) -> Result<(), NoMemory>
-    requires circuit { pass.old.circuit ≡ circuit net.now }
-    requires runs { pass.old.runs ≡ inputs_of runs.now }
+fn push_states(run: &Run<'_>, pass: &mut Pass<'_>, own: &mut List<Bits>) -> Result<(), NoMemory>
+    requires circuit { pass.old.circuit ≡ circuit run.now.net.now }
+    requires runs { pass.old.runs ≡ inputs_of run.now.runs.now }
     requires reset { pass.old.cycle ≡ 0 }
-    requires from_one { 1 ≤ number }
-    requires there { number ≤ length (inputs_of runs.now) }
+    requires from_one { 1 ≤ run.now.number }
+    requires there { run.now.number ≤ length (inputs_of run.now.runs.now) }
     requires none { own.old ≡ [] }
-    ensures { OnOk result (AreOwn (circuit net.now) (inputs_of runs.now) number own.new) }
+    ensures { OnOk result (AreOwn (circuit run.now.net.now) (inputs_of run.now.runs.now) run.now.number own.new) }
 {
-    let cycles = pass.cycles(number);
+    let cycles = pass.cycles(run.number);
     'cycles: for cycle in 0..cycles + 1 {
         step_to(pass, cycle as usize);
-        let state = state_of(alloc, net, runs, pass, number)?;
+        let state = state_of(run, pass)?;
         own.push(state)?;
     }
     Ok(())
 }
 
 /// The states of the run with a number, by a pass that stands at reset.
-fn own_by(
-    alloc: Global,
-    net: &Netlist,
-    runs: &Runs,
-    pass: &mut Pass<'_>,
-    number: u32,
-) -> Result<List<Bits>, NoMemory>
-    requires circuit { pass.old.circuit ≡ circuit net.now }
-    requires runs { pass.old.runs ≡ inputs_of runs.now }
+fn own_by(run: &Run<'_>, pass: &mut Pass<'_>) -> Result<List<Bits>, NoMemory>
+    requires circuit { pass.old.circuit ≡ circuit run.now.net.now }
+    requires runs { pass.old.runs ≡ inputs_of run.now.runs.now }
     requires reset { pass.old.cycle ≡ 0 }
-    requires from_one { 1 ≤ number }
-    requires there { number ≤ length (inputs_of runs.now) }
-    ensures { IfOk result (λ own. AreOwn (circuit net.now) (inputs_of runs.now) number own) }
+    requires from_one { 1 ≤ run.now.number }
+    requires there { run.now.number ≤ length (inputs_of run.now.runs.now) }
+    ensures { IfOk result (λ own. AreOwn (circuit run.now.net.now) (inputs_of run.now.runs.now) run.now.number own) }
 {
-    let mut own = List::new(alloc);
-    match push_states(alloc, net, runs, pass, number, &mut own) {
+    let mut own = List::new(run.alloc);
+    match push_states(run, pass, &mut own) {
         Ok(()) => Ok(own),
         Err(refused) => {
             drop(own);
@@ -109,19 +94,14 @@ fn own_by(
 }
 
 /// The states of the run with a number.
-pub(crate) fn own_states(
-    alloc: Global,
-    net: &Netlist,
-    runs: &Runs,
-    number: u32,
-) -> Result<List<Bits>, NoMemory>
-    requires inputs { runs.now.width ≡ length (circuit net.now).inputs }
-    requires from_one { 1 ≤ number }
-    requires there { number ≤ length (inputs_of runs.now) }
-    ensures { IfOk result (λ own. AreOwn (circuit net.now) (inputs_of runs.now) number own) }
+pub(crate) fn own_states(run: &Run<'_>) -> Result<List<Bits>, NoMemory>
+    requires inputs { run.now.runs.now.width ≡ length (circuit run.now.net.now).inputs }
+    requires from_one { 1 ≤ run.now.number }
+    requires there { run.now.number ≤ length (inputs_of run.now.runs.now) }
+    ensures { IfOk result (λ own. AreOwn (circuit run.now.net.now) (inputs_of run.now.runs.now) run.now.number own) }
 {
-    let mut pass = Pass::new(alloc, net, runs)?;
-    let own = own_by(alloc, net, runs, &mut pass, number);
+    let mut pass = Pass::new(run.alloc, run.net, run.runs)?;
+    let own = own_by(run, &mut pass);
     drop(pass);
     own
 }

@@ -7,76 +7,50 @@ ghost use Rattle.bs_inspect_novelty.specs.Known.{all_places, AreWhole};
 ghost use Rattle.bs_inspect_novel.specs.Shown.{AreEmpty, AreSets, IsMask, IsSet, ShowsWords};
 
 use crate::masks::{mask_of, put_column, zeros};
+use crate::run::{Column, Run};
 use crate::values::add_values;
 use bs_bits::{Bits, List, NoMemory};
 use bs_chip::{Pass, step_to};
 use bs_inspect_novelty::MAX_VALUES;
-use bs_net::Netlist;
 use bs_net_names::Signal;
-use bs_stim::Runs;
 use std::alloc::Global;
 
 /// Puts the values that 64 lanes show of a signal to a set.
 #[tactic(auto, using(crate::proofs::SetLemmas::set_done, crate::proofs::SetLemmas::set_passed, crate::proofs::SetLemmas::set_parts))]
 fn extend(
-    alloc: Global,
-    net: &Netlist,
-    runs: &Runs,
-    first: u32,
-    number: u32,
-    cycle: u32,
-    words: &[u64],
-    mask: u64,
+    run: &Run<'_>,
+    column: &Column<'_>,
     places: &[u32],
     values: &mut List<Bits>,
 ) -> Result<(), NoMemory>
-    requires shows { ShowsWords (circuit net.now) (inputs_of runs.now) first words.now cycle }
-    requires mask { IsMask (inputs_of runs.now) first number cycle mask }
-    requires set { IsSet (circuit net.now) (inputs_of runs.now) number places.now cycle first values.old }
-    ensures { OnOk result (IsSet (circuit net.now) (inputs_of runs.now) number places.now cycle (first + 64) values.new) }
+    requires shows { ShowsWords (circuit run.now.net.now) (inputs_of run.now.runs.now) column.now.first column.now.words.now column.now.cycle }
+    requires mask { IsMask (inputs_of run.now.runs.now) column.now.first run.now.number column.now.cycle column.now.mask }
+    requires set { IsSet (circuit run.now.net.now) (inputs_of run.now.runs.now) run.now.number places.now column.now.cycle column.now.first values.old }
+    ensures { OnOk result (IsSet (circuit run.now.net.now) (inputs_of run.now.runs.now) run.now.number places.now column.now.cycle (column.now.first + 64) values.new) }
 {
     if values.len() > MAX_VALUES {
         return Ok(());
     }
-    add_values(
-        alloc, net, runs, first, number, cycle, words, mask, places, values,
-    )?;
+    add_values(run, column, places, values)?;
     Ok(())
 }
 
 /// Puts the values that 64 lanes show to the sets of all signals.
 #[tactic(auto, using(crate::proofs::SetLemmas::sets_begin, crate::proofs::SetLemmas::sets_done, crate::proofs::SetLemmas::signal_there))]
 fn extend_all(
-    alloc: Global,
-    net: &Netlist,
-    runs: &Runs,
-    first: u32,
-    number: u32,
-    cycle: u32,
-    words: &[u64],
-    mask: u64,
+    run: &Run<'_>,
+    column: &Column<'_>,
     signals: &[Signal<'_>],
     sets: &mut Vec<List<Bits>>,
 ) -> Result<(), NoMemory>
-    requires shows { ShowsWords (circuit net.now) (inputs_of runs.now) first words.now cycle }
-    requires mask { IsMask (inputs_of runs.now) first number cycle mask }
-    requires sets { AreSets (circuit net.now) (inputs_of runs.now) number (all_places signals.now) cycle 0 first 0 sets.old.items }
-    ensures { OnOk result (AreSets (circuit net.now) (inputs_of runs.now) number (all_places signals.now) cycle 0 (first + 64) 0 sets.new.items) }
+    requires shows { ShowsWords (circuit run.now.net.now) (inputs_of run.now.runs.now) column.now.first column.now.words.now column.now.cycle }
+    requires mask { IsMask (inputs_of run.now.runs.now) column.now.first run.now.number column.now.cycle column.now.mask }
+    requires sets { AreSets (circuit run.now.net.now) (inputs_of run.now.runs.now) run.now.number (all_places signals.now) column.now.cycle 0 column.now.first 0 sets.old.items }
+    ensures { OnOk result (AreSets (circuit run.now.net.now) (inputs_of run.now.runs.now) run.now.number (all_places signals.now) column.now.cycle 0 (column.now.first + 64) 0 sets.new.items) }
 {
     'signals: for i in 0..sets.len() {
         let places = signals[i].places.slice();
-        extend(
-            alloc,
-            net,
-            runs,
-            first,
-            number,
-            cycle,
-            words,
-            mask,
-            places,
-            &mut sets[i],
-        )?;
+        extend(run, column, places, &mut sets[i])?;
     }
     Ok(())
 }
@@ -84,10 +58,7 @@ fn extend_all(
 /// Puts the values that one word of the planes shows to the sets.
 #[tactic(auto, using(crate::proofs::SetLemmas::column_shows, crate::proofs::SetLemmas::planes_room, crate::proofs::SetLemmas::sets_first, crate::proofs::SetLemmas::sets_next))]
 fn extend_word(
-    alloc: Global,
-    net: &Netlist,
-    runs: &Runs,
-    number: u32,
+    run: &Run<'_>,
     cycle: u32,
     planes: &[u64],
     wide: usize,
@@ -96,40 +67,32 @@ fn extend_word(
     signals: &[Signal<'_>],
     sets: &mut Vec<List<Bits>>,
 ) -> Result<(), NoMemory>
-    requires shows { ShowsCycle (circuit net.now) (inputs_of runs.now) planes.now cycle }
-    requires wide { wide ≡ wide_of (length (inputs_of runs.now)) }
+    requires shows { ShowsCycle (circuit run.now.net.now) (inputs_of run.now.runs.now) planes.now cycle }
+    requires wide { wide ≡ wide_of (length (inputs_of run.now.runs.now)) }
     requires few { wide ≤ 4 }
     requires word { word < wide }
-    requires size { length words.old.items ≡ length (circuit net.now).flops }
-    requires sets { AreSets (circuit net.now) (inputs_of runs.now) number (all_places signals.now) cycle 0 (word * 64) 0 sets.old.items }
-    ensures size { length words.new.items ≡ length (circuit net.now).flops }
-    ensures sets { OnOk result (AreSets (circuit net.now) (inputs_of runs.now) number (all_places signals.now) cycle 0 ((word + 1) * 64) 0 sets.new.items) }
+    requires size { length words.old.items ≡ length (circuit run.now.net.now).flops }
+    requires sets { AreSets (circuit run.now.net.now) (inputs_of run.now.runs.now) run.now.number (all_places signals.now) cycle 0 (word * 64) 0 sets.old.items }
+    ensures size { length words.new.items ≡ length (circuit run.now.net.now).flops }
+    ensures sets { OnOk result (AreSets (circuit run.now.net.now) (inputs_of run.now.runs.now) run.now.number (all_places signals.now) cycle 0 ((word + 1) * 64) 0 sets.new.items) }
 {
     put_column(planes, wide, word, words);
     let first = word as u32 * 64;
-    let mask = mask_of(alloc, runs, first, number, cycle)?;
-    extend_all(
-        alloc,
-        net,
-        runs,
-        first,
-        number,
-        cycle,
-        words.as_slice(),
+    let mask = mask_of(run, first, cycle)?;
+    let column = Column {
+        words: words.as_slice(),
         mask,
-        signals,
-        sets,
-    )?;
+        first,
+        cycle,
+    };
+    extend_all(run, &column, signals, sets)?;
     Ok(())
 }
 
 /// Puts the values of a cycle to the sets.
 #[tactic(auto, using(crate::proofs::SetLemmas::sets_zero, crate::proofs::SetLemmas::cycle_done))]
 fn extend_cycle(
-    alloc: Global,
-    net: &Netlist,
-    runs: &Runs,
-    number: u32,
+    run: &Run<'_>,
     cycle: u32,
     planes: &[u64],
     wide: usize,
@@ -137,19 +100,17 @@ fn extend_cycle(
     signals: &[Signal<'_>],
     sets: &mut Vec<List<Bits>>,
 ) -> Result<(), NoMemory>
-    requires shows { ShowsCycle (circuit net.now) (inputs_of runs.now) planes.now cycle }
-    requires wide { wide ≡ wide_of (length (inputs_of runs.now)) }
+    requires shows { ShowsCycle (circuit run.now.net.now) (inputs_of run.now.runs.now) planes.now cycle }
+    requires wide { wide ≡ wide_of (length (inputs_of run.now.runs.now)) }
     requires few { wide ≤ 4 }
-    requires room { length (inputs_of runs.now) ≤ 64 * wide }
-    requires size { length words.old.items ≡ length (circuit net.now).flops }
-    requires sets { AreSets (circuit net.now) (inputs_of runs.now) number (all_places signals.now) cycle 0 0 0 sets.old.items }
-    ensures size { length words.new.items ≡ length (circuit net.now).flops }
-    ensures sets { OnOk result (AreSets (circuit net.now) (inputs_of runs.now) number (all_places signals.now) (cycle + 1) 0 0 0 sets.new.items) }
+    requires room { length (inputs_of run.now.runs.now) ≤ 64 * wide }
+    requires size { length words.old.items ≡ length (circuit run.now.net.now).flops }
+    requires sets { AreSets (circuit run.now.net.now) (inputs_of run.now.runs.now) run.now.number (all_places signals.now) cycle 0 0 0 sets.old.items }
+    ensures size { length words.new.items ≡ length (circuit run.now.net.now).flops }
+    ensures sets { OnOk result (AreSets (circuit run.now.net.now) (inputs_of run.now.runs.now) run.now.number (all_places signals.now) (cycle + 1) 0 0 0 sets.new.items) }
 {
     'words: for word in 0..wide {
-        extend_word(
-            alloc, net, runs, number, cycle, planes, wide, word, words, signals, sets,
-        )?;
+        extend_word(run, cycle, planes, wide, word, words, signals, sets)?;
     }
     Ok(())
 }
@@ -157,39 +118,25 @@ fn extend_cycle(
 /// Puts the values of all cycles to the sets, from reset on.
 #[tactic(auto, using(crate::proofs::SetLemmas::sets_whole, crate::proofs::SetLemmas::pass_shows, crate::proofs::SetLemmas::pass_room, crate::proofs::SetLemmas::pass_wide))]
 fn extend_cycles(
-    alloc: Global,
-    net: &Netlist,
-    runs: &Runs,
-    number: u32,
+    run: &Run<'_>,
     pass: &mut Pass<'_>,
     words: &mut Vec<u64>,
     signals: &[Signal<'_>],
     sets: &mut Vec<List<Bits>>,
 ) -> Result<(), NoMemory>
-    requires circuit { pass.old.circuit ≡ circuit net.now }
-    requires runs { pass.old.runs ≡ inputs_of runs.now }
+    requires circuit { pass.old.circuit ≡ circuit run.now.net.now }
+    requires runs { pass.old.runs ≡ inputs_of run.now.runs.now }
     requires reset { pass.old.cycle ≡ 0 }
-    requires size { length words.old.items ≡ length (circuit net.now).flops }
-    requires sets { AreSets (circuit net.now) (inputs_of runs.now) number (all_places signals.now) 0 0 0 0 sets.old.items }
-    ensures { OnOk result (AreWhole (circuit net.now) (inputs_of runs.now) number (all_places signals.now) sets.new.items) }
+    requires size { length words.old.items ≡ length (circuit run.now.net.now).flops }
+    requires sets { AreSets (circuit run.now.net.now) (inputs_of run.now.runs.now) run.now.number (all_places signals.now) 0 0 0 0 sets.old.items }
+    ensures { OnOk result (AreWhole (circuit run.now.net.now) (inputs_of run.now.runs.now) run.now.number (all_places signals.now) sets.new.items) }
 {
     let most = pass.longest();
     let wide = pass.wide();
     let _count = pass.count();
     'cycles: for cycle in 0..most + 1 {
         step_to(pass, cycle as usize);
-        extend_cycle(
-            alloc,
-            net,
-            runs,
-            number,
-            cycle,
-            pass.planes(),
-            wide,
-            words,
-            signals,
-            sets,
-        )?;
+        extend_cycle(run, cycle, pass.planes(), wide, words, signals, sets)?;
     }
     Ok(())
 }
@@ -208,42 +155,27 @@ fn push_empty(alloc: Global, count: usize, sets: &mut Vec<List<Bits>>) -> Result
 }
 
 /// Makes the sets, where there is none, and fills them by a pass over all runs.
-fn fill(
-    alloc: Global,
-    net: &Netlist,
-    runs: &Runs,
-    number: u32,
-    signals: &[Signal<'_>],
-    sets: &mut Vec<List<Bits>>,
-) -> Result<(), NoMemory>
-    requires inputs { runs.now.width ≡ length (circuit net.now).inputs }
+fn fill(run: &Run<'_>, signals: &[Signal<'_>], sets: &mut Vec<List<Bits>>) -> Result<(), NoMemory>
+    requires inputs { run.now.runs.now.width ≡ length (circuit run.now.net.now).inputs }
     requires none { sets.old.items ≡ [] }
-    ensures { OnOk result (AreWhole (circuit net.now) (inputs_of runs.now) number (all_places signals.now) sets.new.items) }
+    ensures { OnOk result (AreWhole (circuit run.now.net.now) (inputs_of run.now.runs.now) run.now.number (all_places signals.now) sets.new.items) }
 {
-    push_empty(alloc, signals.len(), sets)?;
-    let mut words = zeros(alloc, net.width())?;
-    let mut pass = Pass::new(alloc, net, runs)?;
-    let done = extend_cycles(
-        alloc, net, runs, number, &mut pass, &mut words, signals, sets,
-    );
+    push_empty(run.alloc, signals.len(), sets)?;
+    let mut words = zeros(run.alloc, run.net.width())?;
+    let mut pass = Pass::new(run.alloc, run.net, run.runs)?;
+    let done = extend_cycles(run, &mut pass, &mut words, signals, sets);
     drop(pass);
     drop(words);
     done
 }
 
 /// For each signal the values that other runs have, each once, or more than `MAX_VALUES` of them.
-pub(crate) fn sets_of(
-    alloc: Global,
-    net: &Netlist,
-    runs: &Runs,
-    number: u32,
-    signals: &[Signal<'_>],
-) -> Result<Vec<List<Bits>>, NoMemory>
-    requires inputs { runs.now.width ≡ length (circuit net.now).inputs }
-    ensures { IfOk result (λ sets. AreWhole (circuit net.now) (inputs_of runs.now) number (all_places signals.now) sets.items) }
+pub(crate) fn sets_of(run: &Run<'_>, signals: &[Signal<'_>]) -> Result<Vec<List<Bits>>, NoMemory>
+    requires inputs { run.now.runs.now.width ≡ length (circuit run.now.net.now).inputs }
+    ensures { IfOk result (λ sets. AreWhole (circuit run.now.net.now) (inputs_of run.now.runs.now) run.now.number (all_places signals.now) sets.items) }
 {
-    let mut sets = Vec::new(alloc);
-    match fill(alloc, net, runs, number, signals, &mut sets) {
+    let mut sets = Vec::new(run.alloc);
+    match fill(run, signals, &mut sets) {
         Ok(()) => Ok(sets),
         Err(refused) => {
             drop(sets);

@@ -8,12 +8,11 @@ ghost use Rattle.bs_inspect_novel.specs.Novel.{alone_text, novelty_line, novelti
 ghost use Rattle.bs_inspect_novelty.specs.Known.{AreOwn};
 ghost use Rattle.bs_inspect_novel.specs.Shown.{IsShowable, state_line};
 
+use crate::run::Run;
 use bs_bits::{Bits, List, NoMemory, end_line, push_line, push_number, push_piece};
 use bs_inspect_novelty::Novelty;
 use bs_inspect_report::push_signal_value;
-use bs_net::Netlist;
 use bs_net_names::{Signal, push_rtl_name};
-use bs_stim::Runs;
 use std::alloc::Global;
 
 /// Appends a line: a cycle, a signal with its value in a state, and a number of values.
@@ -41,21 +40,17 @@ fn push_state(
 #[tactic(auto, using(crate::proofs::TextLemmas::line_is, crate::proofs::TextLemmas::cycle_there))]
 fn push_novelty(
     text: &mut Vec<u8>,
-    net: &Netlist,
-    runs: &Runs,
-    number: u32,
+    run: &Run<'_>,
     own: &List<Bits>,
     signals: &[Signal<'_>],
     novelty: &Novelty,
 ) -> Result<(), NoMemory>
-    requires own { AreOwn (circuit net.now) (inputs_of runs.now) number own.now }
+    requires own { AreOwn (circuit run.now.net.now) (inputs_of run.now.runs.now) run.now.number own.now }
     requires few { All (λ s. length s.places < 2 ^ 32) signals.now }
-    requires showable { IsShowable (inputs_of runs.now) number (length signals.now) novelty.now }
-    ensures { OnOk result (text.new.items ≡ text.old.items ++ novelty_line (circuit net.now) (inputs_of runs.now) number (map signal_in signals.now) novelty.now) }
+    requires showable { IsShowable (inputs_of run.now.runs.now) run.now.number (length signals.now) novelty.now }
+    ensures { OnOk result (text.new.items ≡ text.old.items ++ novelty_line (circuit run.now.net.now) (inputs_of run.now.runs.now) run.now.number (map signal_in signals.now) novelty.now) }
 {
-    let _net = net;
-    let _runs = runs;
-    let _number = number;
+    let _run = run;
     let signal = &signals[novelty.place];
     push_state(
         text,
@@ -70,20 +65,18 @@ fn push_novelty(
 /// Appends the lines of what is found.
 fn push_novelties(
     text: &mut Vec<u8>,
-    net: &Netlist,
-    runs: &Runs,
-    number: u32,
+    run: &Run<'_>,
     own: &List<Bits>,
     signals: &[Signal<'_>],
     novelties: &[Novelty],
 ) -> Result<(), NoMemory>
-    requires own { AreOwn (circuit net.now) (inputs_of runs.now) number own.now }
+    requires own { AreOwn (circuit run.now.net.now) (inputs_of run.now.runs.now) run.now.number own.now }
     requires few { All (λ s. length s.places < 2 ^ 32) signals.now }
-    requires showable { All (λ f. IsShowable (inputs_of runs.now) number (length signals.now) f) novelties.now }
-    ensures { OnOk result (text.new.items ≡ text.old.items ++ flat_map (novelty_line (circuit net.now) (inputs_of runs.now) number (map signal_in signals.now)) novelties.now) }
+    requires showable { All (λ f. IsShowable (inputs_of run.now.runs.now) run.now.number (length signals.now) f) novelties.now }
+    ensures { OnOk result (text.new.items ≡ text.old.items ++ flat_map (novelty_line (circuit run.now.net.now) (inputs_of run.now.runs.now) run.now.number (map signal_in signals.now)) novelties.now) }
 {
     'novelties: for novelty in novelties {
-        push_novelty(text, net, runs, number, own, signals, novelty)?;
+        push_novelty(text, run, own, signals, novelty)?;
     }
     Ok(())
 }
@@ -103,25 +96,22 @@ pub(crate) fn first_of(novelties: &[Novelty], most: u64) -> &[Novelty]
 /// The text of what is found: a line each, or that there is nothing.
 #[tactic(auto, using(crate::proofs::TextLemmas::text_none, crate::proofs::TextLemmas::text_some))]
 pub(crate) fn novelties_text(
-    alloc: Global,
-    net: &Netlist,
-    runs: &Runs,
-    number: u32,
+    run: &Run<'_>,
     own: &List<Bits>,
     signals: &[Signal<'_>],
     novelties: &[Novelty],
 ) -> Result<Vec<u8>, NoMemory>
-    requires own { AreOwn (circuit net.now) (inputs_of runs.now) number own.now }
+    requires own { AreOwn (circuit run.now.net.now) (inputs_of run.now.runs.now) run.now.number own.now }
     requires few { All (λ s. length s.places < 2 ^ 32) signals.now }
-    requires showable { All (λ f. IsShowable (inputs_of runs.now) number (length signals.now) f) novelties.now }
-    ensures { IfOk result (λ text. text.items ≡ novelties_text (circuit net.now) (inputs_of runs.now) number (map signal_in signals.now) novelties.now) }
+    requires showable { All (λ f. IsShowable (inputs_of run.now.runs.now) run.now.number (length signals.now) f) novelties.now }
+    ensures { IfOk result (λ text. text.items ≡ novelties_text (circuit run.now.net.now) (inputs_of run.now.runs.now) run.now.number (map signal_in signals.now) novelties.now) }
 {
-    let mut text = Vec::new(alloc);
+    let mut text = Vec::new(run.alloc);
     if novelties.is_empty() {
         push_line(&mut text, b"nothing new")?;
         return Ok(text);
     }
-    push_novelties(&mut text, net, runs, number, own, signals, novelties)?;
+    push_novelties(&mut text, run, own, signals, novelties)?;
     Ok(text)
 }
 

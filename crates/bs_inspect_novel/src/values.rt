@@ -8,11 +8,10 @@ ghost use Rattle.bs_inspect_novelty.specs.Values.{AreElsewhere, state_bit};
 ghost use Rattle.bs_inspect_novel.specs.Shown.{Grows, IsFull, IsMask, ShowsWords, words_value};
 
 use crate::look::misses;
+use crate::run::{Column, Run};
 use bs_bits::{Bits, List, NoMemory};
 use bs_inspect_novelty::MAX_VALUES;
 use bs_lanes_planes::lane_bit;
-use bs_net::Netlist;
-use bs_stim::Runs;
 use std::alloc::Global;
 
 /// The bit of a lane at a place, and 0 past the end.
@@ -69,34 +68,25 @@ fn add_value(
 /// Puts the values at the end that lanes show and that are not there, until there are more than `MAX_VALUES`.
 #[tactic(auto, using(crate::proofs::ValueLemmas::set_begin, crate::proofs::ValueLemmas::set_more, crate::proofs::ValueLemmas::set_full, crate::proofs::ValueLemmas::set_many, crate::proofs::ValueLemmas::set_wide, crate::proofs::ValueLemmas::set_elsewhere, crate::proofs::ValueLemmas::set_grows))]
 pub(crate) fn add_values(
-    alloc: Global,
-    net: &Netlist,
-    runs: &Runs,
-    first: u32,
-    number: u32,
-    cycle: u32,
-    words: &[u64],
-    mask: u64,
+    run: &Run<'_>,
+    column: &Column<'_>,
     places: &[u32],
     values: &mut List<Bits>,
 ) -> Result<(), NoMemory>
-    requires shows { ShowsWords (circuit net.now) (inputs_of runs.now) first words.now cycle }
-    requires mask { IsMask (inputs_of runs.now) first number cycle mask }
-    requires elsewhere { AreElsewhere (circuit net.now) (inputs_of runs.now) number places.now values.old }
-    ensures elsewhere { OnOk result (AreElsewhere (circuit net.now) (inputs_of runs.now) number places.now values.new) }
+    requires shows { ShowsWords (circuit run.now.net.now) (inputs_of run.now.runs.now) column.now.first column.now.words.now column.now.cycle }
+    requires mask { IsMask (inputs_of run.now.runs.now) column.now.first run.now.number column.now.cycle column.now.mask }
+    requires elsewhere { AreElsewhere (circuit run.now.net.now) (inputs_of run.now.runs.now) run.now.number places.now values.old }
+    ensures elsewhere { OnOk result (AreElsewhere (circuit run.now.net.now) (inputs_of run.now.runs.now) run.now.number places.now values.new) }
     ensures grows { OnOk result (Grows values.old values.new) }
-    ensures full { OnOk result (IsFull words.now places.now mask values.new) }
+    ensures full { OnOk result (IsFull column.now.words.now places.now column.now.mask values.new) }
 {
-    let _net = net;
-    let _runs = runs;
-    let _lanes = (first, number, cycle);
     'values: for _ in 0..MAX_VALUES + 1 {
-        let left = misses(words, places, values, mask);
+        let left = misses(column.words, places, values, column.mask);
         if left == 0 {
             return Ok(());
         }
         let lane = lowest(left);
-        add_value(alloc, words, places, values, lane)?;
+        add_value(run.alloc, column.words, places, values, lane)?;
     }
     Ok(())
 }

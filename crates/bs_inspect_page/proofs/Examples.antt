@@ -29,6 +29,7 @@ two_cycles =
       stop = stops.Reset;
       states = (false ∷ []) ∷ (true ∷ []) ∷ (true ∷ []) ∷ [];
       inputs = (true ∷ []) ∷ (false ∷ []) ∷ [];
+      free = [];
       log = [];
     }
 
@@ -48,7 +49,7 @@ abbrev cand : List Bool → Cand
 cand state = record { state = state; input = []; before = None }
 
 abbrev step_with : List Cand → ListEnd → Option HitLine → Step
-step_with cands end hit = record { present = true ∷ true ∷ []; stored = []; older = None; cands = cands; end = end; hit = hit }
+step_with cands end hit = record { present = record { bits = true ∷ true ∷ []; free = [] }; stored = []; older = None; cands = cands; end = end; hit = hit }
 
 abbrev stopped : StopCause → Step → Report
 stopped cause step =
@@ -59,6 +60,7 @@ stopped cause step =
       stop = cause;
       states = (true ∷ true ∷ []) ∷ [];
       inputs = [];
+      free = [];
       log = [];
     }
 

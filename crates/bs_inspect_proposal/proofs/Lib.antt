@@ -1,12 +1,5 @@
-pub mod TallyLemmas
-pub mod ApartLemmas
-pub mod ClassLemmas
-pub mod PlaceLemmas
-pub mod SplitLemmas
-pub mod GreedyLemmas
-pub mod ComparedLemmas
-pub mod ItemLemmas
+pub mod DeckLemmas
+pub mod MixedLemmas
 pub mod KeyLemmas
 pub mod LineLemmas
-pub mod OrderLemmas
-pub mod ProposalLemmas
+pub mod Examples

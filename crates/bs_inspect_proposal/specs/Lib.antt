@@ -1,11 +1,7 @@
 -- what public contracts rest on
-pub mod Sharing
-pub mod Apart
-pub mod Items
-pub mod Greedy
+pub mod Deck
+pub mod Mixed
 pub mod Proposal
+pub use Rattle.bs_draws.specs.Draws
 -- what inner functions promise each other
-pub mod Keys
-pub mod Places
-pub mod Classes
-pub mod PartialChoice
+pub mod Items

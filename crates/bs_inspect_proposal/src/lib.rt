@@ -1,21 +1,15 @@
-//! How well a signature tells the states of recorded runs apart, and the proposal of one.
+//! The proposal of a signature, in which flip-flops are mixed.
 //!
-//! Modules: `sharing` (how many share a signature), `classes`, `best` and `greedy` (flip-flops chosen
-//! one after another), `items`, `keys`, `lines` (`bit_lines`: items as lines of a file), `proposal`
-//! (`propose`). Used above: `Proposes` (`specs/Proposal`), over `specs/SimulatedStates` of bs_inspect_film,
-//! `specs/Apart` and `specs/Greedy`. To compare more states raise `MAX_COMPARED`.
+//! Modules: `deck` (a deck of items, from which a flip-flop draws), `mixed` (the items), `keys`, `lines`
+//! (`mixed_lines`: the items as lines of a file). Used above: `mixed_lines` (`specs/Proposal`), over
+//! `specs/Mixed` and `specs/Deck`: which items a flip-flop stands in follows from its number and from how
+//! many items there are. Items for each flip-flop: `WEIGHT`.
 #![tactic(auto)]
 
-mod best;
-mod classes;
-mod greedy;
-mod items;
+mod deck;
 mod keys;
 mod lines;
-mod proposal;
-mod sharing;
+mod mixed;
 
-pub use greedy::MAX_COMPARED;
-pub use lines::bit_lines;
-pub use proposal::{Proposal, first_flops, propose};
-pub use sharing::SharingTally;
+pub use deck::{FEW_ITEMS, WEIGHT};
+pub use lines::mixed_lines;

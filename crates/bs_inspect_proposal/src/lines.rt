@@ -1,56 +1,14 @@
 //! The lines of a proposal.
-ghost use Rattle.std.specs.Prelude.{◌≡◌, ◌<◌, ◌≤◌, ◌^◌, ◌+◌, ◌++◌, length, map, slice_index_or, [], All, IfOk, OnOk};
+ghost use Rattle.std.specs.Prelude.{◌≡◌, ◌<◌, ◌^◌, ◌++◌, length, map, slice_index_or, [], All, IfOk, OnOk};
 ghost use Rattle.std.specs.List.{flat_map};
 ghost use Rattle.bs_inspect_proposal.specs.Items.{AreWithin};
-ghost use Rattle.bs_inspect_proposal.specs.Proposal.{bit_line, bit_lines, decimals, flop_keys, hundredths, name_words, shares_line, xor_line};
+ghost use Rattle.bs_inspect_proposal.specs.Proposal.{flop_keys, mixed_lines, name_words, xor_line};
 
 use crate::keys::flop_keys;
-use crate::sharing::SharingTally;
-use bs_bits::{List, NoMemory, end_line, push_number, push_piece};
+use crate::mixed::mixed_items;
+use bs_bits::{List, NoMemory, end_line, push_piece};
 use bs_net::Netlist;
 use std::alloc::Global;
-
-/// The hundredth parts of a mean, rounded down.
-fn hundredths(sum: u64, rows: usize) -> u64
-    requires { sum < 2 ^ 56 }
-    ensures { result ≡ hundredths sum rows }
-{
-    if rows == 0 {
-        0
-    } else {
-        sum * 100 / (rows as u64)
-    }
-}
-
-/// Appends a number of hundredth parts, with two decimals.
-fn push_decimals(text: &mut Vec<u8>, number: u64) -> Result<(), NoMemory>
-    ensures { OnOk result (text.new.items ≡ text.old.items ++ decimals number) }
-{
-    push_number(text, number / 100)?;
-    push_piece(text, b".")?;
-    text.push(48 + (number % 100 / 10) as u8)?;
-    text.push(48 + (number % 10) as u8)?;
-    Ok(())
-}
-
-/// Appends how many rows there are, the greatest share and the mean share.
-pub(crate) fn push_shares(
-    text: &mut Vec<u8>,
-    word: &[u8],
-    rows: usize,
-    tally: SharingTally,
-) -> Result<(), NoMemory>
-    requires { tally.sum < 2 ^ 56 }
-    ensures { OnOk result (text.new.items ≡ text.old.items ++ shares_line word.now rows tally) }
-{
-    push_piece(text, word)?;
-    push_number(text, rows as u64)?;
-    push_piece(text, b" ")?;
-    push_number(text, tally.greatest)?;
-    push_piece(text, b" ")?;
-    push_decimals(text, hundredths(tally.sum, rows))?;
-    end_line(text)
-}
 
 /// The key of a flip-flop.
 #[tactic(auto, using(crate::proofs::KeyLemmas::key_is))]
@@ -59,28 +17,6 @@ fn key_text<'a>(keys: &[&'a str], flop: u32) -> &'a [u8]
     ensures { result.now ≡ slice_index_or (map (λ s. s.now) keys.now) flop [] }
 {
     keys[flop as usize].as_bytes()
-}
-
-/// Appends the item of one flip-flop.
-fn push_bit(text: &mut Vec<u8>, keys: &[&str], flop: u32) -> Result<(), NoMemory>
-    requires { flop < length keys.now }
-    ensures { OnOk result (text.new.items ≡ text.old.items ++ bit_line (map (λ s. s.now) keys.now) flop) }
-{
-    push_piece(text, b"bit ")?;
-    push_piece(text, key_text(keys, flop))?;
-    end_line(text)
-}
-
-/// Appends the items of single flip-flops.
-#[tactic(auto, using(crate::proofs::LineLemmas::piece_more))]
-pub(crate) fn push_bits(text: &mut Vec<u8>, keys: &[&str], flops: &[u32]) -> Result<(), NoMemory>
-    requires { All (λ flop. flop < length keys.now) flops.now }
-    ensures { OnOk result (text.new.items ≡ text.old.items ++ flat_map (bit_line (map (λ s. s.now) keys.now)) flops.now) }
-{
-    'flops: for i in 0..flops.len() {
-        push_bit(text, keys, flops[i])?;
-    }
-    Ok(())
 }
 
 /// Appends a name behind a space.
@@ -115,7 +51,7 @@ fn push_xor(text: &mut Vec<u8>, keys: &[&str], item: &[u32]) -> Result<(), NoMem
 }
 
 /// Appends the items of several flip-flops each.
-#[tactic(auto, using(crate::proofs::LineLemmas::xor_more, crate::proofs::ItemLemmas::item_under))]
+#[tactic(auto, using(crate::proofs::LineLemmas::xor_more, crate::proofs::MixedLemmas::item_under))]
 pub(crate) fn push_xors(
     text: &mut Vec<u8>,
     keys: &[&str],
@@ -130,23 +66,35 @@ pub(crate) fn push_xors(
     Ok(())
 }
 
-/// The lines of a signature file whose items are these flip-flops, one by one, by these keys.
-fn lines_by(alloc: Global, keys: &[&str], flops: &[u32]) -> Result<Vec<u8>, NoMemory>
-    requires { All (λ flop. flop < length keys.now) flops.now }
-    ensures { IfOk result (λ text. text.items ≡ bit_lines (map (λ s. s.now) keys.now) flops.now) }
+/// The lines of these items, by these keys.
+fn lines_by(alloc: Global, keys: &[&str], items: &[List<u32>]) -> Result<Vec<u8>, NoMemory>
+    requires { AreWithin (length keys.now) items.now }
+    ensures { IfOk result (λ text. text.items ≡ flat_map (xor_line (map (λ s. s.now) keys.now)) items.now) }
 {
     let mut text = Vec::new(alloc);
-    push_bits(&mut text, keys, flops)?;
+    push_xors(&mut text, keys, items)?;
     Ok(text)
 }
 
-/// The lines of a signature file whose items are these flip-flops of a netlist, one by one.
-#[tactic(auto, using(crate::proofs::LineLemmas::lines_as, crate::proofs::LineLemmas::flops_under))]
-pub fn bit_lines(alloc: Global, net: &Netlist, flops: &[u32]) -> Result<Vec<u8>, NoMemory>
-    requires { All (λ flop. flop < length net.now.raw.flops) flops.now }
-    ensures { IfOk result (λ text. text.items ≡ bit_lines (flop_keys net.now.raw) flops.now) }
+/// A proposal of so many items, by these keys.
+#[tactic(auto, using(crate::proofs::MixedLemmas::mixed_within, crate::proofs::LineLemmas::mixed_as))]
+fn mixed_by(alloc: Global, keys: &[&str], count: usize) -> Result<Vec<u8>, NoMemory>
+    requires some { 0 < count }
+    requires narrow { length keys.now < 2 ^ 20 }
+    ensures { IfOk result (λ text. text.items ≡ mixed_lines (map (λ s. s.now) keys.now) count) }
+{
+    let items = mixed_items(alloc, keys.len(), count)?;
+    let text = lines_by(alloc, keys, items.slice())?;
+    Ok(text)
+}
+
+/// A proposal of so many items as the lines of a signature file: each flip-flop stands in some of them, which it draws from a deck.
+#[tactic(auto, using(crate::proofs::LineLemmas::lines_as))]
+pub fn mixed_lines(alloc: Global, net: &Netlist, count: usize) -> Result<Vec<u8>, NoMemory>
+    requires { 0 < count }
+    ensures { IfOk result (λ text. text.items ≡ mixed_lines (flop_keys net.now.raw) count) }
 {
     let keys = flop_keys(alloc, net)?;
-    let text = lines_by(alloc, keys.as_slice(), flops)?;
+    let text = mixed_by(alloc, keys.as_slice(), count)?;
     Ok(text)
 }

@@ -1,5 +1,5 @@
 -- An execution of two cycles, and one of none, as text, as table and as comments of a waveform.
-use Rattle.std.proofs.Common.{◌≡◌, ℕ, Bool, true, false, List, [], ◌∷◌, None, refl}
+use Rattle.std.proofs.Common.{◌≡◌, ℕ, Bool, true, false, List, [], ◌∷◌, Option, Some, None, refl}
 use Rattle.std.specs.Prelude.{codes}
 use Rattle.std.specs.Fmt.{digits}
 use Rattle.bs_report.specs.declared.report.Report.{Report}
@@ -8,6 +8,7 @@ use Rattle.bs_net_names.specs.Signals.{Signal}
 use Rattle.bs_inspect_report.specs.Remarks.{remarks}
 use Rattle.bs_inspect_report.specs.Table.{trace_rows}
 use Rattle.bs_inspect_report.specs.Trace.{Signals, trace_lines}
+use Rattle.bs_inspect_report.specs.declared.window.Window.{Window}
 
 -- what a search found: these states of one flip-flop, and these inputs of one bit
 abbrev found : (states inputs : List (List Bool)) → Report
@@ -19,6 +20,7 @@ found states inputs =
       stop = stops.Reset;
       states = states;
       inputs = inputs;
+      free = [];
       log = [];
     }
 
@@ -34,13 +36,46 @@ two_cycles = found ((false ∷ []) ∷ (true ∷ []) ∷ (true ∷ []) ∷ []) (
 abbrev no_cycle : Report
 no_cycle = found ((true ∷ []) ∷ []) []
 
+abbrev part : (from : ℕ) → (to last : Option ℕ) → Window
+part from to last = record { from = from; to = to; last = last }
+
+abbrev whole : Window
+whole = part 0 None None
+
 worked_trace :
-    trace_lines two_cycles signals false
+    trace_lines two_cycles signals false whole
     ≡ codes "0 state reset\n0 flop q = 0\n0 input d = 1\n1 state passed\n1 flop q = 1\n1 input d = 0\n2 state asked\n"
 unfolding digits
 worked_trace = refl
 
-worked_table : trace_rows two_cycles signals ≡ codes "state,from,run,cycle,q,d\n0,reset,,,0,1\n1,passed,,,1,0\n2,asked,,,1,\n"
+-- the input stands still, and is told once, or in each cycle
+abbrev still : Report
+still = found ((false ∷ []) ∷ (true ∷ []) ∷ (true ∷ []) ∷ []) ((true ∷ []) ∷ (true ∷ []) ∷ [])
+
+worked_still : trace_lines still signals false whole ≡ codes "0 state reset\n0 flop q = 0\n0 input d = 1\n1 state passed\n1 flop q = 1\n2 state asked\n"
+unfolding digits
+worked_still = refl
+
+worked_all :
+    trace_lines still signals true whole
+    ≡ codes "0 state reset\n0 flop q = 0\n0 input d = 1\n1 state passed\n1 flop q = 1\n1 input d = 1\n2 state asked\n2 flop q = 1\n"
+unfolding digits
+worked_all = refl
+
+-- the last two states, and of these the first
+worked_last : trace_lines two_cycles signals false (part 0 None (Some 2)) ≡ codes "1 state passed\n1 flop q = 1\n1 input d = 0\n2 state asked\n"
+unfolding digits
+worked_last = refl
+
+worked_part : trace_lines two_cycles signals false (part 0 (Some 1) (Some 2)) ≡ codes "1 state passed\n1 flop q = 1\n1 input d = 0\n"
+unfolding digits
+worked_part = refl
+
+worked_from : trace_rows two_cycles signals (part 1 (Some 1) None) ≡ codes "state,from,run,cycle,q,d\n1,passed,,,1,0\n"
+unfolding digits
+worked_from = refl
+
+worked_table : trace_rows two_cycles signals whole ≡ codes "state,from,run,cycle,q,d\n0,reset,,,0,1\n1,passed,,,1,0\n2,asked,,,1,\n"
 unfolding digits
 worked_table = refl
 
@@ -48,6 +83,6 @@ worked_remarks : remarks two_cycles ≡ codes "$comment 0 state reset $end\n$com
 unfolding digits
 worked_remarks = refl
 
-worked_reset : trace_lines no_cycle signals false ≡ codes "0 state asked\n0 flop q = 1\n"
+worked_reset : trace_lines no_cycle signals false whole ≡ codes "0 state asked\n0 flop q = 1\n"
 unfolding digits
 worked_reset = refl

@@ -1,5 +1,5 @@
 -- Pieces that are appended one after another.
-use Rattle.std.proofs.Common.{◌≡◌, ℕ, ◌+◌, List, [], ◌∷◌, ◌++◌, map, ap, sym, ◌∙◌, arith, slice_get, Some}
+use Rattle.std.proofs.Common.{◌≡◌, ℕ, ◌+◌, List, [], ◌∷◌, ◌++◌, map, ap, sym, ◌∙◌, arith, slice_get, Option, Some}
 use Rattle.std.proofs.Common.{Bool, true, false, cond, refl, append_assoc}
 use Rattle.std.specs.Prelude.{slice_index_or}
 use Rattle.std.specs.List.{count_by, range_with_len}
@@ -9,6 +9,7 @@ use Rattle.std.proofs.lemmas.List.{map-append}
 use Rattle.bs_report.specs.declared.report.Cand.{Cand}
 use Rattle.bs_report.specs.declared.report.Report.{Report}
 use Rattle.bs_report.specs.declared.report.Step.{Step}
+use Rattle.bs_inspect_report.specs.Recorded.{recorded_at}
 use Rattle.bs_inspect_report.specs.Steps.{differs_at, one_if, step_piece, step_line, step_at}
 
 -- three pieces behind one another, the last with its line feed
@@ -38,6 +39,11 @@ pub placed_more : {X : Type 0} (p : ℕ → X) (n : ℕ) (xs after : List X) (x 
     after ≡ map p (range_with_len 0 (n + 1))
 placed_more p n xs after x e f g =
     g ∙ ((λ i. e i ++ f i ∷ []) ∙ (sym (map-append p (range_with_len 0 n) (n ∷ [])) ∙ ap (map p) (sym (range_push n))))
+
+pub recorded_more : (r : Report) (n : ℕ) (moments after : List (Option (ℕ × ℕ))) (m : Option (ℕ × ℕ)) →
+    moments ≡ map (recorded_at r) (range_with_len 0 n) → m ≡ recorded_at r n → after ≡ moments ++ m ∷ [] →
+    after ≡ map (recorded_at r) (range_with_len 0 (n + 1))
+recorded_more r n moments after m e f g = placed_more (recorded_at r) n moments after m e f g
 
 pub bits_more : (first : List Bool) (cands : List Cand) (n : ℕ) (bits after : List Bool) (b : Bool) →
     bits ≡ map (differs_at first cands) (range_with_len 0 n) → b ≡ differs_at first cands n → after ≡ bits ++ b ∷ [] →

@@ -4,7 +4,9 @@ pub mod Lemmas
 pub mod Signal
 pub mod Steps
 pub mod Execution
+pub mod Window
 pub mod Trace
 pub mod Table
 pub mod Remarks
+pub mod Recorded
 pub mod Lines

@@ -16,6 +16,8 @@ use Rattle.bs_inspect_report.specs.Lemmas.{lemmas_logged}
 use Rattle.bs_inspect_report.specs.Signal.{signal_bits}
 use Rattle.bs_inspect_report.specs.Steps.{differing, list_word}
 use Rattle.bs_inspect_report.specs.Trace.{AreTraced, Signals}
+use Rattle.bs_inspect_report.specs.Window.{shown_piece}
+use Rattle.bs_inspect_report.specs.declared.window.Window.{Window}
 
 -- ---- a field
 
@@ -85,14 +87,18 @@ abbrev pub state_row : Report → Signals → ℕ → List ℕ
 state_row r signals i =
     line (decimal i ++ (origin_cells r i ++ (value_cells (slice_get r.states i) signals.flops ++ value_cells (slice_get r.inputs i) signals.inputs)))
 
-abbrev pub trace_rows : Report → Signals → List ℕ
-trace_rows r signals = head_row signals ++ flat_map (state_row r signals) (range_with_len 0 (length r.states))
+-- the rows of the states in the window
+abbrev pub state_rows : Report → Signals → Window → List ℕ
+state_rows r signals w = flat_map (shown_piece w (length r.states) (state_row r signals)) (range_with_len 0 (length r.states))
 
--- the text tells each state of the report's trace, with the names of the netlist; where names are given, these alone
-pub record TellsTable (raw : Parts) (r : Report) (only : List (List ℕ)) (text : List ℕ) : Type 0 where
+abbrev pub trace_rows : Report → Signals → Window → List ℕ
+trace_rows r signals w = head_row signals ++ state_rows r signals w
+
+-- the text tells each state in the window of the report's trace, with the names of the netlist; where names are given, these alone
+pub record TellsTable (raw : Parts) (r : Report) (w : Window) (only : List (List ℕ)) (text : List ℕ) : Type 0 where
   pub signals : Signals
   pub are : AreTraced raw only signals
-  pub says : text ≡ trace_rows r signals
+  pub says : text ≡ trace_rows r signals w
 
 -- ---- the steps
 

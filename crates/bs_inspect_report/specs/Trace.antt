@@ -10,6 +10,8 @@ use Rattle.bs_report.specs.declared.report.Step.{Step}
 use Rattle.bs_inspect_report.specs.Execution.{is_execution, place_word}
 use Rattle.bs_inspect_report.specs.Keys.{flop_keys, input_keys}
 use Rattle.bs_inspect_report.specs.Signal.{signals_lines}
+use Rattle.bs_inspect_report.specs.Window.{shown_piece}
+use Rattle.bs_inspect_report.specs.declared.window.Window.{Window}
 
 abbrev pub hit_words : Option HitLine → List ℕ
 hit_words None = codes " state none"
@@ -32,9 +34,9 @@ place_words r i = codes " state " ++ place_word r i
 abbrev pub origin_words : Report → ℕ → List ℕ
 origin_words r i = if is_execution r then place_words r i else found_words r i
 
--- the state before this one, where what has not changed since is left out
-abbrev pub state_before : Report → Bool → ℕ → Option (List Bool)
-state_before r all i = if all || (i == 0) then None else slice_get r.states (i - 1)
+-- the state, or the input, before the one with this number, where what has not changed since is left out
+abbrev pub row_before : List (List Bool) → Bool → ℕ → Option (List Bool)
+row_before rows all i = if all || (i == 0) then None else slice_get rows (i - 1)
 
 -- the signals of the trace: those of its states and those of its inputs
 pub record Signals : Type 0 where
@@ -43,28 +45,30 @@ pub record Signals : Type 0 where
 
 abbrev pub flops_at : Report → List Signal → Bool → ℕ → Option (List Bool) → List ℕ
 flops_at r flops all i None = []
-flops_at r flops all i (Some state) = signals_lines (codes " flop ") i (state_before r all i) state flops
+flops_at r flops all i (Some state) = signals_lines (codes " flop ") i (row_before r.states all i) state flops
 
-abbrev pub inputs_at : List Signal → ℕ → Option (List Bool) → List ℕ
-inputs_at inputs i None = []
-inputs_at inputs i (Some input) = signals_lines (codes " input ") i None input inputs
+abbrev pub inputs_at : Report → List Signal → Bool → ℕ → Option (List Bool) → List ℕ
+inputs_at r inputs all i None = []
+inputs_at r inputs all i (Some input) = signals_lines (codes " input ") i (row_before r.inputs all i) input inputs
 
--- a cycle of the trace: where its state comes from, the flip-flops that changed, and the input that leads on from it
+-- a cycle of the trace: where its state comes from, the flip-flops that changed, and the data inputs that changed in the input that leads
+-- on from it
 abbrev pub cycle_lines : Report → Signals → Bool → ℕ → List ℕ
 cycle_lines r signals all i =
     line (decimal i ++ origin_words r i)
-    ++ (flops_at r signals.flops all i (slice_get r.states i) ++ inputs_at signals.inputs i (slice_get r.inputs i))
+    ++ (flops_at r signals.flops all i (slice_get r.states i) ++ inputs_at r signals.inputs all i (slice_get r.inputs i))
 
-abbrev pub trace_lines : Report → Signals → Bool → List ℕ
-trace_lines r signals all = flat_map (cycle_lines r signals all) (range_with_len 0 (length r.states))
+-- the cycles of the whole trace, and of these the ones in the window
+abbrev pub trace_lines : Report → Signals → Bool → Window → List ℕ
+trace_lines r signals all w = flat_map (shown_piece w (length r.states) (cycle_lines r signals all)) (range_with_len 0 (length r.states))
 
 -- the signals of a netlist's flip-flops and of its data inputs; where names are given, these alone
 pub record AreTraced (raw : Parts) (only : List (List ℕ)) (signals : Signals) : Type 0 where
   pub flops : AreSignals only (flop_keys raw) signals.flops
   pub inputs : AreSignals only (input_keys raw) signals.inputs
 
--- the text tells each cycle of the report's trace, with the names of the netlist; where names are given, these alone
-pub record TellsTrace (raw : Parts) (r : Report) (all : Bool) (only : List (List ℕ)) (text : List ℕ) : Type 0 where
+-- the text tells each cycle in the window of the report's trace, with the names of the netlist; where names are given, these alone
+pub record TellsTrace (raw : Parts) (r : Report) (all : Bool) (w : Window) (only : List (List ℕ)) (text : List ℕ) : Type 0 where
   pub signals : Signals
   pub are : AreTraced raw only signals
-  pub says : text ≡ trace_lines r signals all
+  pub says : text ≡ trace_lines r signals all w

@@ -41,7 +41,7 @@ fn push_all_doubled(text: &mut Vec<u8>, content: &[u8]) -> Result<(), NoMemory>
 }
 
 /// Appends a field: a text as it is, or between quotes where it has a quote or a comma.
-pub(crate) fn push_field(text: &mut Vec<u8>, content: &[u8]) -> Result<(), NoMemory>
+pub fn push_field(text: &mut Vec<u8>, content: &[u8]) -> Result<(), NoMemory>
     ensures { OnOk result (text.new.items ≡ text.old.items ++ field content.now) }
 {
     if !has_special(content) {

@@ -2,12 +2,14 @@
 ghost use Rattle.std.specs.Prelude.{◌≡◌, ◌<◌, ◌≤◌, ◌+◌, ◌^◌, ◌++◌, length, map, decimal, slice_get, All, OnOk, option_map};
 ghost use Rattle.bs_bits.specs.Lines.{line};
 ghost use Rattle.bs_net_names.specs.Signals.{signal_in};
-ghost use Rattle.bs_inspect_report.specs.Trace.{cycle_lines, flops_at, found_words, hit_words, inputs_at, origin_words, place_words, state_before, step_words};
+ghost use Rattle.bs_inspect_report.specs.Trace.{cycle_lines, flops_at, found_words, hit_words, inputs_at, origin_words, place_words, row_before, step_words};
 ghost use Rattle.bs_inspect_report.specs.Lines.{signals_in};
+ghost use Rattle.bs_inspect_report.specs.Window.{shown_piece};
 
 use crate::execution::{is_execution, push_place_word};
 use crate::named::Signals;
 use crate::signal::push_signals;
+use crate::window::{Window, is_shown};
 use bs_bits::{Bits, List, NoMemory, end_line, push_number, push_piece};
 use bs_net_names::Signal;
 use bs_report::{HitLine, Report, Step};
@@ -79,14 +81,14 @@ pub(crate) fn push_origin(text: &mut Vec<u8>, report: &Report, i: usize) -> Resu
     }
 }
 
-/// The state before this one, where what has not changed since is left out.
-fn state_before(report: &Report, all: bool, i: usize) -> Option<&Bits>
-    ensures { option_map (λ b. b.now) result ≡ state_before report.now all i }
+/// The state, or the input, before the one with this number, where what has not changed since is left out.
+fn row_before(rows: &List<Bits>, all: bool, i: usize) -> Option<&Bits>
+    ensures { option_map (λ b. b.now) result ≡ row_before rows.now all i }
 {
     if all || i == 0 {
         return None;
     }
-    member(&report.states, i - 1)
+    member(rows, i - 1)
 }
 
 /// Appends the flip-flops that changed.
@@ -105,7 +107,7 @@ fn push_flops(
             text,
             b" flop ",
             i as u64,
-            state_before(report, all, i),
+            row_before(&report.states, all, i),
             state,
             flops,
         ),
@@ -113,18 +115,26 @@ fn push_flops(
     }
 }
 
-/// Appends an input.
+/// Appends the data inputs that changed.
 fn push_inputs(
     text: &mut Vec<u8>,
     report: &Report,
     inputs: &[Signal<'_>],
+    all: bool,
     i: usize,
 ) -> Result<(), NoMemory>
     requires { All (λ s. length s.places < 2 ^ 32) inputs.now }
-    ensures { OnOk result (text.new.items ≡ text.old.items ++ inputs_at (map signal_in inputs.now) i (slice_get report.now.inputs i)) }
+    ensures { OnOk result (text.new.items ≡ text.old.items ++ inputs_at report.now (map signal_in inputs.now) all i (slice_get report.now.inputs i)) }
 {
     match member(&report.inputs, i) {
-        Some(input) => push_signals(text, b" input ", i as u64, None, input, inputs),
+        Some(input) => push_signals(
+            text,
+            b" input ",
+            i as u64,
+            row_before(&report.inputs, all, i),
+            input,
+            inputs,
+        ),
         None => Ok(()),
     }
 }
@@ -141,7 +151,7 @@ fn push_head(text: &mut Vec<u8>, report: &Report, i: usize) -> Result<(), NoMemo
 }
 
 /// Appends a cycle of the trace.
-pub(crate) fn push_cycle(
+fn push_cycle(
     text: &mut Vec<u8>,
     report: &Report,
     signals: &Signals<'_>,
@@ -154,5 +164,25 @@ pub(crate) fn push_cycle(
 {
     push_head(text, report, i)?;
     push_flops(text, report, signals.flops.as_slice(), all, i)?;
-    push_inputs(text, report, signals.inputs.as_slice(), i)
+    push_inputs(text, report, signals.inputs.as_slice(), all, i)
+}
+
+/// Appends a cycle of the trace, where it is in a window.
+pub(crate) fn push_shown(
+    text: &mut Vec<u8>,
+    report: &Report,
+    signals: &Signals<'_>,
+    all: bool,
+    window: Window,
+    i: usize,
+) -> Result<(), NoMemory>
+    requires there { i < length report.now.states }
+    requires small { i + 1 < 2 ^ 64 }
+    ensures { OnOk result (text.new.items ≡ text.old.items ++ shown_piece window (length report.now.states) (cycle_lines report.now (signals_in signals.now) all) i) }
+{
+    if is_shown(window, report.states.len(), i) {
+        push_cycle(text, report, signals, all, i)
+    } else {
+        Ok(())
+    }
 }

@@ -60,7 +60,7 @@ pub fn push_signal_value(text: &mut Vec<u8>, bits: &Bits, places: &[u32]) -> Res
 }
 
 /// Appends the line of a signal.
-fn push_signal(
+pub fn push_signal(
     text: &mut Vec<u8>,
     kind: &[u8],
     cycle: u64,

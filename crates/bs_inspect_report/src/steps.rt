@@ -146,7 +146,12 @@ pub fn number_at(numbers: &[u64], place: usize) -> u64
 
 /// Appends the line of the step at a place.
 #[tactic(auto, using(crate::proofs::PieceLemmas::step_there))]
-fn push_at(text: &mut Vec<u8>, report: &Report, lemmas: &[u64], i: usize) -> Result<(), NoMemory>
+pub fn push_at(
+    text: &mut Vec<u8>,
+    report: &Report,
+    lemmas: &[u64],
+    i: usize,
+) -> Result<(), NoMemory>
     requires there { i < length report.now.steps }
     requires small { i + 1 < 2 ^ 64 }
     ensures { OnOk result (text.new.items ≡ text.old.items ++ step_at report.now lemmas.now i) }

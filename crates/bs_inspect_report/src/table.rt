@@ -4,8 +4,9 @@ ghost use Rattle.std.specs.List.{flat_map, range_with_len};
 ghost use Rattle.std.specs.Str.{bytes_eq};
 ghost use Rattle.bs_net_names.specs.Rtl.{rtl_text};
 ghost use Rattle.bs_net_names.specs.Signals.{signal_in};
-ghost use Rattle.bs_inspect_report.specs.Table.{TellsTable, found_cells, head_row, hit_cells, is_column, mark, name_cell, name_cells, origin_cells, place_cells, state_row, step_cells, trace_rows, value_cell, value_cells};
+ghost use Rattle.bs_inspect_report.specs.Table.{TellsTable, found_cells, head_row, hit_cells, is_column, mark, name_cell, name_cells, origin_cells, place_cells, state_row, state_rows, step_cells, trace_rows, value_cell, value_cells};
 ghost use Rattle.bs_inspect_report.specs.Lines.{signals_in};
+ghost use Rattle.bs_inspect_report.specs.Window.{shown_piece};
 
 use crate::execution::{is_execution, push_place_word};
 use crate::field::push_field;
@@ -13,6 +14,7 @@ use crate::moment::member;
 use crate::named::Signals;
 use crate::signal::push_signal_value;
 use crate::trace::trace_signals;
+use crate::window::{Window, is_shown};
 use bs_bits::{Bits, NoMemory, end_line, push_number, push_piece};
 use bs_net::Netlist;
 use bs_net_names::{Signal, push_rtl_name};
@@ -200,43 +202,69 @@ fn push_state_row(
     end_line(text)
 }
 
-/// Appends the rows of the states.
+/// Appends the row of a state, where it is in a window.
+fn push_shown_row(
+    text: &mut Vec<u8>,
+    report: &Report,
+    signals: &Signals<'_>,
+    window: Window,
+    i: usize,
+) -> Result<(), NoMemory>
+    requires there { i < length report.now.states }
+    requires small { i + 1 < 2 ^ 64 }
+    ensures { OnOk result (text.new.items ≡ text.old.items ++ shown_piece window (length report.now.states) (state_row report.now (signals_in signals.now)) i) }
+{
+    if is_shown(window, report.states.len(), i) {
+        push_state_row(text, report, signals, i)
+    } else {
+        Ok(())
+    }
+}
+
+/// Appends the rows of the states in a window.
 #[tactic(auto, using(bs_bits::proofs::RangeLemmas::places_step))]
 fn push_state_rows(
     text: &mut Vec<u8>,
     report: &Report,
     signals: &Signals<'_>,
+    window: Window,
 ) -> Result<(), NoMemory>
-    ensures { OnOk result (text.new.items ≡ text.old.items ++ flat_map (state_row report.now (signals_in signals.now)) (range_with_len 0 (length report.now.states))) }
+    ensures { OnOk result (text.new.items ≡ text.old.items ++ state_rows report.now (signals_in signals.now) window) }
 {
     'states: for i in 0..report.states.len() {
-        push_state_row(text, report, signals, i)?;
+        push_shown_row(text, report, signals, window, i)?;
     }
     Ok(())
 }
 
 /// The table of a trace with these signals.
-fn table_of(alloc: Global, report: &Report, signals: &Signals<'_>) -> Result<Vec<u8>, NoMemory>
-    ensures { IfOk result (λ text. text.items ≡ trace_rows report.now (signals_in signals.now)) }
+fn table_of(
+    alloc: Global,
+    report: &Report,
+    signals: &Signals<'_>,
+    window: Window,
+) -> Result<Vec<u8>, NoMemory>
+    ensures { IfOk result (λ text. text.items ≡ trace_rows report.now (signals_in signals.now) window) }
 {
     let mut text = Vec::new(alloc);
     push_head_row(&mut text, signals)?;
-    push_state_rows(&mut text, report, signals)?;
+    push_state_rows(&mut text, report, signals, window)?;
     Ok(text)
 }
 
 /// The trace of a report as a table of comma-separated values: a column for each signal, under its name as RTL writes it, and a row
-/// for each state, with the values that the text of the trace has. Where names are given, these alone.
+/// for each state in a window, with the values that the text of the trace has. Where names are given, these alone.
 pub fn trace_table(
     alloc: Global,
     net: &Netlist,
     report: &Report,
+    window: Window,
     only: &[&str],
 ) -> Result<Vec<u8>, NoMemory>
-    ensures { IfOk result (λ text. TellsTable net.now.raw report.now (map (λ s. s.now) only.now) text.items) }
+    ensures { IfOk result (λ text. TellsTable net.now.raw report.now window (map (λ s. s.now) only.now) text.items) }
 {
     match trace_signals(alloc, net, only) {
-        Ok(signals) => table_of(alloc, report, &signals),
+        Ok(signals) => table_of(alloc, report, &signals, window),
         Err(refused) => Err(refused),
     }
 }

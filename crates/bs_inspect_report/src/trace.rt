@@ -6,8 +6,9 @@ ghost use Rattle.bs_inspect_report.specs.Lines.{signals_in};
 ghost use Rattle.bs_inspect_report.specs.Trace.{AreTraced, TellsTrace, trace_lines};
 
 use crate::keys::{flop_keys, input_keys};
-use crate::moment::push_cycle;
+use crate::moment::push_shown;
 use crate::named::Signals;
+use crate::window::Window;
 use bs_bits::NoMemory;
 use bs_net::Netlist;
 use bs_net_names::{Signal, signals};
@@ -57,18 +58,19 @@ pub fn input_signals<'a>(
     Ok(signals)
 }
 
-/// Appends the cycles of a trace.
+/// Appends the cycles of a trace that are in a window.
 #[tactic(auto, using(bs_bits::proofs::RangeLemmas::places_step))]
 fn push_trace(
     text: &mut Vec<u8>,
     report: &Report,
     signals: &Signals<'_>,
     all: bool,
+    window: Window,
 ) -> Result<(), NoMemory>
-    ensures { OnOk result (text.new.items ≡ text.old.items ++ trace_lines report.now (signals_in signals.now) all) }
+    ensures { OnOk result (text.new.items ≡ text.old.items ++ trace_lines report.now (signals_in signals.now) all window) }
 {
     'cycles: for i in 0..report.states.len() {
-        push_cycle(text, report, signals, all, i)?;
+        push_shown(text, report, signals, all, window, i)?;
     }
     Ok(())
 }
@@ -110,27 +112,29 @@ fn text_of(
     report: &Report,
     signals: &Signals<'_>,
     all: bool,
+    window: Window,
 ) -> Result<Vec<u8>, NoMemory>
-    ensures { IfOk result (λ text. text.items ≡ trace_lines report.now (signals_in signals.now) all) }
+    ensures { IfOk result (λ text. text.items ≡ trace_lines report.now (signals_in signals.now) all window) }
 {
     let mut text = Vec::new(alloc);
-    push_trace(&mut text, report, signals, all)?;
+    push_trace(&mut text, report, signals, all, window)?;
     Ok(text)
 }
 
-/// The trace of a report with the names of a netlist, cycle by cycle: where the state comes from, the flip-flops that
-/// changed (or all), and the input. Bits of one vector stand together as one number. Where names are given, these alone.
+/// The trace of a report with the names of a netlist, cycle by cycle: where the state comes from, and the flip-flops and data inputs that
+/// changed (or all); of the cycles in a window. Bits of one vector stand together as one number. Where names are given, these alone.
 pub fn trace_text(
     alloc: Global,
     net: &Netlist,
     report: &Report,
     all: bool,
+    window: Window,
     only: &[&str],
 ) -> Result<Vec<u8>, NoMemory>
-    ensures { IfOk result (λ text. TellsTrace net.now.raw report.now all (map (λ s. s.now) only.now) text.items) }
+    ensures { IfOk result (λ text. TellsTrace net.now.raw report.now all window (map (λ s. s.now) only.now) text.items) }
 {
     match trace_signals(alloc, net, only) {
-        Ok(signals) => text_of(alloc, report, &signals, all),
+        Ok(signals) => text_of(alloc, report, &signals, all, window),
         Err(refused) => Err(refused),
     }
 }

@@ -11,14 +11,12 @@ use Rattle.bs_note_files.specs.Notes.{pair_text, plain_text}
 use Rattle.bs_inspect_usages.specs.declared.reason.Bounds.{Bounds}
 use Rattle.bs_inspect_usages.specs.declared.reason.TheConstants.{LAST_TIME}
 use Rattle.bs_inspect_usages.specs.declared.positions.TheConstants.{MANY}
-use Rattle.bs_inspect_words.specs.declared.causes.TheConstants.{MAX_DEPTH}
-use Rattle.bs_inspect_words.specs.declared.novel.TheConstants.{MAX_LINES}
-use Rattle.bs_inspect_words.specs.declared.paged.TheConstants.{MAX_DRAWN}
+use Rattle.bs_inspect_options.specs.declared.numbers.TheConstants.{MAX_DEPTH, MAX_DRAWN, MAX_LINES}
 use Rattle.bs_stim.specs.declared.limits.TheConstants.{MAX_CYCLES, MAX_RUNS}
 use Rattle.bs_top_words.specs.declared.limits.TheConstants.{MAX_BITS, MAX_BOUND, MAX_STEPS}
 use Rattle.bs_inspect_notes.specs.Listings.{quoted, some_near, word_piece}
 use Rattle.bs_top_words.specs.Given.{Given, read_all, start}
-use Rattle.bs_inspect_words.specs.Request.{all_flags}
+use Rattle.bs_inspect_options.specs.Settings.{all_flags}
 
 -- a command, and how its words stand
 pub record Usage : Type 0 where
@@ -32,23 +30,28 @@ abbrev pub usages : List Usage
 usages =
     stands (codes "flops") (codes "usage: backspace_inspect flops NETLIST")
     ∷ stands (codes "keys") (codes "usage: backspace_inspect keys NETLIST NAME ..")
+    ∷ stands (codes "seen") (codes "usage: backspace_inspect seen NETLIST NAME=VALUE ..")
     ∷ stands (codes "inputs") (codes "usage: backspace_inspect inputs NETLIST")
     ∷ stands (codes "stats") (codes "usage: backspace_inspect stats NETLIST")
-    ∷ stands (codes "trace") (codes "usage: backspace_inspect trace NETLIST REPORT [--all] [--only NAME ..] [--csv]")
+    ∷ stands (codes "trace") (codes "usage: backspace_inspect trace NETLIST REPORT [--all] [--from I] [--to J] [--last N] [--only NAME ..] [--csv]")
     ∷ stands (codes "steps") (codes "usage: backspace_inspect steps REPORT [--csv]")
+    ∷ stands (codes "candidates") (codes "usage: backspace_inspect candidates NETLIST REPORT [--only NAME ..]")
     ∷ stands (codes "wave") (codes "usage: backspace_inspect wave NETLIST REPORT [--all] [--from CYCLE] [--only NAME ..]")
+    ∷ stands (codes "gtkw") (codes "usage: backspace_inspect gtkw NETLIST REPORT WAVE [--all] [--from CYCLE] [--only NAME ..]")
     ∷ stands (codes "page") (codes "usage: backspace_inspect page NETLIST REPORT [--signature FILE] [--only NAME ..] [--most N]")
     ∷ stands (codes "stimulus") (codes "usage: backspace_inspect stimulus NETLIST VCD .. --clock NAME [--scope PATH] [--map FILE]")
     ∷ stands (codes "check") (codes "usage: backspace_inspect check NETLIST STIMULUS VCD .. [--clock NAME] [--scope PATH] [--map FILE]")
     ∷ stands (codes "dump")
-    (codes "usage: backspace_inspect dump NETLIST VCD --cycle N|--time T [--clock NAME] [--scope PATH] [--map FILE] [--signature FILE]")
+    (codes "usage: backspace_inspect dump NETLIST VCD --cycle N|--time T [--clock NAME] [--scope PATH] [--map FILE] [--signature FILE] [--partial]")
     ∷ stands (codes "signature") (codes "usage: backspace_inspect signature NETLIST STIMULUS --bits N")
     ∷ stands (codes "unscan") (codes "usage: backspace_inspect unscan NETLIST ORDER BITS")
+    ∷ stands (codes "bench") (codes "usage: backspace_inspect bench NETLIST STIMULUS REPORT TOP")
     ∷ stands (codes "cnf") (codes "usage: backspace_inspect cnf NETLIST SIGNATURE REPORT [--step K]")
     ∷ stands (codes "lrat") (codes "usage: backspace_inspect lrat NETLIST SIGNATURE REPORT [--step K]")
     ∷ stands (codes "reach-cnf") (codes "usage: backspace_inspect reach-cnf NETLIST STATE ANSWER [--length J]")
     ∷ stands (codes "reach-lrat") (codes "usage: backspace_inspect reach-lrat NETLIST STATE ANSWER [--length J]")
     ∷ stands (codes "novel") (codes "usage: backspace_inspect novel NETLIST STIMULUS RUN [--most N]")
+    ∷ stands (codes "near") (codes "usage: backspace_inspect near NETLIST STIMULUS DUMP")
     ∷ stands (codes "why") (codes "usage: backspace_inspect why NETLIST REPORT NAME [--at CYCLE] [--depth N] [--flops] [--all] [--csv]")
     ∷ stands (codes "help") (codes "usage: backspace_inspect help")
     ∷ stands (codes "version") (codes "usage: backspace_inspect version")
@@ -69,9 +72,9 @@ commands = map (λ u. u.command) usages
 
 abbrev pub options : List (List ℕ)
 options =
-    codes "--all" ∷ codes "--only" ∷ codes "--clock" ∷ codes "--scope" ∷ codes "--map" ∷ codes "--bits" ∷ codes "--csv" ∷ codes "--from" ∷ codes "--cycle"
-    ∷ codes "--time" ∷ codes "--signature" ∷ codes "--step" ∷ codes "--most" ∷ codes "--at" ∷ codes "--depth"
-    ∷ codes "--flops" ∷ codes "--length" ∷ []
+    codes "--all" ∷ codes "--only" ∷ codes "--clock" ∷ codes "--scope" ∷ codes "--map" ∷ codes "--bits" ∷ codes "--csv" ∷ codes "--from" ∷ codes "--to" ∷ codes "--last"
+    ∷ codes "--cycle" ∷ codes "--time" ∷ codes "--signature" ∷ codes "--step" ∷ codes "--most" ∷ codes "--at" ∷ codes "--depth"
+    ∷ codes "--flops" ∷ codes "--partial" ∷ codes "--length" ∷ []
 
 -- ---- wrong words
 
@@ -119,12 +122,19 @@ owns command option = record { command = command; option = option }
 abbrev pub owned : List Owned
 owned =
     owns (codes "trace") (codes "--all")
+    ∷ owns (codes "trace") (codes "--from")
+    ∷ owns (codes "trace") (codes "--to")
+    ∷ owns (codes "trace") (codes "--last")
     ∷ owns (codes "trace") (codes "--only")
     ∷ owns (codes "trace") (codes "--csv")
     ∷ owns (codes "steps") (codes "--csv")
+    ∷ owns (codes "candidates") (codes "--only")
     ∷ owns (codes "wave") (codes "--all")
     ∷ owns (codes "wave") (codes "--from")
     ∷ owns (codes "wave") (codes "--only")
+    ∷ owns (codes "gtkw") (codes "--all")
+    ∷ owns (codes "gtkw") (codes "--from")
+    ∷ owns (codes "gtkw") (codes "--only")
     ∷ owns (codes "page") (codes "--signature")
     ∷ owns (codes "page") (codes "--only")
     ∷ owns (codes "page") (codes "--most")
@@ -140,6 +150,7 @@ owned =
     ∷ owns (codes "dump") (codes "--scope")
     ∷ owns (codes "dump") (codes "--map")
     ∷ owns (codes "dump") (codes "--signature")
+    ∷ owns (codes "dump") (codes "--partial")
     ∷ owns (codes "signature") (codes "--bits")
     ∷ owns (codes "cnf") (codes "--step")
     ∷ owns (codes "lrat") (codes "--step")
@@ -187,7 +198,11 @@ range command option least most = record { command = command; option = option; b
 abbrev pub ranges : List Range
 ranges =
     range (codes "signature") (codes "--bits") 1 MAX_BITS
+    ∷ range (codes "trace") (codes "--from") 0 MAX_CYCLES
+    ∷ range (codes "trace") (codes "--to") 0 MAX_CYCLES
+    ∷ range (codes "trace") (codes "--last") 1 MAX_CYCLES
     ∷ range (codes "wave") (codes "--from") 0 MAX_CYCLES
+    ∷ range (codes "gtkw") (codes "--from") 0 MAX_CYCLES
     ∷ range (codes "dump") (codes "--cycle") 0 MAX_CYCLES
     ∷ range (codes "dump") (codes "--time") 0 LAST_TIME
     ∷ range (codes "cnf") (codes "--step") 1 MAX_STEPS
@@ -302,22 +317,27 @@ abbrev pub places : List Range
 places =
     range (codes "flops") [] 1 1
     ∷ range (codes "keys") [] 2 MANY
+    ∷ range (codes "seen") [] 2 MANY
     ∷ range (codes "inputs") [] 1 1
     ∷ range (codes "stats") [] 1 1
     ∷ range (codes "trace") [] 2 2
     ∷ range (codes "steps") [] 1 1
+    ∷ range (codes "candidates") [] 2 2
     ∷ range (codes "wave") [] 2 2
+    ∷ range (codes "gtkw") [] 3 3
     ∷ range (codes "page") [] 2 2
     ∷ range (codes "stimulus") [] 2 MANY
     ∷ range (codes "check") [] 3 MANY
     ∷ range (codes "dump") [] 2 2
     ∷ range (codes "signature") [] 2 2
     ∷ range (codes "unscan") [] 3 3
+    ∷ range (codes "bench") [] 4 4
     ∷ range (codes "cnf") [] 3 3
     ∷ range (codes "lrat") [] 3 3
     ∷ range (codes "reach-cnf") [] 3 3
     ∷ range (codes "reach-lrat") [] 3 3
     ∷ range (codes "novel") [] 3 3
+    ∷ range (codes "near") [] 3 3
     ∷ range (codes "why") [] 3 3
     ∷ range (codes "help") [] 0 0
     ∷ range (codes "version") [] 0 0

@@ -11,14 +11,21 @@ use bs_vcd_header::is_text;
 use std::alloc::Global;
 
 /// The options of each command.
-const OWNED: [(&str, &str); 33] = [
+const OWNED: [(&str, &str); 41] = [
     ("trace", "--all"),
+    ("trace", "--from"),
+    ("trace", "--to"),
+    ("trace", "--last"),
     ("trace", "--only"),
     ("trace", "--csv"),
     ("steps", "--csv"),
+    ("candidates", "--only"),
     ("wave", "--all"),
     ("wave", "--from"),
     ("wave", "--only"),
+    ("gtkw", "--all"),
+    ("gtkw", "--from"),
+    ("gtkw", "--only"),
     ("page", "--signature"),
     ("page", "--only"),
     ("page", "--most"),
@@ -34,6 +41,7 @@ const OWNED: [(&str, &str); 33] = [
     ("dump", "--scope"),
     ("dump", "--map"),
     ("dump", "--signature"),
+    ("dump", "--partial"),
     ("signature", "--bits"),
     ("cnf", "--step"),
     ("lrat", "--step"),

@@ -7,7 +7,7 @@ ghost use Rattle.bs_inspect_usages.specs.Usages.{counted_text, given_of, is_bad_
 use crate::reason::{Bounds, bounds_in, copy_of, is_between, push_bounds};
 use bs_bits::{NoMemory, push_number, push_piece, read_number};
 use bs_inspect_notes::push_name;
-use bs_inspect_words::given_words;
+use bs_inspect_options::given_words;
 use bs_stim::MAX_RUNS;
 use bs_top_words::Given;
 use bs_vcd_header::is_text;
@@ -17,10 +17,17 @@ use std::alloc::Global;
 pub const MANY: u64 = 18_446_744_073_709_551_615;
 
 /// How many words by position each command takes.
-const PLACES: [((&str, &str), Bounds); 21] = [
+const PLACES: [((&str, &str), Bounds); 26] = [
     (("flops", ""), Bounds { least: 1, most: 1 }),
     (
         ("keys", ""),
+        Bounds {
+            least: 2,
+            most: MANY,
+        },
+    ),
+    (
+        ("seen", ""),
         Bounds {
             least: 2,
             most: MANY,
@@ -30,7 +37,9 @@ const PLACES: [((&str, &str), Bounds); 21] = [
     (("stats", ""), Bounds { least: 1, most: 1 }),
     (("trace", ""), Bounds { least: 2, most: 2 }),
     (("steps", ""), Bounds { least: 1, most: 1 }),
+    (("candidates", ""), Bounds { least: 2, most: 2 }),
     (("wave", ""), Bounds { least: 2, most: 2 }),
+    (("gtkw", ""), Bounds { least: 3, most: 3 }),
     (("page", ""), Bounds { least: 2, most: 2 }),
     (
         ("stimulus", ""),
@@ -49,11 +58,13 @@ const PLACES: [((&str, &str), Bounds); 21] = [
     (("dump", ""), Bounds { least: 2, most: 2 }),
     (("signature", ""), Bounds { least: 2, most: 2 }),
     (("unscan", ""), Bounds { least: 3, most: 3 }),
+    (("bench", ""), Bounds { least: 4, most: 4 }),
     (("cnf", ""), Bounds { least: 3, most: 3 }),
     (("lrat", ""), Bounds { least: 3, most: 3 }),
     (("reach-cnf", ""), Bounds { least: 3, most: 3 }),
     (("reach-lrat", ""), Bounds { least: 3, most: 3 }),
     (("novel", ""), Bounds { least: 3, most: 3 }),
+    (("near", ""), Bounds { least: 3, most: 3 }),
     (("why", ""), Bounds { least: 3, most: 3 }),
     (("help", ""), Bounds { least: 0, most: 0 }),
     (("version", ""), Bounds { least: 0, most: 0 }),

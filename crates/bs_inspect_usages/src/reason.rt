@@ -11,7 +11,7 @@ use crate::positions::placed_sentence;
 use crate::usage::option_name;
 use bs_bits::{NoMemory, push_number, push_piece, read_number};
 use bs_inspect_notes::push_word;
-use bs_inspect_words::{MAX_DEPTH, MAX_DRAWN, MAX_LINES};
+use bs_inspect_options::{MAX_DEPTH, MAX_DRAWN, MAX_LINES};
 use bs_net_names::first_split;
 use bs_stim::MAX_CYCLES;
 use bs_top_words::{MAX_BITS, MAX_BOUND, MAX_STEPS};
@@ -29,7 +29,7 @@ pub struct Bounds {
 pub const LAST_TIME: u64 = 18_446_744_073_709_551_615;
 
 /// The numbers that options of commands take.
-const RANGES: [((&str, &str), Bounds); 12] = [
+const RANGES: [((&str, &str), Bounds); 16] = [
     (
         ("signature", "--bits"),
         Bounds {
@@ -38,7 +38,35 @@ const RANGES: [((&str, &str), Bounds); 12] = [
         },
     ),
     (
+        ("trace", "--from"),
+        Bounds {
+            least: 0,
+            most: MAX_CYCLES as u64,
+        },
+    ),
+    (
+        ("trace", "--to"),
+        Bounds {
+            least: 0,
+            most: MAX_CYCLES as u64,
+        },
+    ),
+    (
+        ("trace", "--last"),
+        Bounds {
+            least: 1,
+            most: MAX_CYCLES as u64,
+        },
+    ),
+    (
         ("wave", "--from"),
+        Bounds {
+            least: 0,
+            most: MAX_CYCLES as u64,
+        },
+    ),
+    (
+        ("gtkw", "--from"),
         Bounds {
             least: 0,
             most: MAX_CYCLES as u64,

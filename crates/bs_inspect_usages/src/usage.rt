@@ -15,19 +15,31 @@ use bs_note_files::pair_note;
 use std::alloc::Global;
 
 /// The commands, and how the words of each stand.
-const USAGES: [(&str, &str); 21] = [
+const USAGES: [(&str, &str); 26] = [
     ("flops", "usage: backspace_inspect flops NETLIST"),
     ("keys", "usage: backspace_inspect keys NETLIST NAME .."),
+    (
+        "seen",
+        "usage: backspace_inspect seen NETLIST NAME=VALUE ..",
+    ),
     ("inputs", "usage: backspace_inspect inputs NETLIST"),
     ("stats", "usage: backspace_inspect stats NETLIST"),
     (
         "trace",
-        "usage: backspace_inspect trace NETLIST REPORT [--all] [--only NAME ..] [--csv]",
+        "usage: backspace_inspect trace NETLIST REPORT [--all] [--from I] [--to J] [--last N] [--only NAME ..] [--csv]",
     ),
     ("steps", "usage: backspace_inspect steps REPORT [--csv]"),
     (
+        "candidates",
+        "usage: backspace_inspect candidates NETLIST REPORT [--only NAME ..]",
+    ),
+    (
         "wave",
         "usage: backspace_inspect wave NETLIST REPORT [--all] [--from CYCLE] [--only NAME ..]",
+    ),
+    (
+        "gtkw",
+        "usage: backspace_inspect gtkw NETLIST REPORT WAVE [--all] [--from CYCLE] [--only NAME ..]",
     ),
     (
         "page",
@@ -43,7 +55,7 @@ const USAGES: [(&str, &str); 21] = [
     ),
     (
         "dump",
-        "usage: backspace_inspect dump NETLIST VCD --cycle N|--time T [--clock NAME] [--scope PATH] [--map FILE] [--signature FILE]",
+        "usage: backspace_inspect dump NETLIST VCD --cycle N|--time T [--clock NAME] [--scope PATH] [--map FILE] [--signature FILE] [--partial]",
     ),
     (
         "signature",
@@ -52,6 +64,10 @@ const USAGES: [(&str, &str); 21] = [
     (
         "unscan",
         "usage: backspace_inspect unscan NETLIST ORDER BITS",
+    ),
+    (
+        "bench",
+        "usage: backspace_inspect bench NETLIST STIMULUS REPORT TOP",
     ),
     (
         "cnf",
@@ -74,6 +90,10 @@ const USAGES: [(&str, &str); 21] = [
         "usage: backspace_inspect novel NETLIST STIMULUS RUN [--most N]",
     ),
     (
+        "near",
+        "usage: backspace_inspect near NETLIST STIMULUS DUMP",
+    ),
+    (
         "why",
         "usage: backspace_inspect why NETLIST REPORT NAME [--at CYCLE] [--depth N] [--flops] [--all] [--csv]",
     ),
@@ -82,7 +102,7 @@ const USAGES: [(&str, &str); 21] = [
 ];
 
 /// The options of all commands.
-const OPTIONS: [&[u8]; 17] = [
+const OPTIONS: [&[u8]; 20] = [
     b"--all",
     b"--only",
     b"--clock",
@@ -91,6 +111,8 @@ const OPTIONS: [&[u8]; 17] = [
     b"--bits",
     b"--csv",
     b"--from",
+    b"--to",
+    b"--last",
     b"--cycle",
     b"--time",
     b"--signature",
@@ -99,29 +121,35 @@ const OPTIONS: [&[u8]; 17] = [
     b"--at",
     b"--depth",
     b"--flops",
+    b"--partial",
     b"--length",
 ];
 
 /// The commands.
-const COMMANDS: [&[u8]; 21] = [
+const COMMANDS: [&[u8]; 26] = [
     b"flops",
     b"keys",
+    b"seen",
     b"inputs",
     b"stats",
     b"trace",
     b"steps",
+    b"candidates",
     b"wave",
+    b"gtkw",
     b"page",
     b"stimulus",
     b"check",
     b"dump",
     b"signature",
     b"unscan",
+    b"bench",
     b"cnf",
     b"lrat",
     b"reach-cnf",
     b"reach-lrat",
     b"novel",
+    b"near",
     b"why",
     b"help",
     b"version",

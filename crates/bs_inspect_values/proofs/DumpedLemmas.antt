@@ -11,6 +11,7 @@ use Rattle.bs_net.specs.declared.net.NetId.{NetId}
 use Rattle.bs_net.specs.declared.net.Flop.{Flop}
 use Rattle.bs_net.specs.Netlist.{circuit_of}
 use Rattle.bs_net.specs.Parts.{Parts, key_at}
+use Rattle.bs_vcd.specs.declared.cycles.MarkedStates.{MarkedStates}
 use Rattle.bs_inspect_report.specs.Keys.{flop_keys}
 use Rattle.bs_top_plan.specs.declared.diagnostic.WalkStop.{WalkStop}
 use Rattle.bs_top_files.specs.Refusals.{with_reason}
@@ -33,13 +34,13 @@ clock_past r parts clock same is le = sym (get_or_past r.names clock.0 [] le) �
 abbrev Texts : Type 0
 Texts = List (Bor (List ℕ))
 
-pub flops_wide : (keys slice : Texts) (raw : Parts) (r : Result (List (List Bool)) WalkStop) → slice ≡ keys → map (λ k. k.now) keys ≡ flop_keys raw →
-    IfOk r (λ states. All (λ s. length s ≡ length slice) states) → IfOk r (λ states. All (λ s. length s ≡ length raw.flops) states)
+pub flops_wide : (keys slice : Texts) (raw : Parts) (r : Result MarkedStates WalkStop) → slice ≡ keys → map (λ k. k.now) keys ≡ flop_keys raw →
+    IfOk r (λ taken. All (λ s. length s ≡ length slice) taken.states) → IfOk r (λ taken. All (λ s. length s ≡ length raw.flops) taken.states)
 flops_wide keys slice raw r same is wide =
     let shown : Bor (List ℕ) → List ℕ = λ (k : Bor (List ℕ)). k.now in
     let each : length slice ≡ length raw.flops =
     ap length same ∙ (sym (length-map keys shown) ∙ (ap length is ∙ length-map raw.flops (λ (f : Flop). key_at raw f.q.0))) in
-    subst (λ (n : ℕ). IfOk r (λ states. All (λ s. length s ≡ n) states)) each wide
+    subst (λ (n : ℕ). IfOk r (λ taken. All (λ s. length s ≡ n) taken.states)) each wide
 
 -- a name for each key
 each_named : (keys names : List (List ℕ)) (r : Result (List Entry) MapFault) → with_reason map_reason (r >>= λ es. Ok (names_of es keys)) ≡ Ok names →
@@ -47,16 +48,16 @@ each_named : (keys names : List (List ℕ)) (r : Result (List Entry) MapFault) �
 each_named keys names (Ok es) e = IfOk-at_ok (λ (ns : List (List ℕ)). length ns ≡ length keys) e (length-map keys (name_of es))
 each_named keys names (Err fault) e = absurd cc
 
-pub names_wide : (keys names slice : Texts) (text : List ℕ) (r : Result (List (List Bool)) WalkStop) → slice ≡ names →
+pub names_wide : (keys names slice : Texts) (text : List ℕ) (r : Result MarkedStates WalkStop) → slice ≡ names →
     names_read (map (λ k. k.now) keys) text ≡ Ok (map (λ n. n.now) names) →
-    IfOk r (λ states. All (λ s. length s ≡ length slice) states) → IfOk r (λ states. All (λ s. length s ≡ length keys) states)
+    IfOk r (λ taken. All (λ s. length s ≡ length slice) taken.states) → IfOk r (λ taken. All (λ s. length s ≡ length keys) taken.states)
 names_wide keys names slice text r same is wide =
     let shown : Bor (List ℕ) → List ℕ = λ (k : Bor (List ℕ)). k.now in
     let each : length slice ≡ length keys =
     ap length same
     ∙ (sym (length-map names shown)
     ∙ (each_named (map shown keys) (map shown names) (entries_from (map shown keys) [] (lines_of text)) is ∙ length-map keys shown)) in
-    subst (λ (n : ℕ). IfOk r (λ states. All (λ s. length s ≡ n) states)) each wide
+    subst (λ (n : ℕ). IfOk r (λ taken. All (λ s. length s ≡ n) taken.states)) each wide
 
 pub choice_wide : (states : List (List Bool)) (n m : ℕ) → n ≡ m → All (λ s. length s ≡ m) states → All (λ s. length s ≡ n) states
 choice_wide states n m e all = subst (λ (k : ℕ). All (λ s. length s ≡ k) states) (sym e) all

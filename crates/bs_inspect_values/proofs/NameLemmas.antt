@@ -3,24 +3,23 @@ use Rattle.std.proofs.Common.{◌≡◌, ℕ, ◌<◌, ◌≤◌, ◌+◌, Bool,
 use Rattle.std.proofs.Common.{Option, Some, Result, Ok, Err, refl, ap, sym, ◌∙◌, ◌⊎◌, inl, inr}
 use Rattle.std.specs.Borrow.{Bor}
 use Rattle.std.specs.List.{list_any}
-use Rattle.std.specs.Str.{bytes_eq}
 use Rattle.std.proofs.lemmas.List.{drop_more, drop_all, take_more, map-append, length-map}
 use Rattle.bs_bits.specs.Lines.{lines_of, words_of}
 use Rattle.bs_bits.specs.Reading.{◌>>=◌}
 use Rattle.bs_inspect_values.specs.declared.entry.Entry.{Entry as CodeEntry}
 use Rattle.bs_inspect_values.specs.declared.fault.MapFault.{MapFault}
 use Rattle.bs_inspect_values.specs.declared.fault.MapFault.TheVariants.{NoMemory, Unknown, Twice}
-use Rattle.bs_inspect_values.specs.Names.{Entry, entry_in, entry_at, entry_of, entries_from, has_key, name_of, names_of}
+use Rattle.bs_inspect_values.specs.Names.{Entry, entry_in, entry_at, entry_of, entries_from, has_key, name_of, names_of, same_key}
 
 pub any_key : (keys : List (Bor (List ℕ))) (key : List ℕ) →
-    list_any (λ k. bytes_eq k.now key) keys ≡ list_any (λ k. bytes_eq k key) (map (λ k. k.now) keys)
+    list_any (λ k. same_key k.now key) keys ≡ list_any (λ k. same_key k key) (map (λ k. k.now) keys)
 any_key [] key = refl
-any_key (k ∷ keys) key = ap (λ (b : Bool). bytes_eq k.now key || b) (any_key keys key)
+any_key (k ∷ keys) key = ap (λ (b : Bool). same_key k.now key || b) (any_key keys key)
 
 pub any_entry : (entries : List CodeEntry) (key : List ℕ) →
-    list_any (λ e. bytes_eq e.key.now key) entries ≡ list_any (has_key key) (map entry_in entries)
+    list_any (λ e. same_key e.key.now key) entries ≡ list_any (has_key key) (map entry_in entries)
 any_entry [] key = refl
-any_entry (e ∷ entries) key = ap (λ (b : Bool). bytes_eq e.key.now key || b) (any_entry entries key)
+any_entry (e ∷ entries) key = ap (λ (b : Bool). same_key e.key.now key || b) (any_entry entries key)
 
 -- ---- the entry of a line
 
@@ -28,19 +27,19 @@ abbrev entry_there : List (Bor (List ℕ)) → List CodeEntry → Option Entry �
 entry_there keys es o = entry_at (map (λ k. k.now) keys) (map entry_in es) o
 
 pub entry_unknown : (keys : List (Bor (List ℕ))) (es : List CodeEntry) (o : Option Entry) (e : Entry) → Some e ≡ o →
-    list_any (λ k. bytes_eq k.now e.key) keys ≡ false → entry_at (map (λ k. k.now) keys) (map entry_in es) o ≡ Err (Unknown (length es + 1))
+    list_any (λ k. same_key k.now e.key) keys ≡ false → entry_at (map (λ k. k.now) keys) (map entry_in es) o ≡ Err (Unknown (length es + 1))
 entry_unknown keys es o e is not =
     ap (entry_there keys es) (sym is) ∙ (rw (sym (any_key keys e.key), not) (ap (λ n. Err (Unknown (n + 1))) (length-map es entry_in)))
 
 pub entry_twice : (keys : List (Bor (List ℕ))) (es : List CodeEntry) (o : Option Entry) (e : Entry) → Some e ≡ o →
-    list_any (λ k. bytes_eq k.now e.key) keys ≡ true → list_any (λ x. bytes_eq x.key.now e.key) es ≡ true →
+    list_any (λ k. same_key k.now e.key) keys ≡ true → list_any (λ x. same_key x.key.now e.key) es ≡ true →
     entry_at (map (λ k. k.now) keys) (map entry_in es) o ≡ Err (Twice (length es + 1))
 entry_twice keys es o e is there again =
     ap (entry_there keys es) (sym is)
     ∙ (rw (sym (any_key keys e.key), there, sym (any_entry es e.key), again) (ap (λ n. Err (Twice (n + 1))) (length-map es entry_in)))
 
 pub entry_new : (keys : List (Bor (List ℕ))) (es : List CodeEntry) (o : Option Entry) (e : Entry) → Some e ≡ o →
-    list_any (λ k. bytes_eq k.now e.key) keys ≡ true → list_any (λ x. bytes_eq x.key.now e.key) es ≡ false →
+    list_any (λ k. same_key k.now e.key) keys ≡ true → list_any (λ x. same_key x.key.now e.key) es ≡ false →
     entry_at (map (λ k. k.now) keys) (map entry_in es) o ≡ Ok e
 entry_new keys es o e is there new =
     ap (entry_there keys es) (sym is) ∙ (rw (sym (any_key keys e.key), there, sym (any_entry es e.key), new) refl)
@@ -76,12 +75,12 @@ abbrev name : List ℕ → List CodeEntry → List ℕ
 name key es = name_of (map entry_in es) key
 
 pub name_more : (key : List ℕ) (es : List CodeEntry) (i : ℕ) (d : CodeEntry) → i < length es →
-    name_of (map entry_in es) key ≡ name_of (map entry_in (drop i es)) key → bytes_eq (get_or es i d).key.now key ≡ false →
+    name_of (map entry_in es) key ≡ name_of (map entry_in (drop i es)) key → same_key (get_or es i d).key.now key ≡ false →
     name_of (map entry_in es) key ≡ name_of (map entry_in (drop (i + 1) es)) key
 name_more key es i d lt e not = e ∙ (ap (name key) (drop_more es i d lt) ∙ rw not refl)
 
 pub name_found : (key : List ℕ) (es : List CodeEntry) (i : ℕ) (d : CodeEntry) → i < length es →
-    name_of (map entry_in es) key ≡ name_of (map entry_in (drop i es)) key → bytes_eq (get_or es i d).key.now key ≡ true →
+    name_of (map entry_in es) key ≡ name_of (map entry_in (drop i es)) key → same_key (get_or es i d).key.now key ≡ true →
     (get_or es i d).name.now ≡ name_of (map entry_in es) key
 name_found key es i d lt e is = sym (e ∙ (ap (name key) (drop_more es i d lt) ∙ rw is refl))
 

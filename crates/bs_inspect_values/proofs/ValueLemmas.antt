@@ -15,13 +15,13 @@ use Rattle.bs_inspect_notes.specs.Simulations.{clock_text, cycles_text, input_te
 use Rattle.bs_top_plan.specs.Plan.{Reason, exactly, Says}
 use Rattle.bs_top_files.specs.NoteCases.{HasNote, IsNoteAtLine, NoteCase, NoteSays}
 use Rattle.bs_top_files.specs.Noting.{noted_by}
-use Rattle.bs_inspect_values.specs.Saying.{clock_said, declarations, declared_or, few_noted, foreign_or, input_said, lines_noted, states_noted, vcd_note_reason}
+use Rattle.bs_inspect_values.specs.Saying.{clock_said, declarations, declared_or, few_noted, foreign_or, input_said, lines_noted, states_noted, taken_in, vcd_note_reason}
 use Rattle.bs_vcd_header.specs.declared.fault.VcdFault.{VcdFault}
 use Rattle.bs_vcd_header.specs.declared.fault.VcdFault.TheVariants.{NoMemory as Want}
 use Rattle.bs_vcd_header.specs.Sources.{scope_of}
 use Rattle.bs_vcd.specs.declared.cycles.When.{When}
+use Rattle.bs_vcd.specs.declared.cycles.MarkedStates.{MarkedStates}
 use Rattle.bs_vcd.specs.declared.sampling.SampledLines.{SampledLines}
-use Rattle.bs_vcd.specs.Cycles.{states_in}
 use Rattle.bs_vcd.specs.Stimulus.{stimulus_in}
 use Rattle.bs_top_plan.specs.declared.walk.Refusal.{Refusal}
 use Rattle.bs_top_plan.specs.declared.walk.Refusal.TheVariants as Q
@@ -33,6 +33,9 @@ use Rattle.bs_inspect_values.specs.Simulated.{few_lines, lines_read}
 
 abbrev Lines : Type 0
 Lines = Result (List (List Bool)) VcdFault
+
+abbrev Taken : Type 0
+Taken = Result MarkedStates VcdFault
 
 abbrev Timed : Type 0
 Timed = Result SampledLines VcdFault
@@ -109,46 +112,46 @@ few_said {T = T} view path sampled q many h =
 -- ---- states
 
 -- the states of the values
-pub states_ok : {T : Type 0} (view : T → List (List Bool)) (keys names : List (List ℕ)) (scope : Option (List ℕ)) (clock : List ℕ) (at : When) (back : ℕ)
-    (bytes : List ℕ) (states : T) → states_in bytes scope clock names at back ≡ Ok (view states) →
-    Reads CheckSays view (states_read keys names scope clock at back bytes) (Ok states)
-states_ok view keys names scope clock at back bytes states e =
-    subst (λ (x : Lines). Reads CheckSays view (with_reason (vcd_reason keys) x) (Ok states)) (sym e) refl
+pub states_ok : {T : Type 0} (view : T → MarkedStates) (keys names : List (List ℕ)) (scope : Option (List ℕ)) (clock : List ℕ) (at : When) (back : ℕ) (partial : Bool)
+    (bytes : List ℕ) (states : T) → taken_in partial bytes scope clock names at back ≡ Ok (view states) →
+    Reads CheckSays view (states_read keys names scope clock at back partial bytes) (Ok states)
+states_ok view keys names scope clock at back partial bytes states e =
+    subst (λ (x : Taken). Reads CheckSays view (with_reason (vcd_reason keys) x) (Ok states)) (sym e) refl
 
-states_refused : {T : Type 0} (view : T → List (List Bool)) (keys : List (List ℕ)) (fault : VcdFault) (q : Refusal) → HasWords (vcd_words keys fault) q →
+states_refused : {T : Type 0} (view : T → MarkedStates) (keys : List (List ℕ)) (fault : VcdFault) (q : Refusal) → HasWords (vcd_words keys fault) q →
     Reads CheckSays view (with_reason (vcd_reason keys) (Err fault)) (Err q)
 states_refused view keys fault Q.NoMemory h = tt
 states_refused view keys fault (Q.Why why) h = h
 
 -- the words of a fault of the values
-pub states_err : {T : Type 0} (view : T → List (List Bool)) (keys names : List (List ℕ)) (scope : Option (List ℕ)) (clock : List ℕ) (at : When) (back : ℕ)
-    (bytes : List ℕ) (fault : VcdFault) (q : Refusal) → (fault ≡ Want) ⊎ (states_in bytes scope clock names at back ≡ Err fault) →
+pub states_err : {T : Type 0} (view : T → MarkedStates) (keys names : List (List ℕ)) (scope : Option (List ℕ)) (clock : List ℕ) (at : When) (back : ℕ) (partial : Bool)
+    (bytes : List ℕ) (fault : VcdFault) (q : Refusal) → (fault ≡ Want) ⊎ (taken_in partial bytes scope clock names at back ≡ Err fault) →
     HasWords (vcd_words keys fault) q → (fault ≡ Want → q ≡ Q.NoMemory) →
-    Reads CheckSays view (states_read keys names scope clock at back bytes) (Err q)
-states_err {T = T} view keys names scope clock at back bytes fault q (inl want) words wants =
-    subst (λ (x : Refusal). Reads {T = T} CheckSays view (states_read keys names scope clock at back bytes) (Err x)) (sym (wants want)) tt
-states_err {T = T} view keys names scope clock at back bytes fault q (inr e) words wants =
-    subst (λ (x : Lines). Reads {T = T} CheckSays view (with_reason (vcd_reason keys) x) (Err q)) (sym e) (states_refused view keys fault q words)
+    Reads CheckSays view (states_read keys names scope clock at back partial bytes) (Err q)
+states_err {T = T} view keys names scope clock at back partial bytes fault q (inl want) words wants =
+    subst (λ (x : Refusal). Reads {T = T} CheckSays view (states_read keys names scope clock at back partial bytes) (Err x)) (sym (wants want)) tt
+states_err {T = T} view keys names scope clock at back partial bytes fault q (inr e) words wants =
+    subst (λ (x : Taken). Reads {T = T} CheckSays view (with_reason (vcd_reason keys) x) (Err q)) (sym e) (states_refused view keys fault q words)
 
-pub states_noted_ok : {T : Type 0} (view : T → List (List Bool)) (path : List ℕ) (keys names : List (List ℕ)) (scope : Option (List ℕ)) (clock : List ℕ)
-    (at : When) (back : ℕ) (text : List ℕ) (states : T) → states_in text scope clock names at back ≡ Ok (view states) →
-    Reads NoteSays view (states_noted path keys names scope clock at back text) (Ok states)
-states_noted_ok view path keys names scope clock at back text states e =
-    subst (λ (x : Lines). Reads NoteSays view (noted_by (vcd_note_reason Flops path text keys names scope clock) x) (Ok states)) (sym e) refl
+pub states_noted_ok : {T : Type 0} (view : T → MarkedStates) (path : List ℕ) (keys names : List (List ℕ)) (scope : Option (List ℕ)) (clock : List ℕ)
+    (at : When) (back : ℕ) (partial : Bool) (text : List ℕ) (states : T) → taken_in partial text scope clock names at back ≡ Ok (view states) →
+    Reads NoteSays view (states_noted path keys names scope clock at back partial text) (Ok states)
+states_noted_ok view path keys names scope clock at back partial text states e =
+    subst (λ (x : Taken). Reads NoteSays view (noted_by (vcd_note_reason Flops path text keys names scope clock) x) (Ok states)) (sym e) refl
 
-states_noted_refused : {T : Type 0} (view : T → List (List Bool)) (reason : Reason NoteCase) (q : Refusal) → HasNote reason q →
+states_noted_refused : {T : Type 0} (view : T → MarkedStates) (reason : Reason NoteCase) (q : Refusal) → HasNote reason q →
     Reads {R = NoteCase} {T = T} NoteSays view (Err reason) (Err q)
 states_noted_refused view reason Q.NoMemory h = tt
 states_noted_refused view reason (Q.Why why) h = h
 
-pub states_noted_err : {T : Type 0} (view : T → List (List Bool)) (path : List ℕ) (keys names : List (List ℕ)) (scope : Option (List ℕ)) (clock : List ℕ)
-    (at : When) (back : ℕ) (text : List ℕ) (fault : VcdFault) (q : Refusal) → (fault ≡ Want) ⊎ (states_in text scope clock names at back ≡ Err fault) →
+pub states_noted_err : {T : Type 0} (view : T → MarkedStates) (path : List ℕ) (keys names : List (List ℕ)) (scope : Option (List ℕ)) (clock : List ℕ)
+    (at : When) (back : ℕ) (partial : Bool) (text : List ℕ) (fault : VcdFault) (q : Refusal) → (fault ≡ Want) ⊎ (taken_in partial text scope clock names at back ≡ Err fault) →
     HasNote (vcd_note_reason Flops path text keys names scope clock fault) q → (fault ≡ Want → q ≡ Q.NoMemory) →
-    Reads NoteSays view (states_noted path keys names scope clock at back text) (Err q)
-states_noted_err {T = T} view path keys names scope clock at back text fault q (inl want) note wants =
-    subst (λ (x : Refusal). Reads {T = T} NoteSays view (states_noted path keys names scope clock at back text) (Err x)) (sym (wants want)) tt
-states_noted_err {T = T} view path keys names scope clock at back text fault q (inr e) note wants =
-    subst (λ (x : Lines). Reads {T = T} NoteSays view (noted_by (vcd_note_reason Flops path text keys names scope clock) x) (Err q)) (sym e)
+    Reads NoteSays view (states_noted path keys names scope clock at back partial text) (Err q)
+states_noted_err {T = T} view path keys names scope clock at back partial text fault q (inl want) note wants =
+    subst (λ (x : Refusal). Reads {T = T} NoteSays view (states_noted path keys names scope clock at back partial text) (Err x)) (sym (wants want)) tt
+states_noted_err {T = T} view path keys names scope clock at back partial text fault q (inr e) note wants =
+    subst (λ (x : Taken). Reads {T = T} NoteSays view (noted_by (vcd_note_reason Flops path text keys names scope clock) x) (Err q)) (sym e)
     (states_noted_refused view (vcd_note_reason Flops path text keys names scope clock fault) q note)
 
 -- ---- what is declared

@@ -6,7 +6,7 @@ use Rattle.bs_scan.specs.Choice.{Chosen, depth_of}
 use Rattle.bs_inspect_notes.specs.declared.name.Subject.TheVariants.{Flops}
 use Rattle.bs_inspect_report.specs.Keys.{flop_keys}
 use Rattle.bs_vcd.specs.declared.cycles.When.{When}
-use Rattle.bs_vcd.specs.Cycles.{states_in}
+use Rattle.bs_vcd.specs.declared.cycles.MarkedStates.{MarkedStates}
 use Rattle.bs_top_plan.specs.declared.file.File.TheVariants as files
 use Rattle.bs_top_plan.specs.Plan.{Reason, Plan, ◌>>=◌, end, fetched, read_as}
 use Rattle.bs_top_files.specs.Entry.{netlist_of, signature_of}
@@ -17,67 +17,70 @@ use Rattle.bs_inspect_values.specs.declared.dumping.Taking.{Taking as CodeTaking
 use Rattle.bs_inspect_values.specs.declared.dumping.DumpFiles.{DumpFiles as CodeDumpFiles}
 use Rattle.bs_inspect_values.specs.declared.ready.Dumped.{Dumped as CodeDumped}
 use Rattle.bs_inspect_values.specs.declared.ready.Dumped.TheVariants as D
-use Rattle.bs_inspect_values.specs.Saying.{names_noted, states_noted}
+use Rattle.bs_inspect_values.specs.Saying.{names_noted, states_noted, taken_in}
 use Rattle.bs_inspect_values.specs.Simulated.{clock_key, names_read}
 use Rattle.bs_inspect_values.specs.Words.{vcd_reason}
 
--- the states of a cycle and of so many before it, where the flip-flops with these keys have those names
-abbrev pub states_read : (keys names : List (List ℕ)) (scope : Option (List ℕ)) (clock : List ℕ) → When → ℕ → List ℕ →
-    Result (List (List Bool)) (Reason Case)
-states_read keys names scope clock at back bytes = with_reason (vcd_reason keys) (states_in bytes scope clock names at back)
+-- the states of a cycle and of so many before it, where the flip-flops with these keys have those names; bits of the last may be unknown,
+-- where that is asked for
+abbrev pub states_read : (keys names : List (List ℕ)) (scope : Option (List ℕ)) (clock : List ℕ) → When → ℕ → (partial : Bool) → List ℕ →
+    Result MarkedStates (Reason Case)
+states_read keys names scope clock at back partial bytes = with_reason (vcd_reason keys) (taken_in partial bytes scope clock names at back)
 
--- the file of values with the clock and the scope, and the moment
+-- the file of values with the clock and the scope, the moment, and whether bits may be unknown there
 pub record Taking : Type 0 where
   pub vcd : List ℕ
   pub clock : List ℕ
   pub scope : Option (List ℕ)
   pub at : When
   pub back : ℕ
+  pub partial : Bool
 
 abbrev pub taking_in : CodeTaking → Taking
-taking_in t = record { vcd = t.vcd.now; clock = t.clock.now; scope = option_map (λ s. s.now) t.scope; at = t.at; back = t.back }
+taking_in t =
+    record { vcd = t.vcd.now; clock = t.clock.now; scope = option_map (λ s. s.now) t.scope; at = t.at; back = t.back; partial = t.partial }
 
-abbrev pub states_of : (keys names : List (List ℕ)) → Taking → Plan Case (List (List Bool))
+abbrev pub states_of : (keys names : List (List ℕ)) → Taking → Plan Case MarkedStates
 states_of keys names t = do
   bytes ← fetched files.Vcd t.vcd
-  read_as files.Vcd (states_read keys names t.scope t.clock t.at t.back bytes)
+  read_as files.Vcd (states_read keys names t.scope t.clock t.at t.back t.partial bytes)
 
-abbrev pub states_looked : (keys names : List (List ℕ)) → Taking → Plan NoteCase (List (List Bool))
+abbrev pub states_looked : (keys names : List (List ℕ)) → Taking → Plan NoteCase MarkedStates
 states_looked keys names t = do
   text ← fetched files.Vcd t.vcd
-  read_as files.Vcd (states_noted t.vcd keys names t.scope t.clock t.at t.back text)
+  read_as files.Vcd (states_noted t.vcd keys names t.scope t.clock t.at t.back t.partial text)
 
 -- once the file of names is fetched
-abbrev pub states_step : List (List ℕ) → List ℕ → Taking → Plan Case (List (List Bool))
+abbrev pub states_step : List (List ℕ) → List ℕ → Taking → Plan Case MarkedStates
 states_step keys text t = read_as files.Map (names_read keys text) >>= λ names. states_of keys names t
 
-abbrev pub states_step_looked : List ℕ → List (List ℕ) → List ℕ → Taking → Plan NoteCase (List (List Bool))
+abbrev pub states_step_looked : List ℕ → List (List ℕ) → List ℕ → Taking → Plan NoteCase MarkedStates
 states_step_looked path keys text t = read_as files.Map (names_noted Flops path keys text) >>= λ names. states_looked keys names t
 
 -- a file of names, where there is one, and the values
-abbrev pub taken_of : List (List ℕ) → Option (List ℕ) → Taking → Plan Case (List (List Bool))
+abbrev pub taken_of : List (List ℕ) → Option (List ℕ) → Taking → Plan Case MarkedStates
 taken_of keys None t = states_of keys keys t
 taken_of keys (Some file) t = fetched files.Map file >>= λ text. states_step keys text t
 
-abbrev pub taken_looked : List (List ℕ) → Option (List ℕ) → Taking → Plan NoteCase (List (List Bool))
+abbrev pub taken_looked : List (List ℕ) → Option (List ℕ) → Taking → Plan NoteCase MarkedStates
 taken_looked keys None t = states_looked keys keys t
 taken_looked keys (Some file) t = fetched files.Map file >>= λ text. states_step_looked file keys text t
 
--- what a signature is taken of, where one is asked for, and the last state behind as many as that tells of
+-- what a signature is taken of, where one is asked for, and the last state behind as many as that tells of, with its marks
 pub record Dumped : Type 0 where
   pub choice : Option Chosen
-  pub states : List (List Bool)
+  pub taken : MarkedStates
 
 abbrev pub dumped_in : CodeDumped → Dumped
-dumped_in (D.Plain t) = record { choice = None; states = t.states }
-dumped_in (D.Whole t) = record { choice = Some t.choice; states = t.states }
+dumped_in (D.Plain t) = record { choice = None; taken = t.taken }
+dumped_in (D.Whole t) = record { choice = Some t.choice; taken = t.taken }
 
 -- how many earlier states a dump tells of
 abbrev pub back_of : Option Chosen → ℕ
 back_of None = 0
 back_of (Some choice) = depth_of choice
 
--- the files of a dump, the clock where one is asked for, the scope and the moment
+-- the files of a dump, the clock where one is asked for, the scope, the moment, and whether bits may be unknown there
 pub record DumpFiles : Type 0 where
   pub netlist : List ℕ
   pub vcd : List ℕ
@@ -86,6 +89,7 @@ pub record DumpFiles : Type 0 where
   pub scope : Option (List ℕ)
   pub names : Option (List ℕ)
   pub signature : Option (List ℕ)
+  pub partial : Bool
 
 abbrev pub files_in : CodeDumpFiles → DumpFiles
 files_in t = record {
@@ -96,6 +100,7 @@ files_in t = record {
   scope = option_map (λ s. s.now) t.scope;
   names = option_map (λ s. s.now) t.names;
   signature = option_map (λ s. s.now) t.signature;
+  partial = t.partial;
 }
 
 -- the clock that is asked for, or that of the netlist
@@ -104,16 +109,17 @@ clock_or raw None = clock_key raw
 clock_or raw (Some clock) = clock
 
 abbrev pub taking_of : DumpFiles → Parts → ℕ → Taking
-taking_of f raw back = record { vcd = f.vcd; clock = clock_or raw f.clock; scope = f.scope; at = f.at; back = back }
+taking_of f raw back =
+    record { vcd = f.vcd; clock = clock_or raw f.clock; scope = f.scope; at = f.at; back = back; partial = f.partial }
 
 -- behind the signature
 abbrev pub dump_step : DumpFiles → Parts → Option Chosen → Plan Case Dumped
 dump_step f raw choice =
-    taken_of (flop_keys raw) f.names (taking_of f raw (back_of choice)) >>= λ states. end record { choice = choice; states = states }
+    taken_of (flop_keys raw) f.names (taking_of f raw (back_of choice)) >>= λ taken. end record { choice = choice; taken = taken }
 
 abbrev pub dump_step_looked : DumpFiles → Parts → Option Chosen → Plan NoteCase Dumped
 dump_step_looked f raw choice =
-    taken_looked (flop_keys raw) f.names (taking_of f raw (back_of choice)) >>= λ states. end record { choice = choice; states = states }
+    taken_looked (flop_keys raw) f.names (taking_of f raw (back_of choice)) >>= λ taken. end record { choice = choice; taken = taken }
 
 -- behind the netlist: the signature, where there is one
 abbrev pub chosen_step : DumpFiles → Parts → Option (List ℕ) → Plan Case Dumped

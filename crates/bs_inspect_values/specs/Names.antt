@@ -2,9 +2,10 @@
 use Rattle.std.specs.Prelude.{ℕ, ◌+◌, Bool, not, ◌&&◌, List, [], ◌∷◌, ◌++◌, length, map, Option, Some, None, Result, Ok, Err, if◌then◌else◌}
 use Rattle.std.specs.List.{find, list_any}
 use Rattle.std.specs.Option.{option_map, unwrap_or}
-use Rattle.std.specs.Str.{bytes_eq}
 use Rattle.bs_bits.specs.Lines.{is_name, lines_of, words_of}
 use Rattle.bs_bits.specs.Reading.{◌>>=◌}
+use Rattle.bs_net_names.specs.Keys.{key_parts}
+use Rattle.bs_net_names.specs.Rtl.{same_name}
 use Rattle.bs_inspect_values.specs.declared.entry.Entry.{Entry as CodeEntry}
 use Rattle.bs_inspect_values.specs.declared.fault.MapFault.{MapFault}
 use Rattle.bs_inspect_values.specs.declared.fault.MapFault.TheVariants.{Line, Unknown, Twice}
@@ -30,14 +31,18 @@ abbrev pub entry_of : List (List ℕ) → Option Entry
 entry_of (key ∷ name ∷ []) = named key name
 entry_of _ = None
 
-abbrev pub has_key : List ℕ → Entry → Bool
-has_key key e = bytes_eq e.key key
+-- whether two keys are one name, as RTL writes it
+abbrev pub same_key : List ℕ → List ℕ → Bool
+same_key one other = same_name (key_parts one) (key_parts other)
 
--- the entry of a line behind these, one a line: its key is that of an input, and none of theirs
+abbrev pub has_key : List ℕ → Entry → Bool
+has_key key e = same_key e.key key
+
+-- the entry of a line behind these, one a line: its key is the name of an input, and that of none of theirs
 abbrev pub entry_at : List (List ℕ) → List Entry → Option Entry → Result Entry MapFault
 entry_at keys earlier None = Err (Line (length earlier + 1))
 entry_at keys earlier (Some e) =
-    if not (list_any (λ k. bytes_eq k e.key) keys) then Err (Unknown (length earlier + 1))
+    if not (list_any (λ k. same_key k e.key) keys) then Err (Unknown (length earlier + 1))
     else (if list_any (has_key e.key) earlier then Err (Twice (length earlier + 1)) else Ok e)
 
 -- an entry for each line, behind these; or the first fault

@@ -1,6 +1,7 @@
 -- What the files of a request are to a note: a value, or the reason of its refusal, whose words are the note.
-use Rattle.std.specs.Prelude.{ℕ, nat_lt, ◌==◌, Bool, true, List, [], ◌++◌, length, codes, Option, Some, None, Result, Ok, Err, if◌then◌else◌}
+use Rattle.std.specs.Prelude.{ℕ, nat_lt, ◌==◌, Bool, true, false, List, [], ◌++◌, length, codes, Option, Some, None, Result, Ok, Err, if◌then◌else◌}
 use Rattle.std.specs.List.{list_any}
+use Rattle.bs_bits.specs.Reading.{◌>>=◌}
 use Rattle.bs_net.specs.Parts.{Parts}
 use Rattle.bs_stim.specs.declared.limits.TheConstants.{MAX_CYCLES}
 use Rattle.bs_net_names.specs.Keys.{key_parts}
@@ -10,8 +11,9 @@ use Rattle.bs_vcd_header.specs.Header.{HeaderDeclarations, nothing_declared}
 use Rattle.bs_vcd_header.specs.Scopes.{declared_of, names_of, scopes_of}
 use Rattle.bs_vcd_header.specs.Sources.{scope_of}
 use Rattle.bs_vcd.specs.declared.cycles.When.{When}
+use Rattle.bs_vcd.specs.declared.cycles.MarkedStates.{MarkedStates}
 use Rattle.bs_vcd.specs.declared.sampling.SampledLines.{SampledLines}
-use Rattle.bs_vcd.specs.Cycles.{states_in}
+use Rattle.bs_vcd.specs.Cycles.{marked_in, states_in}
 use Rattle.bs_vcd.specs.Stimulus.{stimulus_in}
 use Rattle.bs_inspect_report.specs.Keys.{flop_keys, input_keys}
 use Rattle.bs_note_files.specs.Notes.{Saying, saying, file_text}
@@ -101,8 +103,15 @@ abbrev pub lines_noted : (path : List ℕ) (keys names : List (List ℕ)) (scope
 lines_noted path keys names scope clock text =
     few_noted path (noted_by (vcd_note_reason Inputs path text keys names scope clock) (stimulus_in text scope clock names))
 
--- the states of a cycle and of so many before it
-abbrev pub states_noted : (path : List ℕ) (keys names : List (List ℕ)) (scope : Option (List ℕ)) (clock : List ℕ) → When → ℕ → List ℕ →
-    Result (List (List Bool)) (Reason NoteCase)
-states_noted path keys names scope clock at back text =
-    noted_by (vcd_note_reason Flops path text keys names scope clock) (states_in text scope clock names at back)
+abbrev pub whole_states : List (List Bool) → MarkedStates
+whole_states states = record { states = states; marks = [] }
+
+-- the states of a cycle and of so many before it: each bit is known, or those that are not are marked in the last
+abbrev pub taken_in : (partial : Bool) → List ℕ → Option (List ℕ) → List ℕ → List (List ℕ) → When → ℕ → Result MarkedStates VcdFault
+taken_in true text scope clock names at back = marked_in text scope clock names at back
+taken_in false text scope clock names at back = states_in text scope clock names at back >>= λ states. Ok (whole_states states)
+
+abbrev pub states_noted : (path : List ℕ) (keys names : List (List ℕ)) (scope : Option (List ℕ)) (clock : List ℕ) → When → ℕ → (partial : Bool) →
+    List ℕ → Result MarkedStates (Reason NoteCase)
+states_noted path keys names scope clock at back partial text =
+    noted_by (vcd_note_reason Flops path text keys names scope clock) (taken_in partial text scope clock names at back)

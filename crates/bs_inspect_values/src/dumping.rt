@@ -14,18 +14,17 @@ use crate::keys::flop_bytes;
 use crate::mapping::names_or_diagnostic;
 use crate::ready::{Dumped, Signed, Unsigned};
 use crate::values::{Sampling, states_or_diagnostic};
-use bs_bits::{Bits, List};
 use bs_inspect_notes::Subject;
 use bs_net::{NetId, Netlist};
 use bs_outside::Shelf;
 use bs_scan::Choice;
 use bs_top_files::{load_netlist, load_signature};
 use bs_top_plan::{File, JobFault, WalkStop, fetch_file, settle_diagnostic};
-use bs_vcd::When;
+use bs_vcd::{MarkedStates, When};
 use std::alloc::Global;
 
-/// The file of values with the name of the clock there and the path of a scope, where one is asked for; the moment, and how many earlier
-/// states are taken.
+/// The file of values with the name of the clock there and the path of a scope, where one is asked for; the moment, how many earlier
+/// states are taken, and whether bits may be unknown at the moment.
 #[derive(Clone, Copy)]
 pub struct Taking<'a> {
     pub vcd: &'a str,
@@ -33,9 +32,11 @@ pub struct Taking<'a> {
     pub scope: Option<&'a str>,
     pub at: When,
     pub back: u64,
+    pub partial: bool,
 }
 
-/// The names of the files of a dump, the moment, and the clock and the scope, where they are asked for.
+/// The names of the files of a dump, the moment, and the clock and the scope, where they are asked for; and whether bits may be unknown at
+/// the moment.
 #[derive(Clone, Copy)]
 pub struct DumpFiles<'a> {
     pub netlist: &'a str,
@@ -45,6 +46,7 @@ pub struct DumpFiles<'a> {
     pub scope: Option<&'a str>,
     pub names: Option<&'a str>,
     pub signature: Option<&'a str>,
+    pub partial: bool,
 }
 
 // ---- the values
@@ -56,13 +58,13 @@ fn load_states<'a, S: Shelf>(
     keys: &[&'a [u8]],
     names: &[&'a [u8]],
     taking: Taking<'_>,
-) -> Result<List<Bits>, WalkStop>
+) -> Result<MarkedStates, WalkStop>
     ensures walks { WalksDiagnosed CheckSays NoteSays S.held S.faults S.leads shelf.old shelf.new
         (states_of (map (λ k. k.now) keys.now) (map (λ n. n.now) names.now) (taking_in taking.entry))
         (states_looked (map (λ k. k.now) keys.now) (map (λ n. n.now) names.now) (taking_in taking.entry))
-        (λ states. states) (λ states. states) result }
-    ensures some { IfOk result (λ states. 0 < length states) }
-    ensures wide { IfOk result (λ states. All (λ s. length s ≡ length names.now) states) }
+        (λ taken. taken) (λ taken. taken) result }
+    ensures some { IfOk result (λ taken. 0 < length taken.states) }
+    ensures wide { IfOk result (λ taken. All (λ s. length s ≡ length names.now) taken.states) }
 {
     let sampling = Sampling {
         vcd: taking.vcd,
@@ -72,7 +74,16 @@ fn load_states<'a, S: Shelf>(
     let bytes = fetch_file(alloc, shelf, File::Vcd, taking.vcd)?;
     settle_diagnostic(
         File::Vcd,
-        states_or_diagnostic(alloc, &bytes, keys, names, sampling, taking.at, taking.back),
+        states_or_diagnostic(
+            alloc,
+            &bytes,
+            keys,
+            names,
+            sampling,
+            taking.at,
+            taking.back,
+            taking.partial,
+        ),
     )
 }
 
@@ -84,12 +95,12 @@ fn load_keyed<S: Shelf>(
     shelf: &mut S,
     net: &Netlist,
     taking: Taking<'_>,
-) -> Result<List<Bits>, WalkStop>
+) -> Result<MarkedStates, WalkStop>
     ensures walks { WalksDiagnosed CheckSays NoteSays S.held S.faults S.leads shelf.old shelf.new
         (taken_of (flop_keys net.now.raw) None (taking_in taking.entry)) (taken_looked (flop_keys net.now.raw) None (taking_in taking.entry))
-        (λ states. states) (λ states. states) result }
-    ensures some { IfOk result (λ states. 0 < length states) }
-    ensures wide { IfOk result (λ states. All (λ s. length s ≡ length (circuit net.now).flops) states) }
+        (λ taken. taken) (λ taken. taken) result }
+    ensures some { IfOk result (λ taken. 0 < length taken.states) }
+    ensures wide { IfOk result (λ taken. All (λ s. length s ≡ length (circuit net.now).flops) taken.states) }
 {
     match flop_bytes(alloc, net) {
         Ok(keys) => {
@@ -108,14 +119,14 @@ fn load_by_names<'a, S: Shelf>(
     text: &'a [u8],
     keys: &[&'a [u8]],
     taking: Taking<'_>,
-) -> Result<List<Bits>, WalkStop>
+) -> Result<MarkedStates, WalkStop>
     requires { length text.now ≤ MAX_MAP_BYTES }
     ensures walks { WalksDiagnosed CheckSays NoteSays S.held S.faults S.leads shelf.old shelf.new
         (states_step (map (λ k. k.now) keys.now) text.now (taking_in taking.entry))
         (states_step_looked path.now (map (λ k. k.now) keys.now) text.now (taking_in taking.entry))
-        (λ states. states) (λ states. states) result }
-    ensures some { IfOk result (λ states. 0 < length states) }
-    ensures wide { IfOk result (λ states. All (λ s. length s ≡ length keys.now) states) }
+        (λ taken. taken) (λ taken. taken) result }
+    ensures some { IfOk result (λ taken. 0 < length taken.states) }
+    ensures wide { IfOk result (λ taken. All (λ s. length s ≡ length keys.now) taken.states) }
 {
     match names_or_diagnostic(alloc, Subject::Flops, path, text, keys) {
         Ok(names) => {
@@ -134,14 +145,14 @@ fn load_renamed<S: Shelf>(
     path: &str,
     text: &[u8],
     taking: Taking<'_>,
-) -> Result<List<Bits>, WalkStop>
+) -> Result<MarkedStates, WalkStop>
     requires { length text.now ≤ MAX_MAP_BYTES }
     ensures walks { WalksDiagnosed CheckSays NoteSays S.held S.faults S.leads shelf.old shelf.new
         (states_step (flop_keys net.now.raw) text.now (taking_in taking.entry))
         (states_step_looked path.now (flop_keys net.now.raw) text.now (taking_in taking.entry))
-        (λ states. states) (λ states. states) result }
-    ensures some { IfOk result (λ states. 0 < length states) }
-    ensures wide { IfOk result (λ states. All (λ s. length s ≡ length (circuit net.now).flops) states) }
+        (λ taken. taken) (λ taken. taken) result }
+    ensures some { IfOk result (λ taken. 0 < length taken.states) }
+    ensures wide { IfOk result (λ taken. All (λ s. length s ≡ length (circuit net.now).flops) taken.states) }
 {
     match flop_bytes(alloc, net) {
         Ok(keys) => {
@@ -159,12 +170,12 @@ fn load_named<S: Shelf>(
     net: &Netlist,
     file: &str,
     taking: Taking<'_>,
-) -> Result<List<Bits>, WalkStop>
+) -> Result<MarkedStates, WalkStop>
     ensures walks { WalksDiagnosed CheckSays NoteSays S.held S.faults S.leads shelf.old shelf.new
         (taken_of (flop_keys net.now.raw) (Some file.now) (taking_in taking.entry)) (taken_looked (flop_keys net.now.raw) (Some file.now) (taking_in taking.entry))
-        (λ states. states) (λ states. states) result }
-    ensures some { IfOk result (λ states. 0 < length states) }
-    ensures wide { IfOk result (λ states. All (λ s. length s ≡ length (circuit net.now).flops) states) }
+        (λ taken. taken) (λ taken. taken) result }
+    ensures some { IfOk result (λ taken. 0 < length taken.states) }
+    ensures wide { IfOk result (λ taken. All (λ s. length s ≡ length (circuit net.now).flops) taken.states) }
 {
     let bytes = fetch_file(alloc, shelf, File::Map, file)?;
     load_renamed(alloc, shelf, net, file, &bytes, taking)
@@ -177,13 +188,13 @@ fn load_taken<S: Shelf>(
     net: &Netlist,
     names: Option<&str>,
     taking: Taking<'_>,
-) -> Result<List<Bits>, WalkStop>
+) -> Result<MarkedStates, WalkStop>
     ensures walks { WalksDiagnosed CheckSays NoteSays S.held S.faults S.leads shelf.old shelf.new
         (taken_of (flop_keys net.now.raw) (option_map (λ s. s.now) names.entry) (taking_in taking.entry))
         (taken_looked (flop_keys net.now.raw) (option_map (λ s. s.now) names.entry) (taking_in taking.entry))
-        (λ states. states) (λ states. states) result }
-    ensures some { IfOk result (λ states. 0 < length states) }
-    ensures wide { IfOk result (λ states. All (λ s. length s ≡ length (circuit net.now).flops) states) }
+        (λ taken. taken) (λ taken. taken) result }
+    ensures some { IfOk result (λ taken. 0 < length taken.states) }
+    ensures wide { IfOk result (λ taken. All (λ s. length s ≡ length (circuit net.now).flops) taken.states) }
 {
     match names {
         Some(file) => load_named(alloc, shelf, net, file, taking),
@@ -227,6 +238,7 @@ fn taking_of<'a>(files: DumpFiles<'a>, net: &'a Netlist, back: u64) -> Taking<'a
         scope: files.scope,
         at: files.at,
         back,
+        partial: files.partial,
     }
 }
 
@@ -242,7 +254,7 @@ fn load_plain<S: Shelf>(
 {
     let taking = taking_of(files, net, 0);
     match load_taken(alloc, shelf, net, files.names, taking) {
-        Ok(states) => Ok(Dumped::Plain(Unsigned { states })),
+        Ok(taken) => Ok(Dumped::Plain(Unsigned { taken })),
         Err(stop) => Err(stop),
     }
 }
@@ -262,7 +274,7 @@ fn load_signed<S: Shelf>(
 {
     let taking = taking_of(files, net, choice.depth() as u64);
     match load_taken(alloc, shelf, net, files.names, taking) {
-        Ok(states) => Ok(Dumped::Whole(Signed { choice, states })),
+        Ok(taken) => Ok(Dumped::Whole(Signed { choice, taken })),
         Err(stop) => {
             drop(choice);
             Err(stop)

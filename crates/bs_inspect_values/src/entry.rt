@@ -1,15 +1,15 @@
 //! A line of the text: the key of an input, and its name in a simulation.
 ghost use Rattle.std.specs.Prelude.{◌≡◌, map};
 ghost use Rattle.std.specs.List.{list_any};
-ghost use Rattle.std.specs.Str.{bytes_eq};
 ghost use Rattle.bs_bits.specs.Lines.{words_of};
 ghost use Rattle.bs_bits.specs.Reading.{Answers};
 ghost use Rattle.bs_inspect_values.specs.declared.fault.MapFault.TheVariants.{NoMemory as Want};
-ghost use Rattle.bs_inspect_values.specs.Names.{entry_at, entry_of, has_key, named, shown_entry};
+ghost use Rattle.bs_inspect_values.specs.Names.{entry_at, entry_of, named, same_key, shown_entry};
 ghost use Rattle.bs_inspect_values.specs.Names.{entry_in};
 
 use crate::fault::MapFault;
 use bs_bits::{Words, is_name};
+use bs_net_names::{key_parts, same_name};
 
 /// The key of an input, and its name in a simulation.
 #[derive(Clone, Copy)]
@@ -41,18 +41,25 @@ fn entry_of(line: &[u8]) -> Option<Entry<'_>>
     if words.end() { named(key, name) } else { None }
 }
 
-/// Whether a key is one of these.
-fn is_key(keys: &[&[u8]], key: &[u8]) -> bool
-    ensures { result ≡ list_any (λ k. bytes_eq k.now key.now) keys.now }
+/// Whether two keys are one name, as RTL writes it.
+pub fn same_key(one: &[u8], other: &[u8]) -> bool
+    ensures { result ≡ same_key one.now other.now }
 {
-    keys.iter().any(|k| *k == key)
+    same_name(key_parts(one), key_parts(other))
+}
+
+/// Whether a key is the name of one of these.
+fn is_key(keys: &[&[u8]], key: &[u8]) -> bool
+    ensures { result ≡ list_any (λ k. same_key k.now key.now) keys.now }
+{
+    keys.iter().any(|k| same_key(k, key))
 }
 
 /// Whether an entry has a key.
 fn has_entry(entries: &[Entry<'_>], key: &[u8]) -> bool
-    ensures { result ≡ list_any (λ e. bytes_eq e.key.now key.now) entries.now }
+    ensures { result ≡ list_any (λ e. same_key e.key.now key.now) entries.now }
 {
-    entries.iter().any(|e| e.key == key)
+    entries.iter().any(|e| same_key(e.key, key))
 }
 
 /// The entry of a line behind those of the lines before it.

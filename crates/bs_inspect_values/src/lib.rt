@@ -26,7 +26,7 @@ pub use dumping::{DumpFiles, clock_key, clock_or, load_dumped};
 pub use fault::MapFault;
 pub use keys::{all_bytes, flop_bytes, maybe_bytes};
 pub use law::runs_read_back;
-pub use mapping::names_or_diagnostic;
+pub use mapping::{key_note, names_or_diagnostic};
 pub use names::read_names;
 pub use ready::{Dumped, Sampled, Signed, Simulated, Unsigned};
 pub use refusals::{numbered, refusal};

@@ -58,7 +58,7 @@ fn form_note(alloc: Global, path: &str, text: &[u8], number: u64) -> Result<Vec<
 }
 
 /// A note on a line whose key is none of these.
-fn key_note(
+pub fn key_note(
     alloc: Global,
     subject: Subject,
     path: &str,

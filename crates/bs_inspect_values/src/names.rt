@@ -5,7 +5,7 @@ ghost use Rattle.bs_bits.specs.Reading.{Answers};
 ghost use Rattle.bs_inspect_values.specs.declared.fault.MapFault.TheVariants.{NoMemory as Want};
 ghost use Rattle.bs_inspect_values.specs.Names.{entries_from, entry_in, map_in, name_of, names_of};
 
-use crate::entry::{Entry, entry_at};
+use crate::entry::{Entry, entry_at, same_key};
 use crate::fault::MapFault;
 use bs_bits::{NoMemory, next_line};
 use std::alloc::Global;
@@ -43,7 +43,7 @@ fn name_of<'a>(entries: &[Entry<'a>], key: &'a [u8]) -> &'a [u8]
     ensures { result.now ≡ name_of (map entry_in entries.now) key.now }
 {
     'entries: for entry in entries {
-        if entry.key == key {
+        if same_key(entry.key, key) {
             return entry.name;
         }
     }

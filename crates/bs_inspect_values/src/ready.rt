@@ -2,9 +2,9 @@
 ghost use Rattle.std.specs.Prelude.{◌≡◌, ◌<◌, length, All};
 
 use crate::run::SimulatedRun;
-use bs_bits::{Bits, List};
 use bs_net::Netlist;
 use bs_scan::Choice;
+use bs_vcd::MarkedStates;
 
 /// Whether the clock is a data input as well, and the runs by it.
 #[derive(Drop)]
@@ -20,20 +20,20 @@ pub struct Simulated {
     pub sampled: Sampled,
 }
 
-/// A state of which no signature is asked for, behind others.
+/// A state of which no signature is asked for, behind others, with marks on the bits that are not known.
 #[derive(Drop)]
 pub struct Unsigned {
-    pub states: List<Bits>,
-    ghost some: { 0 < length states },
+    pub taken: MarkedStates,
+    ghost some: { 0 < length taken.states },
 }
 
-/// A state, behind as many as the signature tells of or as there are.
+/// A state, behind as many as the signature tells of or as there are, with marks on the bits that are not known.
 #[derive(Drop)]
 pub struct Signed {
     pub choice: Choice,
-    pub states: List<Bits>,
-    ghost some: { 0 < length states },
-    ghost wide: { All (λ s. length s ≡ choice.width) states },
+    pub taken: MarkedStates,
+    ghost some: { 0 < length taken.states },
+    ghost wide: { All (λ s. length s ≡ choice.width) taken.states },
 }
 
 /// A dump out of a simulation, without a signature or with one.

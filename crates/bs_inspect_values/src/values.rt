@@ -1,9 +1,8 @@
 //! The values of a simulator, or the diagnostic of their text.
-ghost use Rattle.std.specs.Prelude.{◌≡◌, ◌<◌, ◌≤◌, length, map, option_map, All, IfOk, Ok as TheOk};
+ghost use Rattle.std.specs.Prelude.{◌≡◌, ◌<◌, ◌≤◌, length, map, option_map, All, IfOk, Ok as TheOk, false};
 ghost use Rattle.bs_bits.specs.Reading.{Answers};
 ghost use Rattle.bs_vcd_header.specs.declared.fault.VcdFault.TheVariants.{NoMemory as VcdWant};
 ghost use Rattle.bs_vcd_header.specs.Header.{declared_in};
-ghost use Rattle.bs_vcd.specs.Cycles.{states_in};
 ghost use Rattle.bs_vcd.specs.Stimulus.{stimulus_in};
 ghost use Rattle.bs_inspect_notes.specs.Simulations.{cycles_text, off_saying, unknown_text, word_saying};
 ghost use Rattle.bs_note_files.specs.Notes.{said};
@@ -14,7 +13,7 @@ ghost use Rattle.bs_top_plan.specs.Diagnostic.{note_refusal, noted, word_refusal
 ghost use Rattle.bs_top_plan.specs.Walks.{Reads};
 ghost use Rattle.bs_top_files.specs.NoteCases.{HasNote, IsNoteAtLine, NoteSays};
 ghost use Rattle.bs_top_files.specs.Refusals.{CheckSays, HasWords};
-ghost use Rattle.bs_inspect_values.specs.Saying.{clock_said, declarations, fault_reason, few_noted, input_said, lines_noted, states_noted, vcd_note_reason};
+ghost use Rattle.bs_inspect_values.specs.Saying.{clock_said, declarations, fault_reason, few_noted, input_said, lines_noted, states_noted, taken_in, vcd_note_reason, whole_states};
 ghost use Rattle.bs_inspect_values.specs.Dumped.{states_read};
 ghost use Rattle.bs_inspect_values.specs.Simulated.{few_lines, lines_read};
 ghost use Rattle.bs_inspect_values.specs.Words.{cycles_words, key_at, vcd_words};
@@ -31,7 +30,7 @@ use bs_net_names::key_parts;
 use bs_note_files::{Message, file_note};
 use bs_stim::MAX_CYCLES;
 use bs_top_plan::{Unread, both};
-use bs_vcd::{SampledLines, When, states, stimulus};
+use bs_vcd::{MarkedStates, SampledLines, When, marked_states, states, stimulus};
 use bs_vcd_header::{HeaderDeclarations, VcdFault, declared, names_of, scope_of, scopes_of};
 use std::alloc::Global;
 
@@ -323,7 +322,59 @@ pub fn lines_or_diagnostic(
     }
 }
 
-/// The states of a cycle and of so many before it.
+/// States of which each bit is known.
+fn whole_states(alloc: Global, states: List<Bits>) -> MarkedStates
+    ensures { result ≡ whole_states states }
+{
+    MarkedStates {
+        states,
+        marks: Bits::new(alloc),
+    }
+}
+
+/// The states of a cycle and of so many before it, each bit of which is known.
+fn known_states(
+    alloc: Global,
+    text: &[u8],
+    scope: Option<&[u8]>,
+    clock: &[u8],
+    names: &[&[u8]],
+    at: When,
+    back: u64,
+) -> Result<MarkedStates, VcdFault>
+    requires { length text.now ≤ MAX_VCD_BYTES }
+    ensures is { Answers VcdWant (λ taken. taken) result (taken_in false text.now (option_map (λ path. path.now) scope.entry) clock.now (map (λ n. n.now) names.now) at back) }
+    ensures some { IfOk result (λ taken. 0 < length taken.states) }
+    ensures wide { IfOk result (λ taken. All (λ s. length s ≡ length names.now) taken.states) }
+{
+    let states = states(alloc, text, scope, clock, names, at, back)?;
+    Ok(whole_states(alloc, states))
+}
+
+/// The states of a cycle and of so many before it, where bits of the last may be unknown if that is asked for.
+fn taken_by(
+    alloc: Global,
+    text: &[u8],
+    scope: Option<&[u8]>,
+    clock: &[u8],
+    names: &[&[u8]],
+    at: When,
+    back: u64,
+    partial: bool,
+) -> Result<MarkedStates, VcdFault>
+    requires { length text.now ≤ MAX_VCD_BYTES }
+    ensures is { Answers VcdWant (λ taken. taken) result (taken_in partial text.now (option_map (λ path. path.now) scope.entry) clock.now (map (λ n. n.now) names.now) at back) }
+    ensures some { IfOk result (λ taken. 0 < length taken.states) }
+    ensures wide { IfOk result (λ taken. All (λ s. length s ≡ length names.now) taken.states) }
+{
+    if partial {
+        marked_states(alloc, text, scope, clock, names, at, back)
+    } else {
+        known_states(alloc, text, scope, clock, names, at, back)
+    }
+}
+
+/// The same in a scope, where one is asked for.
 fn taken(
     alloc: Global,
     text: &[u8],
@@ -331,19 +382,20 @@ fn taken(
     sampling: Sampling<'_>,
     at: When,
     back: u64,
-) -> Result<List<Bits>, VcdFault>
+    partial: bool,
+) -> Result<MarkedStates, VcdFault>
     requires { length text.now ≤ MAX_VCD_BYTES }
-    ensures is { Answers VcdWant (λ states. states) result (states_in text.now (option_map (λ s. s.now) sampling.entry.scope) sampling.entry.clock.now (map (λ n. n.now) names.now) at back) }
-    ensures some { IfOk result (λ states. 0 < length states) }
-    ensures wide { IfOk result (λ states. All (λ s. length s ≡ length names.now) states) }
+    ensures is { Answers VcdWant (λ taken. taken) result (taken_in partial text.now (option_map (λ s. s.now) sampling.entry.scope) sampling.entry.clock.now (map (λ n. n.now) names.now) at back) }
+    ensures some { IfOk result (λ taken. 0 < length taken.states) }
+    ensures wide { IfOk result (λ taken. All (λ s. length s ≡ length names.now) taken.states) }
 {
     let scope = maybe_bytes(sampling.scope);
     let clock = sampling.clock.as_bytes();
-    states(alloc, text, scope, clock, names, at, back)
+    taken_by(alloc, text, scope, clock, names, at, back, partial)
 }
 
 /// The states of a cycle and of so many before it, by the names of the flip-flops, which have these keys in the netlist; or the
-/// diagnostic of their text.
+/// diagnostic of their text. Bits of the last may be unknown where that is asked for.
 pub fn states_or_diagnostic(
     alloc: Global,
     text: &[u8],
@@ -352,15 +404,16 @@ pub fn states_or_diagnostic(
     sampling: Sampling<'_>,
     at: When,
     back: u64,
-) -> Result<List<Bits>, Unread>
+    partial: bool,
+) -> Result<MarkedStates, Unread>
     requires { length text.now ≤ MAX_VCD_BYTES }
-    ensures words { Reads CheckSays (λ states. states) (states_read (map (λ k. k.now) keys.now) (map (λ n. n.now) names.now) (option_map (λ s. s.now) sampling.entry.scope) sampling.entry.clock.now at back text.now) (worded result) }
-    ensures note { Reads NoteSays (λ states. states) (states_noted sampling.entry.vcd.now (map (λ k. k.now) keys.now) (map (λ n. n.now) names.now) (option_map (λ s. s.now) sampling.entry.scope) sampling.entry.clock.now at back text.now) (noted result) }
-    ensures some { IfOk result (λ states. 0 < length states) }
-    ensures wide { IfOk result (λ states. All (λ s. length s ≡ length names.now) states) }
+    ensures words { Reads CheckSays (λ taken. taken) (states_read (map (λ k. k.now) keys.now) (map (λ n. n.now) names.now) (option_map (λ s. s.now) sampling.entry.scope) sampling.entry.clock.now at back partial text.now) (worded result) }
+    ensures note { Reads NoteSays (λ taken. taken) (states_noted sampling.entry.vcd.now (map (λ k. k.now) keys.now) (map (λ n. n.now) names.now) (option_map (λ s. s.now) sampling.entry.scope) sampling.entry.clock.now at back partial text.now) (noted result) }
+    ensures some { IfOk result (λ taken. 0 < length taken.states) }
+    ensures wide { IfOk result (λ taken. All (λ s. length s ≡ length names.now) taken.states) }
 {
-    match taken(alloc, text, names, sampling, at, back) {
-        Ok(states) => Ok(states),
+    match taken(alloc, text, names, sampling, at, back, partial) {
+        Ok(taken) => Ok(taken),
         Err(fault) => Err(vcd_diagnostic(
             alloc,
             Subject::Flops,

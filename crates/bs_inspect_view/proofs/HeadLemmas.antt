@@ -3,10 +3,11 @@ use Rattle.std.proofs.Common.{◌≡◌, ℕ, List, ◌++◌, ap, ◌∙◌, app
 use Rattle.std.specs.Prelude.{codes}
 use Rattle.bs_bits.specs.Lines.{line}
 use Rattle.bs_net_names.specs.Signals.{Signal}
+use Rattle.bs_inspect_view.specs.Recorded.{opening_lines}
 use Rattle.bs_inspect_view.specs.View.{declarations, variables}
 
 -- six pieces behind one another
-six : (old a b c d e f one two three four five last : List ℕ) → a ≡ old ++ one → b ≡ a ++ two → c ≡ b ++ three → d ≡ c ++ four → e ≡ d ++ five →
+pub six : (old a b c d e f one two three four five last : List ℕ) → a ≡ old ++ one → b ≡ a ++ two → c ≡ b ++ three → d ≡ c ++ four → e ≡ d ++ five →
     f ≡ e ++ last → f ≡ old ++ (one ++ (two ++ (three ++ (four ++ (five ++ last)))))
 six old a b c d e f one two three four five last g h i j k l =
     l ∙ (ap (λ (t : List ℕ). t ++ last) k
@@ -21,8 +22,8 @@ six old a b c d e f one two three four five last g h i j k l =
     ∙ append_assoc old one (two ++ (three ++ (four ++ (five ++ last)))))))))))))
 
 pub head_whole : (remarks : List ℕ) (signals : List Signal) (old a b c d e f : List ℕ) → a ≡ old ++ line (codes "$timescale 1ns $end") →
-    b ≡ a ++ remarks → c ≡ b ++ line (codes "$scope module trace $end") → d ≡ c ++ variables signals → e ≡ d ++ line (codes "$upscope $end") →
+    b ≡ a ++ remarks → c ≡ b ++ opening_lines → d ≡ c ++ variables signals → e ≡ d ++ line (codes "$upscope $end") →
     f ≡ e ++ line (codes "$enddefinitions $end") → f ≡ old ++ declarations remarks signals
 head_whole remarks signals old a b c d e f g h i j k l =
-    six old a b c d e f (line (codes "$timescale 1ns $end")) remarks (line (codes "$scope module trace $end")) (variables signals)
+    six old a b c d e f (line (codes "$timescale 1ns $end")) remarks opening_lines (variables signals)
     (line (codes "$upscope $end")) (line (codes "$enddefinitions $end")) g h i j k l

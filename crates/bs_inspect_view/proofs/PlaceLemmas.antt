@@ -1,13 +1,15 @@
 -- Pieces that are appended one after another.
-use Rattle.std.proofs.Common.{◌≡◌, ℕ, suc, zero, ◌<◌, ◌+◌, List, [], ◌∷◌, ◌++◌, length, get_or, map, ap, sym, ◌∙◌, arith, append_assoc, refl, slice_get, Option, Some, None, false}
+use Rattle.std.proofs.Common.{◌≡◌, ℕ, suc, zero, ◌<◌, ◌+◌, List, [], ◌∷◌, ◌++◌, length, get_or, map, take, ap, sym, ◌∙◌, arith, append_assoc, refl, slice_get}
+use Rattle.std.proofs.Common.{Option, Some, None, false}
 use Rattle.std.specs.Option.{option_map}
 use Rattle.std.specs.List.{flat_map, range_with_len}
 use Rattle.std.proofs.lemmas.Grind.{flat_map-append}
-use Rattle.std.proofs.lemmas.List.{append-nil, length-map}
+use Rattle.std.proofs.lemmas.List.{append-nil, length-map, map-append, take_more}
 use Rattle.bs_net_names.specs.declared.signal.Signal.{Signal as CodeSignal}
 use Rattle.bs_net_names.specs.Signals.{Signal, signal_in}
 use Rattle.bs_bits.proofs.RangeLemmas.{places_step}
 use Rattle.bs_wave.specs.declared.value.Value.{Value}
+use Rattle.bs_inspect_view.specs.Save.{shown_lines}
 use Rattle.bs_inspect_view.specs.Scopes.{path_of, scopes}
 use Rattle.bs_inspect_view.specs.View.{change_at, change_text, changes, path_at, path_before, scoped, variable_at, variables}
 
@@ -62,3 +64,18 @@ pub all_changes : (signals : List CodeSignal) (was : Option (List Value)) (now :
 all_changes signals was now old after e =
     e ∙ ap (λ (n : ℕ). old ++ flat_map (λ k. change_at was now k (slice_get (map signal_in signals) k)) (range_with_len 0 n))
     (sym (length-map signals signal_in))
+
+-- a signal's lines more in a save file
+pub shown_more : (signals : List CodeSignal) (i : ℕ) (d : CodeSignal) (old before after : List ℕ) → i < length signals →
+    before ≡ old ++ flat_map shown_lines (map signal_in (take i signals)) → after ≡ before ++ shown_lines (signal_in (get_or signals i d)) →
+    after ≡ old ++ flat_map shown_lines (map signal_in (take (i + 1) signals))
+shown_more signals i d old before after lt e f =
+    let own : Signal = signal_in (get_or signals i d) in
+    let rest : List Signal = map signal_in (take i signals) in
+    let more : map signal_in (take (i + 1) signals) ≡ rest ++ own ∷ [] =
+    ap (map signal_in) (take_more signals i d lt) ∙ map-append signal_in (take i signals) (get_or signals i d ∷ []) in
+    let put : flat_map shown_lines (map signal_in (take (i + 1) signals)) ≡ flat_map shown_lines rest ++ shown_lines own =
+    ap (flat_map shown_lines) more
+    ∙ (flat_map-append shown_lines rest (own ∷ []) ∙ ap (λ (t : List ℕ). flat_map shown_lines rest ++ t) (append-nil (shown_lines own))) in
+    f ∙ (ap (λ (t : List ℕ). t ++ shown_lines own) e
+    ∙ (append_assoc old (flat_map shown_lines rest) (shown_lines own) ∙ ap (λ (t : List ℕ). old ++ t) (sym put)))

@@ -9,15 +9,17 @@ use Rattle.bs_net_names.specs.Splits.{Halves, first_split}
 use Rattle.bs_inspect_view.specs.Scopes.{leaf_of}
 use Rattle.bs_inspect_view.specs.declared.request.ViewRequest.{ViewRequest as CodeViewRequest}
 
--- the time of the first moment, whether all nets are drawn, the names of those that are drawn alone, and lines of the head
+-- the time of the first moment, whether all nets are drawn, the names of those that are drawn alone, lines of the head, and the run and the
+-- cycle of each state that was recorded
 pub record ViewRequest : Type 0 where
   pub from : ℕ
   pub all : Bool
   pub only : List (List ℕ)
   pub remarks : List ℕ
+  pub recorded : List (Option (ℕ × ℕ))
 
 abbrev pub asked_in : CodeViewRequest → ViewRequest
-asked_in a = record { from = a.from; all = a.all; only = map (λ s. s.now) a.only.now; remarks = a.remarks.now }
+asked_in a = record { from = a.from; all = a.all; only = map (λ s. s.now) a.only.now; remarks = a.remarks.now; recorded = a.recorded.now }
 
 -- ---- names that nobody gave
 

@@ -1,3 +1,5 @@
 pub mod Scopes
 pub mod Drawn
+pub mod Recorded
 pub mod View
+pub mod Save

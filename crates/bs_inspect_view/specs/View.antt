@@ -7,6 +7,7 @@ use Rattle.bs_bits.specs.Lines.{line}
 use Rattle.bs_net.specs.Parts.{Parts}
 use Rattle.bs_net_names.specs.Signals.{Signal, range_text}
 use Rattle.bs_inspect_view.specs.Drawn.{AreDrawn, ViewRequest}
+use Rattle.bs_inspect_view.specs.Recorded.{opening_lines, recorded_lines}
 use Rattle.bs_inspect_view.specs.Scopes.{leaf_of, moves, path_of, scopes, word_of}
 use Rattle.bs_wave.specs.declared.value.Value.{Value}
 use Rattle.bs_wave.specs.declared.wave.Wave.{Wave}
@@ -52,7 +53,7 @@ variables signals =
 
 abbrev pub declarations : List ℕ → List Signal → List ℕ
 declarations remarks signals =
-    line (codes "$timescale 1ns $end") ++ (remarks ++ (line (codes "$scope module trace $end")
+    line (codes "$timescale 1ns $end") ++ (remarks ++ (opening_lines
     ++ (variables signals ++ (line (codes "$upscope $end") ++ line (codes "$enddefinitions $end")))))
 
 -- ---- values
@@ -99,10 +100,14 @@ moment_text signals time before (Some now) = line (time_line time) ++ changes si
 abbrev pub moment_at : List Signal → ℕ → List (List Value) → ℕ → List ℕ
 moment_at signals from moments t = moment_text signals (from + t) (moment_before moments t) (slice_get moments t)
 
+-- the same, and the run and the cycle at which its state was recorded, where these are others than before
+abbrev pub moment_lines : List Signal → ℕ → List (Option (ℕ × ℕ)) → List (List Value) → ℕ → List ℕ
+moment_lines signals from recorded moments t = moment_at signals from moments t ++ recorded_lines recorded t
+
 -- the head, and at each moment the signals whose values are others than at the moment before
 abbrev pub view_lines : ViewRequest → List Signal → List (List Value) → List ℕ
 view_lines asked signals moments =
-    declarations asked.remarks signals ++ flat_map (moment_at signals asked.from moments) (range_with_len 0 (length moments))
+    declarations asked.remarks signals ++ flat_map (moment_lines signals asked.from asked.recorded moments) (range_with_len 0 (length moments))
 
 -- the text of a wave, whose variables are the signals that are drawn: each once, and the bits of a vector as one
 pub record Views (raw : Parts) (asked : ViewRequest) (wave : Wave) (text : List ℕ) : Type 0 where

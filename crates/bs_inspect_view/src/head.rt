@@ -5,6 +5,7 @@ ghost use Rattle.bs_net_names.specs.Signals.{signal_in};
 ghost use Rattle.bs_inspect_view.specs.View.{declarations, path_before, range_words, reference, scoped, variable_at, variable_line, variables};
 ghost use Rattle.bs_wave.specs.WaveText.{id_of};
 
+use crate::recorded::push_opening_lines;
 use crate::scopes::{leaf_of, path_of, push_moves, push_scopes, word_of};
 use bs_bits::{NoMemory, push_line, push_number, push_piece};
 use bs_net_names::{Signal, push_range};
@@ -113,7 +114,7 @@ pub(crate) fn push_head(
 {
     push_line(text, b"$timescale 1ns $end")?;
     push_piece(text, remarks)?;
-    push_line(text, b"$scope module trace $end")?;
+    push_opening_lines(text)?;
     push_variables(text, signals)?;
     push_line(text, b"$upscope $end")?;
     push_line(text, b"$enddefinitions $end")?;

@@ -3,9 +3,10 @@ ghost use Rattle.std.specs.Prelude.{◌≡◌, ◌<◌, ◌++◌, Some, length, 
 ghost use Rattle.std.specs.List.{flat_map, range_with_len};
 ghost use Rattle.bs_bits.specs.Lines.{line};
 ghost use Rattle.bs_net_names.specs.Signals.{signal_in};
-ghost use Rattle.bs_inspect_view.specs.View.{changes, moment_at, moment_before, moment_text};
+ghost use Rattle.bs_inspect_view.specs.View.{changes, moment_at, moment_before, moment_lines, moment_text};
 ghost use Rattle.bs_wave.specs.WaveText.{time_line};
 
+use crate::recorded::push_recorded;
 use crate::value::push_changes;
 use bs_bits::{List, NoMemory, end_line, push_number, push_piece};
 use bs_net_names::Signal;
@@ -72,18 +73,34 @@ fn push_at(
     }
 }
 
+/// Appends the moment at a place, and the run and the cycle at which its state was recorded.
+fn push_moment_lines(
+    text: &mut Vec<u8>,
+    signals: &[Signal<'_>],
+    from: u64,
+    recorded: &[Option<(u32, u32)>],
+    moments: &List<List<Value>>,
+    t: usize,
+) -> Result<(), NoMemory>
+    ensures { OnOk result (text.new.items ≡ text.old.items ++ moment_lines (map signal_in signals.now) from recorded.now moments.now t) }
+{
+    push_at(text, signals, from, moments, t)?;
+    push_recorded(text, recorded, t)
+}
+
 /// Appends the moments, where the first stands at a time.
 #[tactic(auto, using(bs_bits::proofs::RangeLemmas::places_step))]
 pub(crate) fn push_moments(
     text: &mut Vec<u8>,
     signals: &[Signal<'_>],
     from: u64,
+    recorded: &[Option<(u32, u32)>],
     moments: &List<List<Value>>,
 ) -> Result<(), NoMemory>
-    ensures { OnOk result (text.new.items ≡ text.old.items ++ flat_map (moment_at (map signal_in signals.now) from moments.now) (range_with_len 0 (length moments.now))) }
+    ensures { OnOk result (text.new.items ≡ text.old.items ++ flat_map (moment_lines (map signal_in signals.now) from recorded.now moments.now) (range_with_len 0 (length moments.now))) }
 {
     'moments: for t in 0..moments.len() {
-        push_at(text, signals, from, moments, t)?;
+        push_moment_lines(text, signals, from, recorded, moments, t)?;
     }
     Ok(())
 }

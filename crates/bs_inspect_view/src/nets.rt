@@ -21,7 +21,7 @@ fn keys_of<'a>(alloc: Global, raw: &'a Raw) -> Result<Vec<&'a str>, NoMemory>
 }
 
 /// The keys of the nets, in the order of a moment's values.
-fn net_keys<'a>(alloc: Global, net: &'a Netlist) -> Result<Vec<&'a str>, NoMemory>
+pub fn net_keys<'a>(alloc: Global, net: &'a Netlist) -> Result<Vec<&'a str>, NoMemory>
     ensures are { IfOk result (λ keys. map (λ s. s.now) keys.items ≡ net.now.raw.names) }
     ensures few { IfOk result (λ keys. length keys.items < 2 ^ 32) }
 {
@@ -30,7 +30,7 @@ fn net_keys<'a>(alloc: Global, net: &'a Netlist) -> Result<Vec<&'a str>, NoMemor
 }
 
 /// The signals of the nets with these names, or of all nets where there are none.
-pub(crate) fn net_signals<'a>(
+pub fn net_signals<'a>(
     alloc: Global,
     net: &'a Netlist,
     only: &[&str],

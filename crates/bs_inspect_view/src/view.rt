@@ -27,7 +27,7 @@ fn text_of(
 {
     let mut text = Vec::new(alloc);
     push_head(&mut text, asked.remarks, signals)?;
-    push_moments(&mut text, signals, asked.from, moments)?;
+    push_moments(&mut text, signals, asked.from, asked.recorded, moments)?;
     Ok(text)
 }
 

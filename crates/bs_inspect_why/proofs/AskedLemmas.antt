@@ -1,17 +1,19 @@
 -- The nets with a name, and their facts.
-use Rattle.std.proofs.Common.{◌≡◌, ℕ, ◌<◌, ◌≤◌, ◌+◌, Bool, true, false, List, [], ◌∷◌, ◌++◌, length, map, take, get_or, refl, ap, sym, subst, ◌∙◌, ◌⊎◌, inl, inr, arith, zero, suc, Some}
-use Rattle.std.specs.Prelude.{if◌then◌else◌, slice_get}
-use Rattle.std.proofs.lemmas.Option.{get_or_from_slice_get}
-use Rattle.std.specs.Borrow.{Bor}
-use Rattle.std.specs.List.{All, flat_map}
-use Rattle.std.proofs.lemmas.Bool.{cases_lt}
+use Rattle.std.proofs.Common.{◌≡◌, ℕ, ◌<◌, ◌≤◌, ◌+◌, Bool, true, false, not, ◌&&◌, ◌||◌, ◌==◌, List, [], ◌∷◌, ◌++◌, length, map, take, get_or, refl, ap, sym, subst, ◌∙◌, ◌⊎◌, inl, inr, arith, zero, suc}
+use Rattle.std.specs.Prelude.{if◌then◌else◌}
+use Rattle.std.specs.List.{All, flat_map, list_any}
+use Rattle.std.proofs.lemmas.Bool.{and_parts, cases_lt, false≢true}
 use Rattle.std.proofs.lemmas.Grind.{flat_map-append}
 use Rattle.std.proofs.lemmas.List.{append-nil, get_or_append_left, get_or_default, get_or_push, length_push, map-append, take_more}
 use Rattle.std.proofs.lemmas.List.Elements.{All-append, All-nil}
 use Rattle.bs_net.specs.Circuit.{Circuit}
-use Rattle.bs_net.specs.Netlist.{circuit, circuit_of}
+use Rattle.bs_net.specs.Netlist.{Checked, circuit, circuit_of, parts_of}
 use Rattle.bs_net.specs.Parts.{Parts}
+use Rattle.bs_net.specs.declared.net.Const.{Const}
+use Rattle.bs_net.specs.declared.net.Flop.{Flop}
+use Rattle.bs_net.specs.declared.net.Gate.{Gate}
 use Rattle.bs_net.specs.declared.net.NetId.{NetId}
+use Rattle.bs_net.specs.declared.raw.Raw.{Raw}
 use Rattle.bs_net_facts.specs.declared.fact.Fact.{Fact}
 use Rattle.bs_net_facts.specs.Facts.{IsReal}
 use Rattle.bs_net_facts.specs.Seen.{Seen}
@@ -19,7 +21,7 @@ use Rattle.bs_net_names.specs.Keys.{key_parts}
 use Rattle.bs_net_names.specs.Signals.{Member, is_wanted, member_in, member_of, members_from, members_of, wanted}
 use Rattle.bs_net_names.specs.declared.signal.Member.{Member as CodeMember}
 use Rattle.bs_inspect_accounts.specs.Accounts.{has_net}
-use Rattle.bs_inspect_why.specs.Question.{AreAsked, IsAsked, asked_net, asked_nets, net_id}
+use Rattle.bs_inspect_why.specs.Question.{AreAsked, IsAsked, asked_net, asked_nets, is_driven, net_id}
 
 -- ---- nets
 
@@ -73,27 +75,49 @@ IsPlaced count n = n.0 < count
 abbrev IsDriven : Circuit → NetId → Type 0
 IsDriven c n = has_net c.inputs n ≡ false
 
+off : (b : Bool) → not b ≡ true → b ≡ false
+off true e = absurd (false≢true e)
+off false e = refl
+
+abbrev is_wanted_net : Circuit → NetId → Bool
+is_wanted_net c n = not (has_net c.inputs n) && is_driven c n
+
 one_placed : (c : Circuit) (m : Member) (count : ℕ) → m.place < count → All (IsPlaced count) (asked_net c m)
-one_placed c m count lt = by (has_net c.inputs (net_id m.place))
+one_placed c m count lt = by (is_wanted_net c (net_id m.place))
   where
     alone : (k : ℕ) (d : NetId) → k < 1 → IsPlaced count (get_or (net_id m.place ∷ []) k d)
     alone zero d less = lt
     alone (suc k) d less = absurd (omega (arith, less))
 
-    by : (b : Bool) → All (IsPlaced count) (if b then [] else net_id m.place ∷ [])
-    by true = All-nil (IsPlaced count)
-    by false = λ k d less. alone k d less
+    by : (b : Bool) → All (IsPlaced count) (if b then net_id m.place ∷ [] else [])
+    by true = λ k d less. alone k d less
+    by false = All-nil (IsPlaced count)
 
 one_driven : (c : Circuit) (m : Member) → All (IsDriven c) (asked_net c m)
-one_driven c m = by (has_net c.inputs (net_id m.place)) refl
+one_driven c m = by (is_wanted_net c (net_id m.place)) refl
   where
     alone : has_net c.inputs (net_id m.place) ≡ false → (k : ℕ) (d : NetId) → k < 1 → IsDriven c (get_or (net_id m.place ∷ []) k d)
     alone e zero d less = e
     alone e (suc k) d less = absurd (omega (arith, less))
 
-    by : (b : Bool) → has_net c.inputs (net_id m.place) ≡ b → All (IsDriven c) (if b then [] else net_id m.place ∷ [])
-    by true e = All-nil (IsDriven c)
-    by false e = λ k d less. alone e k d less
+    by : (b : Bool) → is_wanted_net c (net_id m.place) ≡ b → All (IsDriven c) (if b then net_id m.place ∷ [] else [])
+    by true e =
+        let parts = and_parts (not (has_net c.inputs (net_id m.place))) (is_driven c (net_id m.place)) e in
+        λ k d less. alone (off (has_net c.inputs (net_id m.place)) parts.0) k d less
+    by false e = All-nil (IsDriven c)
+
+-- what drives a net, by the lists of a netlist
+pub driven_is : (n : Checked) (r : Raw) (inputs : List NetId) (flops : List Flop) (consts : List Const) (gates : List Gate) (id : NetId)
+    (input flop constant gate result : Bool) → parts_of r ≡ n.raw → inputs ≡ (circuit n).inputs → flops ≡ r.flops → consts ≡ r.consts → gates ≡ r.gates →
+    input ≡ has_net inputs id → flop ≡ list_any (λ (x : Flop). x.q.0 == id.0) flops → constant ≡ list_any (λ (x : Const). x.net.0 == id.0) consts →
+    gate ≡ list_any (λ (x : Gate). x.out.0 == id.0) gates →
+    result ≡ (not input && (flop || (constant || gate))) → result ≡ (not (has_net (circuit n).inputs id) && is_driven (circuit n) id)
+driven_is n r inputs flops consts gates id input flop constant gate result parts in_is flops_are consts_are gates_are e₁ e₂ e₃ e₄ is =
+    let i = e₁ ∙ ap (λ (ns : List NetId). has_net ns id) in_is in
+    let f = e₂ ∙ ap (λ (fs : List Flop). list_any (λ (x : Flop). x.q.0 == id.0) fs) (flops_are ∙ ap (λ (p : Parts). p.flops) parts) in
+    let k = e₃ ∙ ap (λ (ks : List Const). list_any (λ (x : Const). x.net.0 == id.0) ks) (consts_are ∙ ap (λ (p : Parts). p.consts) parts) in
+    let g = e₄ ∙ ap (λ (gs : List Gate). list_any (λ (x : Gate). x.out.0 == id.0) gs) (gates_are ∙ ap (λ (p : Parts). p.gates) parts) in
+    is ∙ (λ j. not (i j) && (f j || (k j || g j)))
 
 all_placed : (c : Circuit) (members : List Member) (count : ℕ) → All (Below count) members → All (IsPlaced count) (flat_map (asked_net c) members)
 all_placed c [] count h = All-nil (IsPlaced count)
@@ -150,18 +174,3 @@ facts_more m nets at i n f facts after lt here are is goes =
         subst (λ (j : ℕ). IsAsked m (get_or nets j d) at (get_or (facts ++ f ∷ []) j e)) same
         (subst (IsAsked m (get_or nets i d) at) (sym (get_or_push facts f e i are.size))
         (subst (λ (x : NetId). IsAsked m x at f) (here ∙ get_or_default nets i n d lt) is))
-
-below_from_get : {X : Type 0} (xs : List X) (k : ℕ) (x : X) → slice_get xs k ≡ Some x → k < length xs
-below_from_get [] k x e = absurd cc
-below_from_get (y ∷ ys) zero x e = omega arith
-below_from_get (y ∷ ys) (suc k) x e = omega (arith, below_from_get ys k x e)
-
-pub key_more : (names : List (List ℕ)) (keys : List (Bor (List ℕ))) (key : Bor (List ℕ)) (n : ℕ) (after : List (Bor (List ℕ))) →
-    map (λ s. s.now) keys ≡ take n names → slice_get names n ≡ Some key.now → after ≡ keys ++ key ∷ [] →
-    map (λ s. s.now) after ≡ take (n + 1) names
-key_more names keys key n after e is goes =
-    ap (map (λ (s : Bor (List ℕ)). s.now)) goes
-    ∙ (map-append (λ (s : Bor (List ℕ)). s.now) keys (key ∷ [])
-    ∙ (ap (λ (t : List (List ℕ)). t ++ key.now ∷ []) e
-    ∙ (ap (λ (k : List ℕ). take n names ++ k ∷ []) (sym (get_or_from_slice_get names n key.now key.now is))
-    ∙ sym (take_more names n key.now (below_from_get names n key.now is)))))

@@ -8,8 +8,8 @@ use Rattle.bs_inspect_why.specs.declared.denial.Denial.{Denial}
 use Rattle.bs_inspect_why.specs.declared.denial.Denial.TheVariants.{Moment, Input, Trace, Open}
 use Rattle.bs_inspect_why.specs.Question.{Question, asked_nets, moment_in}
 
--- the moment is not one of the trace's, the name is that of data inputs alone, a state does not lead to the one behind it, or at the
--- last moment, which has no input, a bit that is asked for is open
+-- the moment is not one of the trace's, no net with the name is driven and no data input, a state does not lead to the one behind it, or
+-- at the last moment, which has no input, a bit that is asked for is open
 abbrev pub IsDenied : Parts → (states inputs : List (List Bool)) → Question → Denial → Type 0
 IsDenied raw states inputs q Moment = length states ≤ moment_in (length states) q.at
 IsDenied raw states inputs q Input = asked_nets raw q.name ≡ []

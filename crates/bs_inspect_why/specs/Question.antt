@@ -1,6 +1,6 @@
 -- What is asked of a trace (docs/FORMATS.md, "Causes").
-use Rattle.std.specs.Prelude.{◌≡◌, ℕ, ◌-◌, ◌<◌, Bool, List, [], ◌∷◌, length, slice_index_or, Option, Some, None, if◌then◌else◌}
-use Rattle.std.specs.List.{flat_map}
+use Rattle.std.specs.Prelude.{◌≡◌, ℕ, ◌-◌, ◌<◌, ◌==◌, ◌&&◌, ◌||◌, not, Bool, List, [], ◌∷◌, length, slice_index_or, Option, Some, None, if◌then◌else◌}
+use Rattle.std.specs.List.{flat_map, list_any}
 use Rattle.bs_net.specs.Circuit.{Circuit}
 use Rattle.bs_net.specs.Netlist.{circuit_of, circuit}
 use Rattle.bs_net.specs.Parts.{Parts}
@@ -33,11 +33,16 @@ moment_in count (Some at) = at
 abbrev pub net_id : ℕ → NetId
 net_id n = record { 0 = n }
 
--- a net with the name, unless it is a data input
-abbrev pub asked_net : Circuit → Member → List NetId
-asked_net c m = if has_net c.inputs (net_id m.place) then [] else net_id m.place ∷ []
+-- whether a flip-flop, a constant or a gate drives a net; a net that none of them drives is a data input, or shows 0 at every moment
+abbrev pub is_driven : Circuit → NetId → Bool
+is_driven c n =
+    list_any (λ f. f.q.0 == n.0) c.flops || (list_any (λ k. k.net.0 == n.0) c.constants || list_any (λ g. g.out.0 == n.0) c.gates)
 
--- the nets with a name that are no data inputs
+-- a net with the name, where something drives it and it is no data input
+abbrev pub asked_net : Circuit → Member → List NetId
+asked_net c m = if not (has_net c.inputs (net_id m.place)) && is_driven c (net_id m.place) then net_id m.place ∷ [] else []
+
+-- the nets with a name that are driven and no data inputs
 abbrev pub asked_nets : Parts → List ℕ → List NetId
 asked_nets raw name = flat_map (asked_net (circuit_of raw)) (members_of (name ∷ []) raw.names)
 

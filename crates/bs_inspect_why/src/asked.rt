@@ -1,36 +1,17 @@
 //! The nets with a name, and their facts.
-ghost use Rattle.std.specs.Prelude.{◌≡◌, ◌<◌, ◌≤◌, ◌^◌, ◌∷◌, [], ◌++◌, false, length, map, All, IfOk, MatchOption, OnOk};
-ghost use Rattle.std.specs.List.{flat_map};
-ghost use Rattle.bs_net.specs.Netlist.{circuit, parts_of};
+ghost use Rattle.std.specs.Prelude.{◌≡◌, ◌<◌, ◌≤◌, ◌==◌, ◌&&◌, ◌∷◌, [], ◌++◌, false, not, length, map, All, IfOk, MatchOption, OnOk};
+ghost use Rattle.std.specs.List.{flat_map, list_any};
+ghost use Rattle.bs_net.specs.Netlist.{circuit};
 ghost use Rattle.bs_net_names.specs.Signals.{member_in, members_of};
 ghost use Rattle.bs_inspect_accounts.specs.Accounts.{has_net};
-ghost use Rattle.bs_inspect_why.specs.Question.{AreAsked, asked_net, asked_nets, IsAsked};
+ghost use Rattle.bs_inspect_why.specs.Question.{AreAsked, asked_net, asked_nets, IsAsked, is_driven};
 
 use bs_bits::{List, NoMemory};
-use bs_net::{NetId, Netlist, Raw};
+use bs_inspect_view::net_keys;
+use bs_net::{Const, Flop, Gate, NetId, Netlist};
 use bs_net_facts::{Fact, Moments};
 use bs_net_names::{Member, members};
 use std::alloc::Global;
-
-/// The keys of the nets of a netlist's parts.
-fn keys_of<'a>(alloc: Global, raw: &'a Raw) -> Result<Vec<&'a str>, NoMemory>
-    ensures { IfOk result (λ keys. map (λ s. s.now) keys.items ≡ (parts_of raw.now).names) }
-{
-    let mut keys = Vec::new(alloc);
-    'nets: for n in 0..raw.names.len() {
-        keys.push(raw.names.key(NetId(n)))?;
-    }
-    Ok(keys)
-}
-
-/// The keys of the nets.
-pub(crate) fn net_keys<'a>(alloc: Global, net: &'a Netlist) -> Result<Vec<&'a str>, NoMemory>
-    ensures are { IfOk result (λ keys. map (λ s. s.now) keys.items ≡ net.now.raw.names) }
-    ensures few { IfOk result (λ keys. length keys.items < 2 ^ 32) }
-{
-    let keys = keys_of(alloc, net.raw())?;
-    Ok(keys)
-}
 
 /// The nets with a name.
 #[tactic(auto, using(crate::proofs::AskedLemmas::members_are))]
@@ -49,18 +30,52 @@ fn has_net(nets: &[NetId], net: NetId) -> bool
     nets.iter().any(|other| other.0 == net.0)
 }
 
-/// Puts a net at the end, unless it is a data input.
+/// Whether a flip-flop drives a net.
+fn flop_drives(flops: &[Flop], net: NetId) -> bool
+    ensures { result ≡ list_any (λ f. f.q.0 == net.0) flops.now }
+{
+    flops.iter().any(|flop| flop.q.0 == net.0)
+}
+
+/// Whether a constant drives a net.
+fn constant_drives(constants: &[Const], net: NetId) -> bool
+    ensures { result ≡ list_any (λ k. k.net.0 == net.0) constants.now }
+{
+    constants.iter().any(|constant| constant.net.0 == net.0)
+}
+
+/// Whether a gate drives a net.
+fn gate_drives(gates: &[Gate], net: NetId) -> bool
+    ensures { result ≡ list_any (λ g. g.out.0 == net.0) gates.now }
+{
+    gates.iter().any(|gate| gate.out.0 == net.0)
+}
+
+/// Whether a net is driven and no data input.
+#[tactic(auto, using(crate::proofs::AskedLemmas::driven_is))]
+fn is_asked(net: &Netlist, id: NetId) -> bool
+    ensures { result ≡ (not (has_net (circuit net.now).inputs id) && is_driven (circuit net.now) id) }
+{
+    let raw = net.raw();
+    let input = has_net(net.data_inputs().slice(), id);
+    let flop = flop_drives(raw.flops.slice(), id);
+    let constant = constant_drives(raw.consts.slice(), id);
+    let gate = gate_drives(raw.gates.slice(), id);
+    !input && (flop || (constant || gate))
+}
+
+/// Puts a net at the end, where it is driven and no data input.
 fn put_asked(nets: &mut Vec<NetId>, net: &Netlist, member: &Member<'_>) -> Result<(), NoMemory>
     ensures { OnOk result (nets.new.items ≡ nets.old.items ++ asked_net (circuit net.now) (member_in member.now)) }
 {
     let id = NetId(member.place);
-    if !has_net(net.data_inputs().slice(), id) {
+    if is_asked(net, id) {
         nets.push(id)?;
     }
     Ok(())
 }
 
-/// Those of some nets that are no data inputs.
+/// Those of some nets that are driven and no data inputs.
 fn driven(alloc: Global, net: &Netlist, members: &[Member<'_>]) -> Result<Vec<NetId>, NoMemory>
     ensures { IfOk result (λ nets. nets.items ≡ flat_map (asked_net (circuit net.now)) (map member_in members.now)) }
 {
@@ -71,7 +86,7 @@ fn driven(alloc: Global, net: &Netlist, members: &[Member<'_>]) -> Result<Vec<Ne
     Ok(nets)
 }
 
-/// The nets with a name that are no data inputs.
+/// The nets with a name that are driven and no data inputs.
 #[tactic(auto, using(crate::proofs::AskedLemmas::nets_are, crate::proofs::AskedLemmas::nets_placed, crate::proofs::AskedLemmas::nets_driven))]
 pub(crate) fn asked_nets(alloc: Global, net: &Netlist, name: &str) -> Result<Vec<NetId>, NoMemory>
     ensures placed { IfOk result (λ nets. All (λ n. n.0 < (circuit net.now).nets) nets.items) }

@@ -10,7 +10,7 @@ use std::alloc::Global;
 pub enum Denial {
     /// The moment is not one of the trace's.
     Moment,
-    /// The name is that of data inputs alone, which nothing forces.
+    /// The name is that of data inputs and of nets without a driver alone, which nothing forces.
     Input,
     /// The state with this number does not lead to the next one.
     Trace(usize),

@@ -1,11 +1,10 @@
 //! Where cones end, and which nets make a vector. Nothing is promised of either: what the choice proposes is decided by is_block.
 
-use crate::asked::net_keys;
 use bs_bits::NoMemory;
 use bs_inspect_holds::put;
-use bs_inspect_view::is_nameless;
+use bs_inspect_view::{is_nameless, net_keys, net_signals};
 use bs_net::{Gate, Kind, Netlist};
-use bs_net_names::{Signal, key_parts, signals};
+use bs_net_names::{Signal, key_parts};
 use std::alloc::Global;
 
 /// Whether a cone ends at each of these nets: at those with a name that somebody gave them, unless it ends at flip-flops alone.
@@ -53,9 +52,8 @@ fn put_groups(groups: &mut Vec<u32>, signals: &[Signal<'_>]) {
 
 /// The number of the vector of each net.
 pub(crate) fn groups(alloc: Global, net: &Netlist) -> Result<Vec<u32>, NoMemory> {
-    let keys = net_keys(alloc, net)?;
-    let signals = signals(alloc, keys.as_slice(), &[])?;
-    let mut groups: Vec<u32> = vec![in alloc; 0; keys.len()]?;
+    let signals = net_signals(alloc, net, &[])?;
+    let mut groups: Vec<u32> = vec![in alloc; 0; net.raw().names.len() as usize]?;
     put_groups(&mut groups, signals.as_slice());
     Ok(groups)
 }

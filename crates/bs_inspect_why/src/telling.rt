@@ -9,6 +9,7 @@ ghost use Rattle.bs_inspect_accounts.specs.Chains.{ArePlaces, chain_at, chains_o
 ghost use Rattle.bs_inspect_why.specs.Stills.{shown};
 ghost use Rattle.bs_inspect_why.specs.Why.{episode_of, episode_with, ordered_at, TellsAccounts, TellsBlocks, TellsBlocksWith, TellsChain, TellsChains, TellsPlaces};
 
+use crate::question::Asked;
 use crate::still::{shown, stills_for, used};
 use crate::table::accounts_table;
 use bs_bits::NoMemory;
@@ -198,46 +199,42 @@ fn text_with(alloc: Global, telling: &Telling<'_>) -> Result<Vec<u8>, NoMemory>
 /// The text of accounts as blocks.
 #[tactic(auto, using(crate::proofs::TellingLemmas::blocks_are))]
 fn blocks_text(
-    alloc: Global,
     moments: &Moments<'_>,
-    report: &Report,
-    all: bool,
+    asked: &Asked<'_>,
     accounts: &[Account],
 ) -> Result<Vec<u8>, NoMemory>
     requires way { IsWayOf (circuit moments.now.net) moments.now.states moments.now.inputs }
     requires accounts { All (IsAccount (circuit moments.now.net) moments.now.states moments.now.inputs) accounts.now }
-    ensures { IfOk result (λ text. TellsBlocks moments.now report.now all accounts.now text.items) }
+    ensures { IfOk result (λ text. TellsBlocks moments.now asked.now.report.now asked.now.question.now.all accounts.now text.items) }
 {
-    let stills = stills_for(alloc, moments, all)?;
+    let all = asked.question.all;
+    let stills = stills_for(asked.alloc, moments, all)?;
     let telling = Telling {
         moments,
-        report,
+        report: asked.report,
         few: limits_of(all),
         stills: stills.as_slice(),
         accounts,
     };
-    let text = text_with(alloc, &telling)?;
+    let text = text_with(asked.alloc, &telling)?;
     Ok(text)
 }
 
 /// The text of accounts, as blocks or as a table.
 #[tactic(auto, using(crate::proofs::TellingLemmas::table_told, crate::proofs::TellingLemmas::blocks_told))]
 pub(crate) fn accounts_text(
-    alloc: Global,
     moments: &Moments<'_>,
-    report: &Report,
-    csv: bool,
-    all: bool,
+    asked: &Asked<'_>,
     accounts: &[Account],
 ) -> Result<Vec<u8>, NoMemory>
     requires way { IsWayOf (circuit moments.now.net) moments.now.states moments.now.inputs }
     requires accounts { All (IsAccount (circuit moments.now.net) moments.now.states moments.now.inputs) accounts.now }
-    ensures { IfOk result (λ text. TellsAccounts csv moments.now report.now all accounts.now text.items) }
+    ensures { IfOk result (λ text. TellsAccounts asked.now.question.now.csv moments.now asked.now.report.now asked.now.question.now.all accounts.now text.items) }
 {
-    if csv {
-        let text = accounts_table(alloc, moments.net().raw(), accounts)?;
+    if asked.question.csv {
+        let text = accounts_table(asked.alloc, moments.net().raw(), accounts)?;
         return Ok(text);
     }
-    let text = blocks_text(alloc, moments, report, all, accounts)?;
+    let text = blocks_text(moments, asked, accounts)?;
     Ok(text)
 }

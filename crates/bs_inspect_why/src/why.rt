@@ -8,36 +8,36 @@ ghost use Rattle.bs_inspect_why.specs.Why.{Answers, AnswersAt, AnswersOn, TellsF
 
 use crate::asked::{asked_facts, asked_nets};
 use crate::denial::{Denial, Why};
-use crate::question::Question;
+use crate::question::{Asked, Question};
 use crate::setting::{groups, stops};
 use crate::telling::accounts_text;
 use bs_bits::{List, NoMemory};
 use bs_inspect_accounts::Account;
 use bs_inspect_causes::{accounts_of, first_break};
 use bs_inspect_holds::Scene;
-use bs_net::{NetId, Netlist};
+use bs_net::Netlist;
 use bs_net_facts::{Fact, Moments};
 use bs_report::Report;
 use std::alloc::Global;
 
 /// Accounts of facts, where cones end at these nets.
 fn accounts_by(
-    alloc: Global,
     moments: &Moments<'_>,
+    asked: &Asked<'_>,
     stops: &[bool],
     groups: &[u32],
-    question: &Question<'_>,
     facts: &[Fact],
 ) -> Result<List<Account>, NoMemory>
     requires way { IsWayOf (circuit moments.now.net) moments.now.states moments.now.inputs }
     requires leads { LeadsOn (circuit moments.now.net) moments.now.states moments.now.inputs }
     requires real { All (IsReal (circuit moments.now.net) moments.now.states moments.now.inputs) facts.now }
     requires driven { All (λ f. has_net (circuit moments.now.net).inputs f.net ≡ false) facts.now }
-    requires some_layer { 1 ≤ question.now.depth }
-    ensures { IfOk result (λ accounts. Explain (circuit moments.now.net) moments.now.states moments.now.inputs facts.now question.now.depth accounts) }
+    requires some_layer { 1 ≤ asked.now.question.now.depth }
+    ensures { IfOk result (λ accounts. Explain (circuit moments.now.net) moments.now.states moments.now.inputs facts.now asked.now.question.now.depth accounts) }
 {
-    let scene = Scene::new(alloc, moments, stops, groups)?;
-    let made = accounts_of(alloc, &scene, facts, question.depth, question.all);
+    let question = asked.question;
+    let scene = Scene::new(asked.alloc, moments, stops, groups)?;
+    let made = accounts_of(asked.alloc, &scene, facts, question.depth, question.all);
     drop(scene);
     let accounts = made?;
     Ok(accounts)
@@ -45,75 +45,44 @@ fn accounts_by(
 
 /// Accounts of facts.
 fn accounts_told(
-    alloc: Global,
     moments: &Moments<'_>,
-    question: &Question<'_>,
+    asked: &Asked<'_>,
     facts: &[Fact],
 ) -> Result<List<Account>, NoMemory>
     requires way { IsWayOf (circuit moments.now.net) moments.now.states moments.now.inputs }
     requires leads { LeadsOn (circuit moments.now.net) moments.now.states moments.now.inputs }
     requires real { All (IsReal (circuit moments.now.net) moments.now.states moments.now.inputs) facts.now }
     requires driven { All (λ f. has_net (circuit moments.now.net).inputs f.net ≡ false) facts.now }
-    requires some_layer { 1 ≤ question.now.depth }
-    ensures { IfOk result (λ accounts. Explain (circuit moments.now.net) moments.now.states moments.now.inputs facts.now question.now.depth accounts) }
+    requires some_layer { 1 ≤ asked.now.question.now.depth }
+    ensures { IfOk result (λ accounts. Explain (circuit moments.now.net) moments.now.states moments.now.inputs facts.now asked.now.question.now.depth accounts) }
 {
-    let stops = stops(alloc, moments.net(), question.flops)?;
-    let groups = groups(alloc, moments.net())?;
-    let accounts = accounts_by(
-        alloc,
-        moments,
-        stops.as_slice(),
-        groups.as_slice(),
-        question,
-        facts,
-    )?;
+    let stops = stops(asked.alloc, moments.net(), asked.question.flops)?;
+    let groups = groups(asked.alloc, moments.net())?;
+    let accounts = accounts_by(moments, asked, stops.as_slice(), groups.as_slice(), facts)?;
     Ok(accounts)
 }
 
 /// The text of accounts of facts.
 #[tactic(auto, using(crate::proofs::WhyLemmas::facts_told))]
-fn facts_text(
-    alloc: Global,
-    moments: &Moments<'_>,
-    report: &Report,
-    question: &Question<'_>,
-    facts: &[Fact],
-) -> Result<Vec<u8>, NoMemory>
+fn facts_text(moments: &Moments<'_>, asked: &Asked<'_>, facts: &[Fact]) -> Result<Vec<u8>, NoMemory>
     requires way { IsWayOf (circuit moments.now.net) moments.now.states moments.now.inputs }
     requires leads { LeadsOn (circuit moments.now.net) moments.now.states moments.now.inputs }
     requires real { All (IsReal (circuit moments.now.net) moments.now.states moments.now.inputs) facts.now }
     requires driven { All (λ f. has_net (circuit moments.now.net).inputs f.net ≡ false) facts.now }
-    requires some_layer { 1 ≤ question.now.depth }
-    ensures { IfOk result (λ text. TellsFacts moments.now report.now (question_in question.now) facts.now text.items) }
+    requires some_layer { 1 ≤ asked.now.question.now.depth }
+    ensures { IfOk result (λ text. TellsFacts moments.now asked.now.report.now (question_in asked.now.question.now) facts.now text.items) }
 {
-    let accounts = accounts_told(alloc, moments, question, facts)?;
-    let told = accounts_text(
-        alloc,
-        moments,
-        report,
-        question.csv,
-        question.all,
-        accounts.slice(),
-    );
+    let accounts = accounts_told(moments, asked, facts)?;
+    let told = accounts_text(moments, asked, accounts.slice());
     drop(accounts);
     let text = told?;
     Ok(text)
 }
 
-/// What is asked: a question, its moment, and the nets with its name that are no data inputs.
-#[derive(Clone, Copy)]
-struct Asked<'a> {
-    question: &'a Question<'a>,
-    at: u32,
-    nets: &'a [NetId],
-}
-
 /// The answer by the facts of nets.
 #[tactic(auto, using(crate::proofs::WhyLemmas::nets_told, crate::proofs::WhyLemmas::open_told))]
 fn answer_by(
-    alloc: Global,
     moments: &Moments<'_>,
-    report: &Report,
     asked: &Asked<'_>,
     facts: Option<List<Fact>>,
 ) -> Result<Why, NoMemory>
@@ -123,11 +92,11 @@ fn answer_by(
     requires driven { All (λ n. has_net (circuit moments.now.net).inputs n ≡ false) asked.now.nets.now }
     requires facts { MatchOption facts (length moments.now.inputs ≤ asked.now.at) (AreAsked moments.now asked.now.nets.now asked.now.at (length asked.now.nets.now)) }
     requires some_layer { 1 ≤ asked.now.question.now.depth }
-    ensures { IfOk result (AnswersAt moments.now report.now (question_in asked.now.question.now) asked.now.nets.now asked.now.at) }
+    ensures { IfOk result (AnswersAt moments.now asked.now.report.now (question_in asked.now.question.now) asked.now.nets.now asked.now.at) }
 {
     match facts {
         Some(facts) => {
-            let text = facts_text(alloc, moments, report, asked.question, facts.slice())?;
+            let text = facts_text(moments, asked, facts.slice())?;
             Ok(Why::Text(text))
         }
         None => Ok(Why::Denied(Denial::Open)),
@@ -135,42 +104,33 @@ fn answer_by(
 }
 
 /// The answer by a trace.
-fn answer_at(
-    alloc: Global,
-    moments: &Moments<'_>,
-    report: &Report,
-    asked: &Asked<'_>,
-) -> Result<Why, NoMemory>
+fn answer_at(moments: &Moments<'_>, asked: &Asked<'_>) -> Result<Why, NoMemory>
     requires way { IsWayOf (circuit moments.now.net) moments.now.states moments.now.inputs }
     requires leads { LeadsOn (circuit moments.now.net) moments.now.states moments.now.inputs }
     requires some { 0 < length asked.now.nets.now }
     requires placed { All (λ n. n.0 < (circuit moments.now.net).nets) asked.now.nets.now }
     requires driven { All (λ n. has_net (circuit moments.now.net).inputs n ≡ false) asked.now.nets.now }
     requires some_layer { 1 ≤ asked.now.question.now.depth }
-    ensures { IfOk result (AnswersAt moments.now report.now (question_in asked.now.question.now) asked.now.nets.now asked.now.at) }
+    ensures { IfOk result (AnswersAt moments.now asked.now.report.now (question_in asked.now.question.now) asked.now.nets.now asked.now.at) }
 {
-    let facts = asked_facts(alloc, moments, asked.nets, asked.at)?;
-    answer_by(alloc, moments, report, asked, facts)
+    let facts = asked_facts(asked.alloc, moments, asked.nets, asked.at)?;
+    answer_by(moments, asked, facts)
 }
 
 /// The answer of a trace that leads on.
 #[tactic(auto, using(crate::proofs::WhyLemmas::way_seen, crate::proofs::WhyLemmas::leads_seen, crate::proofs::WhyLemmas::placed_seen, crate::proofs::WhyLemmas::driven_seen, crate::proofs::WhyLemmas::answer_seen))]
-fn answer_on(
-    alloc: Global,
-    net: &Netlist,
-    report: &Report,
-    asked: &Asked<'_>,
-) -> Result<Why, NoMemory>
-    requires way { IsWayOf (circuit net.now) report.now.states report.now.inputs }
-    requires leads { LeadsOn (circuit net.now) report.now.states report.now.inputs }
+fn answer_on(net: &Netlist, asked: &Asked<'_>) -> Result<Why, NoMemory>
+    requires way { IsWayOf (circuit net.now) asked.now.report.now.states asked.now.report.now.inputs }
+    requires leads { LeadsOn (circuit net.now) asked.now.report.now.states asked.now.report.now.inputs }
     requires some { 0 < length asked.now.nets.now }
     requires placed { All (λ n. n.0 < (circuit net.now).nets) asked.now.nets.now }
     requires driven { All (λ n. has_net (circuit net.now).inputs n ≡ false) asked.now.nets.now }
     requires some_layer { 1 ≤ asked.now.question.now.depth }
-    ensures { IfOk result (AnswersOn net.now report.now (question_in asked.now.question.now) asked.now.nets.now asked.now.at) }
+    ensures { IfOk result (AnswersOn net.now asked.now.report.now (question_in asked.now.question.now) asked.now.nets.now asked.now.at) }
 {
-    let moments = Moments::of(alloc, net, &report.states, &report.inputs)?;
-    let answer = answer_at(alloc, &moments, report, asked);
+    let report = asked.report;
+    let moments = Moments::of(asked.alloc, net, &report.states, &report.inputs)?;
+    let answer = answer_at(&moments, asked);
     drop(moments);
     let why = answer?;
     Ok(why)
@@ -178,27 +138,23 @@ fn answer_on(
 
 /// The answer of a report's trace, if there are nets and it leads on.
 #[tactic(auto, using(crate::proofs::WhyLemmas::none_asked, crate::proofs::WhyLemmas::some_asked, crate::proofs::WhyLemmas::text_answers, crate::proofs::WhyLemmas::break_answers))]
-fn answer_of(
-    alloc: Global,
-    net: &Netlist,
-    report: &Report,
-    asked: &Asked<'_>,
-) -> Result<Why, NoMemory>
-    requires way { IsWayOf (circuit net.now) report.now.states report.now.inputs }
-    requires at { asked.now.at ≡ moment_in (length report.now.states) asked.now.question.now.at }
-    requires there { asked.now.at < length report.now.states }
+fn answer_of(net: &Netlist, asked: &Asked<'_>) -> Result<Why, NoMemory>
+    requires way { IsWayOf (circuit net.now) asked.now.report.now.states asked.now.report.now.inputs }
+    requires at { asked.now.at ≡ moment_in (length asked.now.report.now.states) asked.now.question.now.at }
+    requires there { asked.now.at < length asked.now.report.now.states }
     requires nets { asked.now.nets.now ≡ nets_asked net.now.raw asked.now.question.now.name.now }
     requires placed { All (λ n. n.0 < (circuit net.now).nets) asked.now.nets.now }
     requires driven { All (λ n. has_net (circuit net.now).inputs n ≡ false) asked.now.nets.now }
     requires some_layer { 1 ≤ asked.now.question.now.depth }
-    ensures { IfOk result (Answers net.now.raw report.now (question_in asked.now.question.now)) }
+    ensures { IfOk result (Answers net.now.raw asked.now.report.now (question_in asked.now.question.now)) }
 {
     if asked.nets.is_empty() {
         return Ok(Why::Denied(Denial::Input));
     }
-    match first_break(alloc, net, &report.states, &report.inputs)? {
+    let report = asked.report;
+    match first_break(asked.alloc, net, &report.states, &report.inputs)? {
         Some(number) => Ok(Why::Denied(Denial::Trace(number))),
-        None => answer_on(alloc, net, report, asked),
+        None => answer_on(net, asked),
     }
 }
 
@@ -239,11 +195,13 @@ fn answer_then(
 {
     let nets = asked_nets(alloc, net, question.name)?;
     let asked = Asked {
+        alloc,
+        report,
         question,
         at,
         nets: nets.as_slice(),
     };
-    let why = answer_of(alloc, net, report, &asked)?;
+    let why = answer_of(net, &asked)?;
     Ok(why)
 }
 

@@ -6,6 +6,7 @@ pub mod CauseLemmas
 pub mod StretchLemmas
 pub mod ReasonLemmas
 pub mod GroupLemmas
+pub mod FrontLemmas
 pub mod SpanLemmas
 pub mod HeadLemmas
 pub mod BlockLemmas

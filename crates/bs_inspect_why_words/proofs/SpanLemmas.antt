@@ -1,5 +1,5 @@
 -- The lines of groups.
-use Rattle.std.proofs.Common.{◌≡◌, ℕ, ◌<◌, ◌≤◌, ◌+◌, ◌-◌, Bool, List, [], ◌∷◌, ◌++◌, length, take, refl, ap, sym, ◌∙◌, ◌⊎◌, inl, inr, arith, append_assoc}
+use Rattle.std.proofs.Common.{◌≡◌, ℕ, ◌<◌, ◌≤◌, ◌+◌, ◌-◌, Bool, List, [], ◌∷◌, ◌++◌, length, take, refl, ap, sym, subst, ◌∙◌, ◌⊎◌, inl, inr, arith, append_assoc}
 use Rattle.std.specs.Prelude.{nat_lt, if◌then◌else◌}
 use Rattle.std.specs.List.{flat_map}
 use Rattle.std.proofs.lemmas.Bool.{cases_lt, le-ltb, lt-ltb}
@@ -12,13 +12,18 @@ use Rattle.bs_inspect_why_words.specs.declared.group.Group.{Group}
 use Rattle.bs_inspect_why_words.specs.declared.group.Span.{Span}
 use Rattle.bs_inspect_why_words.specs.Facts.{more_words}
 use Rattle.bs_inspect_why_words.specs.Blocks.{Appends}
-use Rattle.bs_inspect_why_words.specs.Groups.{AreGroups, TellsGroups, group_spans, groups_lines, groups_of, span, span_words, spans_words}
+use Rattle.bs_inspect_why_words.specs.Groups.{AreFronted, AreGroups, TellsGroups, group_spans, groups_lines, groups_of, span, span_words, spans_words}
 use Rattle.bs_inspect_why_words.specs.Reasons.{AreReasons}
 use Rattle.bs_inspect_why_words.specs.Stretches.{starts}
 
-pub groups_are : (raw : Parts) (most : ℕ) (facts : List Fact) (reasons : List Reason) (groups : List Group) →
-    AreReasons raw most facts (starts facts) (length (starts facts)) reasons → groups ≡ groups_of reasons → AreGroups raw most facts groups
-groups_are raw most facts reasons groups are e = record { reasons = reasons; are = are; grouped = e }
+pub groups_are : (raw : Parts) (most : ℕ) (facts : List Fact) (reasons : List Reason) (groups fronts : List Group) →
+    AreReasons raw most facts (starts facts) (length (starts facts)) reasons → groups ≡ groups_of reasons → AreFronted reasons groups fronts →
+    AreGroups raw most facts fronts
+groups_are raw most facts reasons groups fronts are e first = record {
+  reasons = reasons;
+  are = are;
+  grouped = subst (λ (gs : List Group). AreFronted reasons gs fronts) e first;
+}
 
 pub groups_told : (raw : Parts) (lead : List ℕ) (facts_most most spans : ℕ) (facts : List Fact) (groups : List Group) (old new : List ℕ) →
     AreGroups raw facts_most facts groups → new ≡ old ++ groups_lines lead most spans groups →

@@ -1,5 +1,5 @@
 -- Cycles of which the same is told, in one line (docs/FORMATS.md, "Causes").
-use Rattle.std.specs.Prelude.{◌≡◌, ℕ, ◌+◌, ◌-◌, ◌==◌, Bool, List, [], ◌∷◌, ◌++◌, length, take, fold, codes, decimal, slice_index_or, slice_set, Option, Some, None, if◌then◌else◌}
+use Rattle.std.specs.Prelude.{◌≡◌, ℕ, ◌+◌, ◌-◌, ◌<◌, ◌≤◌, ◌==◌, nat_lt, Bool, List, [], ◌∷◌, ◌++◌, length, take, drop, fold, count_by, codes, decimal, slice_index_or, slice_set, Option, Some, None, if◌then◌else◌}
 use Rattle.std.specs.List.{flat_map, position}
 use Rattle.std.specs.Str.{bytes_eq}
 use Rattle.bs_bits.specs.Lines.{line}
@@ -42,6 +42,43 @@ joined groups r = joined_at (place_of groups r.words) groups r
 abbrev pub groups_of : List Reason → List Group
 groups_of reasons = fold joined [] reasons
 
+-- ---- which stands first
+
+-- in how many cycles the words of a group are told
+abbrev pub told_in : List Reason → Group → ℕ
+told_in reasons g = count_by (λ r. bytes_eq r.words g.words) reasons
+
+abbrev pub no_group : Group
+no_group = record { words = []; closed = []; from = 0; to = 0 }
+
+abbrev pub told_at : List Reason → List Group → ℕ → ℕ
+told_at reasons groups i = told_in reasons (slice_index_or groups i no_group)
+
+-- the place of the group whose words are told in the most cycles, the first of several
+pub record IsWidest (reasons : List Reason) (groups : List Group) (place : ℕ) : Type 0 where
+  pub there : 0 < length groups → place < length groups
+  pub most : (i : ℕ) → i < length groups → told_at reasons groups i ≤ told_at reasons groups place
+  pub first : (i : ℕ) → i < place → told_at reasons groups i < told_at reasons groups place
+
+-- the same of the first groups, and in how many cycles its words are told; of no group 0
+pub record IsWidestOf (reasons : List Reason) (groups : List Group) (count place told : ℕ) : Type 0 where
+  pub within : count ≤ length groups
+  pub none : count ≡ 0 → (place ≡ 0) × (told ≡ 0)
+  pub there : 0 < count → (place < count) × (told ≡ told_at reasons groups place)
+  pub most : (i : ℕ) → i < count → told_at reasons groups i ≤ told
+  pub first : (i : ℕ) → i < place → told_at reasons groups i < told
+
+-- groups with the one at a place first
+abbrev pub fronted : List Group → ℕ → List Group
+fronted groups place =
+    if nat_lt place (length groups) then slice_index_or groups place no_group ∷ (take place groups ++ drop (place + 1) groups) else groups
+
+-- groups with the one first, of the first `MAX_APART`, whose words are told in the most cycles
+pub record AreFronted (reasons : List Reason) (groups fronts : List Group) : Type 0 where
+  pub place : ℕ
+  pub widest : IsWidest reasons (take MAX_APART groups) place
+  pub are : fronts ≡ fronted groups place
+
 -- ---- lines
 
 -- the cycles of a group
@@ -73,7 +110,7 @@ groups_lines lead most spans groups = flat_map (group_line lead spans) (take mos
 pub record AreGroups (raw : Parts) (most : ℕ) (facts : List Fact) (groups : List Group) : Type 0 where
   pub reasons : List Reason
   pub are : AreReasons raw most facts (starts facts) (length (starts facts)) reasons
-  pub grouped : groups ≡ groups_of reasons
+  pub grouped : AreFronted reasons (groups_of reasons) groups
 
 -- the lines of facts, which are told by cycles: what is the same in several cycles stands in one line
 pub record TellsGroups (raw : Parts) (lead : List ℕ) (facts_most most spans : ℕ) (facts : List Fact) (text : List ℕ) : Type 0 where

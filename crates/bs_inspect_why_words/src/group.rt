@@ -1,6 +1,6 @@
 //! Cycles of which the same is told.
 ghost use Rattle.std.specs.Prelude.{◌≡◌, ◌<◌, length, IfOk, OnOk, None, Some};
-ghost use Rattle.bs_inspect_why_words.specs.Groups.{groups_of, joined, joined_at, longer, place_of, single};
+ghost use Rattle.bs_inspect_why_words.specs.Groups.{AreFronted, groups_of, IsWidest, joined, joined_at, longer, place_of, single, told_in};
 
 use crate::limits::MAX_APART;
 use crate::reason::Reason;
@@ -105,5 +105,49 @@ pub(crate) fn groups_of(alloc: Global, reasons: &[Reason]) -> Result<Vec<Group>,
     'reasons: for reason in reasons {
         join(alloc, &mut groups, reason)?;
     }
+    Ok(groups)
+}
+
+/// In how many cycles the words of a group are told.
+#[tactic(auto, using(crate::proofs::FrontLemmas::told_is))]
+fn told_in(reasons: &[Reason], group: &Group) -> usize
+    ensures { result ≡ told_in reasons.now group.now }
+{
+    let words = group.words.slice();
+    reasons
+        .iter()
+        .filter(|reason| reason.words.slice() == words)
+        .count()
+}
+
+/// The place of the group whose words are told in the most cycles.
+#[tactic(auto, using(crate::proofs::FrontLemmas::widest_begin, crate::proofs::FrontLemmas::widest_all))]
+fn widest(reasons: &[Reason], groups: &[Group]) -> usize
+    ensures { IsWidest reasons.now groups.now result }
+{
+    let mut best = 0;
+    let mut most = 0;
+    'groups: for i in 0..groups.len() {
+        let told = told_in(reasons, &groups[i]);
+        if most < told {
+            best = i;
+            most = told;
+        }
+    }
+    best
+}
+
+/// Groups with the one first whose words are told in the most cycles.
+#[tactic(auto, using(crate::proofs::FrontLemmas::fronted_past, crate::proofs::FrontLemmas::fronted_here))]
+pub(crate) fn fronted(reasons: &[Reason], groups: Vec<Group>) -> Result<Vec<Group>, NoMemory>
+    ensures { IfOk result (λ fronts. AreFronted reasons.now groups.items fronts.items) }
+{
+    let mut groups = groups;
+    let place = widest(reasons, first_of(groups.as_slice(), MAX_APART));
+    if place >= groups.len() {
+        return Ok(groups);
+    }
+    let group = groups.remove(place);
+    groups.insert(0, group)?;
     Ok(groups)
 }

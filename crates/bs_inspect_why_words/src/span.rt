@@ -5,7 +5,7 @@ ghost use Rattle.bs_net.specs.Netlist.{parts_of};
 ghost use Rattle.bs_inspect_why_words.specs.Blocks.{Appends};
 ghost use Rattle.bs_inspect_why_words.specs.Groups.{end_words, group_line, group_spans, groups_lines, rest_line, span_words, spans_words, AreGroups, TellsGroups};
 
-use crate::group::{Group, Span, groups_of};
+use crate::group::{Group, Span, fronted, groups_of};
 use crate::limits::Limits;
 use crate::reason::reasons;
 use crate::words::{first_of, push_more};
@@ -125,7 +125,7 @@ fn push_groups(
     push_rest(text, lead, groups.len().saturating_sub(most))
 }
 
-/// The groups of facts, which are told by cycles.
+/// The groups of facts, which are told by cycles: first what is told in the most cycles.
 #[tactic(auto, using(crate::proofs::SpanLemmas::groups_are))]
 fn fact_groups(
     alloc: Global,
@@ -137,7 +137,8 @@ fn fact_groups(
 {
     let reasons = reasons(alloc, raw, facts, most)?;
     let groups = groups_of(alloc, reasons.as_slice())?;
-    Ok(groups)
+    let fronts = fronted(reasons.as_slice(), groups)?;
+    Ok(fronts)
 }
 
 /// Appends the lines of facts, so many of each cycle, which are told by cycles.

@@ -1,3 +1,1 @@
-pub mod SettingLemmas
-pub mod ValueLemmas
 pub mod RequestLemmas

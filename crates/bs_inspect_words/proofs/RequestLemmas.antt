@@ -1,5 +1,5 @@
 -- What was read of the words behind a command, and the request that it is.
-use Rattle.std.proofs.Common.{◌≡◌, ◌∙◌, ℕ, ◌==◌, Bool, true, false, List, [], ◌∷◌, length, map, take, drop, Option, Some, None, Result, Ok, Err, arith, refl, ap, sym, subst}
+use Rattle.std.proofs.Common.{◌≡◌, ◌∙◌, ℕ, ◌==◌, Bool, true, false, List, [], ◌∷◌, length, map, take, drop, Option, Some, None, Result, arith, refl, ap, sym, subst}
 use Rattle.std.specs.Prelude.{IfOk, nat_lt}
 use Rattle.std.specs.Borrow.{Bor}
 use Rattle.std.specs.Option.{option_and_then, option_map}
@@ -14,9 +14,10 @@ use Rattle.bs_inspect_words.specs.declared.request.Request.{Request as CodeReque
 use Rattle.bs_inspect_words.specs.Asked.{shown_request}
 use Rattle.bs_inspect_words.specs.Request.{LengthsRequest, lengths_behind, lengths_words}
 use Rattle.bs_inspect_words.specs.Request.{EvidenceRequest, Cnf, Lrat, cnf_request, evidence_words, lrat_request}
-use Rattle.bs_inspect_words.specs.Request.{Request, Check, Keys, Stimulus, are_runs, bare, check_for, from_of, keys_of, keys_request, name_of, only_name, stimulus_for, trace_flags, trace_of}
-use Rattle.bs_inspect_words.specs.Request.{trace_words, unscan_of, unscan_request, wave_flags, wave_of, wave_words, drawn_most, page_flags, page_of, page_words}
-use Rattle.bs_inspect_words.specs.Settings.{fit, is_given, value_of, values_of}
+use Rattle.bs_inspect_words.specs.Request.{Request, Check, Keys, Stimulus, are_runs, bare, check_for, Seen, seen_of, seen_request, keys_of, keys_request, lists_flags, lists_of, lists_words, name_of, only_name, stimulus_for, trace_flags, trace_of, trace_words, near_of, near_request, unscan_of, unscan_request, bench_asked, bench_request, gtkw_of, gtkw_words, wave_flags, wave_of, wave_words, page_flags, page_of, page_words}
+use Rattle.bs_inspect_options.specs.declared.window.TraceWindow.{TraceWindow}
+use Rattle.bs_inspect_options.specs.Numbers.{drawn_most, from_of, window_of}
+use Rattle.bs_inspect_options.specs.Settings.{fit, is_given, value_of, values_of}
 
 abbrev Words : Type 0
 Words = List (List ℕ)
@@ -34,6 +35,18 @@ unscan_there given words r e is = is ∙ ap (λ (o : Option Words). option_and_t
 
 pub unscan_bare : (given : Given) → None ≡ bare given → None ≡ unscan_request given
 unscan_bare given e = ap (λ (o : Option Words). option_and_then unscan_of o) e
+
+pub near_there : (given : Given) (words : Words) (r : Option Request) → Some words ≡ bare given → r ≡ near_of words → r ≡ near_request given
+near_there given words r e is = is ∙ ap (λ (o : Option Words). option_and_then near_of o) e
+
+pub near_bare : (given : Given) → None ≡ bare given → None ≡ near_request given
+near_bare given e = ap (λ (o : Option Words). option_and_then near_of o) e
+
+pub bench_there : (given : Given) (words : Words) (r : Option Request) → Some words ≡ bare given → r ≡ bench_asked words → r ≡ bench_request given
+bench_there given words r e is = is ∙ ap (λ (o : Option Words). option_and_then bench_asked o) e
+
+pub bench_bare : (given : Given) → None ≡ bare given → None ≡ bench_request given
+bench_bare given e = ap (λ (o : Option Words). option_and_then bench_asked o) e
 
 -- what is asked of a list, from what was read of the words
 pub cnf_there : (given : Given) (asked : EvidenceRequest) → Some asked ≡ evidence_words given.positions given.settings → Some (Cnf asked) ≡ cnf_request given
@@ -65,14 +78,38 @@ pub keys_none : (netlist : List ℕ) (words : List (Bor (List ℕ))) (empty : Bo
 keys_none netlist [] empty e none = refl
 keys_none netlist (w ∷ ws) empty e none = let z : length (w ∷ ws) ≡ 0 = eqb-true (length (w ∷ ws)) 0 (sym e ∙ none) in absurd (omega (arith, z))
 
+pub seen_there : (given : Given) (words : Words) (r : Result (Option CodeRequest) NoMemory) → Some words ≡ bare given →
+    IfOk r (λ q. shown_request q ≡ seen_of words) → IfOk r (λ q. shown_request q ≡ seen_request given)
+seen_there given words r e is = subst (λ (o : Option Words). IfOk r (λ q. shown_request q ≡ option_and_then seen_of o)) e is
+
+pub seen_bare : (given : Given) → None ≡ bare given → None ≡ seen_request given
+seen_bare given e = ap (λ (o : Option Words). option_and_then seen_of o) e
+
+pub seen_some : (netlist : List ℕ) (words : List (Bor (List ℕ))) (empty : Bool) (names : Words) → empty ≡ (length words == 0) → empty ≡ false →
+    names ≡ map (λ s. s.now) words → Some (Seen record { netlist = netlist; values = names }) ≡ seen_of (netlist ∷ map (λ s. s.now) words)
+seen_some netlist [] empty names e some is = let t : true ≡ false = sym e ∙ some in absurd cc
+seen_some netlist (w ∷ ws) empty names e some is = ap (λ (ns : Words). Some (Seen record { netlist = netlist; values = ns })) is
+
+pub seen_none : (netlist : List ℕ) (words : List (Bor (List ℕ))) (empty : Bool) → empty ≡ (length words == 0) → empty ≡ true →
+    None ≡ seen_of (netlist ∷ map (λ s. s.now) words)
+seen_none netlist [] empty e none = refl
+seen_none netlist (w ∷ ws) empty e none = let z : length (w ∷ ws) ≡ 0 = eqb-true (length (w ∷ ws)) 0 (sym e ∙ none) in absurd (omega (arith, z))
+
 -- ---- words by position and options
 
 -- what `trace` asks, from what was read of its options
-pub trace_told : (positions : Words) (settings : List CodeSetting) (csv all : Bool) (only : Words) (r : Option Request) →
+pub trace_told : (positions : Words) (settings : List CodeSetting) (csv all : Bool) (window : Option TraceWindow) (only : Words) (r : Option Request) →
     fit trace_flags (map setting_of settings) ≡ true → csv ≡ is_given F.Csv (map setting_of settings) →
-    all ≡ is_given F.All (map setting_of settings) → only ≡ values_of F.Only (map setting_of settings) →
-    r ≡ trace_of positions csv all only → r ≡ trace_words positions (map setting_of settings)
-trace_told positions settings csv all only r are c e f is = is ∙ ((λ i. trace_of positions (c i) (e i) (f i)) ∙ sym (rw are refl))
+    all ≡ is_given F.All (map setting_of settings) → window ≡ window_of (map setting_of settings) → only ≡ values_of F.Only (map setting_of settings) →
+    r ≡ trace_of positions csv all window only → r ≡ trace_words positions (map setting_of settings)
+trace_told positions settings csv all window only r are c e w f is =
+    is ∙ ((λ i. trace_of positions (c i) (e i) (w i) (f i)) ∙ sym (rw are refl))
+
+-- what `candidates` asks, from what was read of its options
+pub lists_told : (positions : Words) (settings : List CodeSetting) (only : Words) (r : Option Request) →
+    fit lists_flags (map setting_of settings) ≡ true → only ≡ values_of F.Only (map setting_of settings) → r ≡ lists_of positions only →
+    r ≡ lists_words positions (map setting_of settings)
+lists_told positions settings only r are f is = is ∙ ((λ i. lists_of positions (f i)) ∙ sym (rw are refl))
 
 -- what `wave` asks, from what was read of its options
 pub wave_told : (positions : Words) (settings : List CodeSetting) (word : Option (List ℕ)) (from : Option ℕ) (all : Bool) (only : Words)
@@ -81,6 +118,14 @@ pub wave_told : (positions : Words) (settings : List CodeSetting) (word : Option
     r ≡ wave_of positions from all only → r ≡ wave_words positions (map setting_of settings)
 wave_told positions settings word from all only r are w c e f is =
     is ∙ ((λ i. wave_of positions ((c ∙ ap from_of w) i) (e i) (f i)) ∙ sym (rw are refl))
+
+-- what `gtkw` asks, from what was read of its options
+pub gtkw_told : (positions : Words) (settings : List CodeSetting) (word : Option (List ℕ)) (from : Option ℕ) (all : Bool) (only : Words)
+    (r : Option Request) → fit wave_flags (map setting_of settings) ≡ true → word ≡ value_of F.From (map setting_of settings) →
+    from ≡ from_of word → all ≡ is_given F.All (map setting_of settings) → only ≡ values_of F.Only (map setting_of settings) →
+    r ≡ gtkw_of positions from all only → r ≡ gtkw_words positions (map setting_of settings)
+gtkw_told positions settings word from all only r are w c e f is =
+    is ∙ ((λ i. gtkw_of positions ((c ∙ ap from_of w) i) (e i) (f i)) ∙ sym (rw are refl))
 
 -- what `page` asks, from what was read of its options
 pub page_told : (positions : Words) (settings : List CodeSetting) (word : Option (List ℕ)) (names : List (Bor (List ℕ))) (count : ℕ)

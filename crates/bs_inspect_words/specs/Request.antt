@@ -6,34 +6,53 @@ use Rattle.bs_bits.specs.Lines.{number_in}
 use Rattle.bs_stim.specs.declared.limits.TheConstants.{MAX_CYCLES, MAX_RUNS}
 use Rattle.bs_top_words.specs.declared.flags.Flag.{Flag}
 use Rattle.bs_top_words.specs.declared.flags.Flag.TheVariants as F
-use Rattle.bs_inspect_words.specs.declared.paged.TheConstants.{DEFAULT_DRAWN, MAX_DRAWN}
-use Rattle.bs_top_words.specs.declared.limits.TheConstants.{MAX_BITS, MAX_BOUND}
 use Rattle.bs_top_words.specs.Given.{Setting, Given, read_all, start}
 use Rattle.bs_top_words.specs.Job.{is_state}
 use Rattle.bs_top_words.specs.Options.{number_between}
 use Rattle.bs_vcd.specs.declared.cycles.When.{When}
 use Rattle.bs_vcd.specs.declared.cycles.When.TheVariants as W
-use Rattle.bs_inspect_words.specs.declared.evidence.TheConstants.{MAX_STEP}
-use Rattle.bs_inspect_words.specs.declared.novel.TheConstants.{MAX_LINES}
-use Rattle.bs_inspect_words.specs.declared.causes.TheConstants.{DEFAULT_DEPTH, MAX_DEPTH}
-use Rattle.bs_inspect_words.specs.Settings.{fit, is_given, value_of, values_of}
+use Rattle.bs_inspect_options.specs.declared.window.TraceWindow.{TraceWindow}
+use Rattle.bs_inspect_options.specs.Numbers.{cycle_at, drawn_most, from_of, items_in, layers, length_of, most_lines, step_in, window_of}
+use Rattle.bs_inspect_options.specs.Settings.{all_flags, fit, is_given, value_of, values_of}
 
 -- the file of `keys`, and one name or more
 pub record KeysRequest : Type 0 where
   pub netlist : List ℕ
   pub names : List (List ℕ)
 
--- the files of `trace`, and what it shows: every flip-flop in each cycle, and these names alone, where there are any
+-- the file of `seen`, and one name with a value or more
+pub record SeenRequest : Type 0 where
+  pub netlist : List ℕ
+  pub values : List (List ℕ)
+
+-- the files of `trace`, and what it shows: every flip-flop and data input in each cycle, which states, and these names alone, where
+-- there are any
 pub record TraceRequest : Type 0 where
   pub netlist : List ℕ
   pub report : List ℕ
   pub all : Bool
+  pub window : TraceWindow
+  pub only : List (List ℕ)
+
+-- the files of `candidates`, and these names that it shows alone, where there are any
+pub record ListsRequest : Type 0 where
+  pub netlist : List ℕ
+  pub report : List ℕ
   pub only : List (List ℕ)
 
 -- the files of `wave`, the cycle at which it begins, and what it draws: every net, and these names alone, where there are any
 pub record WaveRequest : Type 0 where
   pub netlist : List ℕ
   pub report : List ℕ
+  pub all : Bool
+  pub from : ℕ
+  pub only : List (List ℕ)
+
+-- the files of `gtkw`, the name of a waveform, and what that draws
+pub record GtkwRequest : Type 0 where
+  pub netlist : List ℕ
+  pub report : List ℕ
+  pub wave : List ℕ
   pub all : Bool
   pub from : ℕ
   pub only : List (List ℕ)
@@ -56,7 +75,8 @@ pub record StimulusRequest : Type 0 where
   pub scope : Option (List ℕ)
   pub names : Option (List ℕ)
 
--- the files of `dump`, and when it is taken; the clock, the scope, the file of names and that of a signature, where they are given
+-- the files of `dump`, and when it is taken; the clock, the scope, the file of names and that of a signature, where they are given; and
+-- whether bits may be unknown there
 pub record DumpRequest : Type 0 where
   pub netlist : List ℕ
   pub vcd : List ℕ
@@ -65,6 +85,7 @@ pub record DumpRequest : Type 0 where
   pub scope : Option (List ℕ)
   pub names : Option (List ℕ)
   pub signature : Option (List ℕ)
+  pub partial : Bool
 
 -- the files of `check`, one of values or more, with the file of names, where there is one; the clock and the scope, where they are given
 pub record CheckRequest : Type 0 where
@@ -86,6 +107,19 @@ pub record UnscanRequest : Type 0 where
   pub netlist : List ℕ
   pub order : List ℕ
   pub pattern : List ℕ
+
+-- the files of `near`
+pub record NearRequest : Type 0 where
+  pub netlist : List ℕ
+  pub runs : List ℕ
+  pub dump : List ℕ
+
+-- the files of `bench`, and the name of a module
+pub record BenchRequest : Type 0 where
+  pub netlist : List ℕ
+  pub runs : List ℕ
+  pub report : List ℕ
+  pub top : List ℕ
 
 -- the files of `cnf` and `lrat`, and the number of a step; where there is none, all lists are meant
 pub record EvidenceRequest : Type 0 where
@@ -128,22 +162,27 @@ pub data Request : Type 0 where
   Inputs : List ℕ → Request
   Stats : List ℕ → Request
   Keys : KeysRequest → Request
+  Seen : SeenRequest → Request
   Trace : TraceRequest → Request
   TraceTable : TraceRequest → Request
   Steps : List ℕ → Request
   StepsTable : List ℕ → Request
+  Lists : ListsRequest → Request
   Wave : WaveRequest → Request
+  Gtkw : GtkwRequest → Request
   Stimulus : StimulusRequest → Request
   Dump : DumpRequest → Request
   Check : CheckRequest → Request
   Signature : SignatureRequest → Request
   Unscan : UnscanRequest → Request
+  Bench : BenchRequest → Request
   Cnf : EvidenceRequest → Request
   Lrat : EvidenceRequest → Request
   ReachCnf : LengthsRequest → Request
   ReachLrat : LengthsRequest → Request
   Page : PageRequest → Request
   Novel : NovelRequest → Request
+  Near : NearRequest → Request
   Why : WhyRequest → Request
 
 -- ---- commands without options
@@ -178,6 +217,14 @@ keys_of _ = None
 abbrev pub keys_request : Given → Option Request
 keys_request given = option_and_then keys_of (bare given)
 
+-- `seen` has a file name, and one name with a value or more
+abbrev pub seen_of : List (List ℕ) → Option Request
+seen_of (netlist ∷ value ∷ values) = Some (Seen record { netlist = netlist; values = value ∷ values })
+seen_of _ = None
+
+abbrev pub seen_request : Given → Option Request
+seen_request given = option_and_then seen_of (bare given)
+
 -- `unscan` has two file names, and bits
 abbrev pub unscan_of : List (List ℕ) → Option Request
 unscan_of (netlist ∷ order ∷ pattern ∷ []) = Some (Unscan record { netlist = netlist; order = order; pattern = pattern })
@@ -186,24 +233,41 @@ unscan_of _ = None
 abbrev pub unscan_request : Given → Option Request
 unscan_request given = option_and_then unscan_of (bare given)
 
+-- `near` has three file names
+abbrev pub near_of : List (List ℕ) → Option Request
+near_of (netlist ∷ runs ∷ dump ∷ []) = Some (Near record { netlist = netlist; runs = runs; dump = dump })
+near_of _ = None
+
+abbrev pub near_request : Given → Option Request
+near_request given = option_and_then near_of (bare given)
+
+-- `bench` has three file names, and the name of a module
+abbrev pub bench_asked : List (List ℕ) → Option Request
+bench_asked (netlist ∷ runs ∷ report ∷ top ∷ []) = Some (Bench record { netlist = netlist; runs = runs; report = report; top = top })
+bench_asked _ = None
+
+abbrev pub bench_request : Given → Option Request
+bench_request given = option_and_then bench_asked (bare given)
+
 -- ---- a report
 
 abbrev pub trace_flags : List Flag
-trace_flags = F.All ∷ F.Only ∷ F.Csv ∷ []
+trace_flags = F.All ∷ F.From ∷ F.To ∷ F.Last ∷ F.Only ∷ F.Csv ∷ []
 
 abbrev pub trace_for : Bool → TraceRequest → Request
 trace_for true t = TraceTable t
 trace_for false t = Trace t
 
 -- `trace` has two file names
-abbrev pub trace_of : List (List ℕ) → (csv all : Bool) → List (List ℕ) → Option Request
-trace_of (netlist ∷ report ∷ []) csv all only = Some (trace_for csv record { netlist = netlist; report = report; all = all; only = only })
-trace_of _ csv all only = None
+abbrev pub trace_of : List (List ℕ) → (csv all : Bool) → Option TraceWindow → List (List ℕ) → Option Request
+trace_of (netlist ∷ report ∷ []) csv all (Some window) only =
+    Some (trace_for csv record { netlist = netlist; report = report; all = all; window = window; only = only })
+trace_of _ csv all window only = None
 
 abbrev pub trace_words : List (List ℕ) → List Setting → Option Request
 trace_words positions settings =
     if fit trace_flags settings
-    then trace_of positions (is_given F.Csv settings) (is_given F.All settings) (values_of F.Only settings)
+    then trace_of positions (is_given F.Csv settings) (is_given F.All settings) (window_of settings) (values_of F.Only settings)
     else None
 
 abbrev pub trace_request : Given → Option Request
@@ -227,13 +291,22 @@ steps_words positions settings = if fit steps_flags settings then steps_of posit
 abbrev pub steps_request : Given → Option Request
 steps_request given = steps_words given.positions given.settings
 
+abbrev pub lists_flags : List Flag
+lists_flags = F.Only ∷ []
+
+-- `candidates` has two file names
+abbrev pub lists_of : List (List ℕ) → List (List ℕ) → Option Request
+lists_of (netlist ∷ report ∷ []) only = Some (Lists record { netlist = netlist; report = report; only = only })
+lists_of _ only = None
+
+abbrev pub lists_words : List (List ℕ) → List Setting → Option Request
+lists_words positions settings = if fit lists_flags settings then lists_of positions (values_of F.Only settings) else None
+
+abbrev pub lists_request : Given → Option Request
+lists_request given = lists_words given.positions given.settings
+
 abbrev pub wave_flags : List Flag
 wave_flags = F.All ∷ F.From ∷ F.Only ∷ []
-
--- the cycle at which a waveform begins: 0 where none is given
-abbrev pub from_of : Option (List ℕ) → Option ℕ
-from_of None = Some 0
-from_of (Some word) = number_between 0 MAX_CYCLES word
 
 -- `wave` has two file names
 abbrev pub wave_of : List (List ℕ) → Option ℕ → Bool → List (List ℕ) → Option Request
@@ -250,13 +323,23 @@ wave_words positions settings =
 abbrev pub wave_request : Given → Option Request
 wave_request given = wave_words given.positions given.settings
 
+-- `gtkw` has two file names and the name of a waveform, and takes the options of `wave`
+abbrev pub gtkw_of : List (List ℕ) → Option ℕ → Bool → List (List ℕ) → Option Request
+gtkw_of (netlist ∷ report ∷ wave ∷ []) (Some from) all only =
+    Some (Gtkw record { netlist = netlist; report = report; wave = wave; all = all; from = from; only = only })
+gtkw_of _ from all only = None
+
+abbrev pub gtkw_words : List (List ℕ) → List Setting → Option Request
+gtkw_words positions settings =
+    if fit wave_flags settings
+    then gtkw_of positions (from_of (value_of F.From settings)) (is_given F.All settings) (values_of F.Only settings)
+    else None
+
+abbrev pub gtkw_request : Given → Option Request
+gtkw_request given = gtkw_words given.positions given.settings
+
 abbrev pub page_flags : List Flag
 page_flags = F.Only ∷ F.Most ∷ F.Signature ∷ []
-
--- how many signals of a kind a page draws at most, by how many are named
-abbrev pub drawn_most : Option (List ℕ) → ℕ → Option ℕ
-drawn_most None named = Some (if named == 0 then DEFAULT_DRAWN else MAX_DRAWN)
-drawn_most (Some word) named = number_between 1 MAX_DRAWN word
 
 -- `page` has two file names
 abbrev pub page_of : List (List ℕ) → Option ℕ → (signature : Option (List ℕ)) → List (List ℕ) → Option Request
@@ -324,7 +407,7 @@ abbrev pub check_request : Given → Option Request
 check_request given = check_words given.positions given.settings
 
 abbrev pub dump_flags : List Flag
-dump_flags = F.Time ∷ F.Cycle ∷ F.Clock ∷ F.Scope ∷ F.Map ∷ F.Signature ∷ []
+dump_flags = F.Time ∷ F.Cycle ∷ F.Clock ∷ F.Scope ∷ F.Map ∷ F.Signature ∷ F.Partial ∷ []
 
 abbrev pub at_time : Option ℕ → Option When
 at_time None = None
@@ -347,6 +430,7 @@ pub record DumpOptions : Type 0 where
   pub scope : Option (List ℕ)
   pub names : Option (List ℕ)
   pub signature : Option (List ℕ)
+  pub partial : Bool
 
 abbrev pub dump_options : List Setting → DumpOptions
 dump_options settings = record {
@@ -354,6 +438,7 @@ dump_options settings = record {
   scope = value_of F.Scope settings;
   names = value_of F.Map settings;
   signature = value_of F.Signature settings;
+  partial = is_given F.Partial settings;
 }
 
 -- `dump` has two file names, and a moment
@@ -367,6 +452,7 @@ dump_of (netlist ∷ vcd ∷ []) (Some at) o =
       scope = o.scope;
       names = o.names;
       signature = o.signature;
+      partial = o.partial;
     })
 dump_of _ at o = None
 
@@ -389,10 +475,6 @@ abbrev pub signature_of : List (List ℕ) → Option ℕ → Option Request
 signature_of (netlist ∷ runs ∷ []) (Some items) = Some (Signature record { netlist = netlist; runs = runs; items = items })
 signature_of _ items = None
 
--- the number of items that a word is
-abbrev pub items_in : Option (List ℕ) → Option ℕ
-items_in word = option_and_then (number_between 1 MAX_BITS) word
-
 abbrev pub signature_words : List (List ℕ) → List Setting → Option Request
 signature_words positions settings =
     if fit signature_flags settings then signature_of positions (items_in (value_of F.Bits settings)) else None
@@ -404,15 +486,6 @@ signature_request given = signature_words given.positions given.settings
 
 abbrev pub evidence_flags : List Flag
 evidence_flags = F.Step ∷ []
-
--- the number of a step that a word is
-abbrev pub step_of : List ℕ → Option (Option ℕ)
-step_of word = option_map (λ (n : ℕ). Some n) (number_between 1 MAX_STEP word)
-
--- the number of a step, if there is a word
-abbrev pub step_in : Option (List ℕ) → Option (Option ℕ)
-step_in None = Some None
-step_in (Some word) = step_of word
 
 -- `cnf` and `lrat` have three file names, and perhaps the number of a step
 abbrev pub evidence_of : List (List ℕ) → Option (Option ℕ) → Option EvidenceRequest
@@ -430,19 +503,6 @@ abbrev pub lrat_request : Given → Option Request
 lrat_request given = option_map (λ (t : EvidenceRequest). Lrat t) (evidence_words given.positions given.settings)
 
 -- ---- lengths of an answer
-
--- the length that a word is: a number of cycles
-abbrev pub cycles_of : List ℕ → Option (Option ℕ)
-cycles_of word = option_map (λ (n : ℕ). Some n) (number_between 1 MAX_BOUND word)
-
-abbrev pub cycles_behind : (option number : List ℕ) → Option (Option ℕ)
-cycles_behind option number = if bytes_eq option (codes "--length") then cycles_of number else None
-
--- the length behind the words by position, if there is one
-abbrev pub length_of : List (List ℕ) → Option (Option ℕ)
-length_of [] = Some None
-length_of (option ∷ number ∷ []) = cycles_behind option number
-length_of _ = None
 
 -- a state is one or more characters 0 and 1
 abbrev pub lengths_for : (netlist state answer : List ℕ) → Option ℕ → Option LengthsRequest
@@ -467,11 +527,6 @@ lengths_words words = if nat_lt (length words) 3 then None else lengths_behind (
 abbrev pub novel_flags : List Flag
 novel_flags = F.Most ∷ []
 
--- the number of lines that a word is: all where there is none
-abbrev pub most_lines : Option (List ℕ) → Option ℕ
-most_lines None = Some MAX_LINES
-most_lines (Some word) = number_between 1 MAX_LINES word
-
 abbrev pub novel_for : (netlist runs : List ℕ) → (run most : Option ℕ) → Option Request
 novel_for netlist runs (Some run) (Some most) = Some (Novel record { netlist = netlist; runs = runs; run = run; most = most })
 novel_for netlist runs run most = None
@@ -491,20 +546,6 @@ novel_request given = novel_words given.positions given.settings
 
 abbrev pub why_flags : List Flag
 why_flags = F.At ∷ F.Depth ∷ F.Flops ∷ F.All ∷ F.Csv ∷ []
-
-abbrev pub some_cycle : Option ℕ → Option (Option ℕ)
-some_cycle None = None
-some_cycle (Some cycle) = Some (Some cycle)
-
--- the cycle that a word is: the last one where there is none
-abbrev pub cycle_at : Option (List ℕ) → Option (Option ℕ)
-cycle_at None = Some None
-cycle_at (Some word) = some_cycle (number_between 0 MAX_CYCLES word)
-
--- the number of layers that a word is
-abbrev pub layers : Option (List ℕ) → Option ℕ
-layers None = Some DEFAULT_DEPTH
-layers (Some word) = number_between 1 MAX_DEPTH word
 
 abbrev pub why_for : (netlist report name : List ℕ) → Option (Option ℕ) → Option ℕ → (flops all csv : Bool) → Option Request
 why_for netlist report name (Some at) (Some depth) flops all csv =
@@ -528,12 +569,6 @@ why_request given = why_words given.positions given.settings
 
 -- ---- the command
 
--- what the commands take
-abbrev pub all_flags : List Flag
-all_flags =
-    F.All ∷ F.Only ∷ F.Clock ∷ F.Scope ∷ F.Map ∷ F.Bits ∷ F.From ∷ F.Time ∷ F.Cycle ∷ F.Signature ∷ F.Csv ∷ F.Step ∷ F.Most ∷ F.At ∷ F.Depth ∷ F.Flops
-    ∷ []
-
 abbrev pub is_help : List ℕ → Bool
 is_help command = bytes_eq command (codes "help") || (bytes_eq command (codes "-h") || bytes_eq command (codes "--help"))
 
@@ -541,7 +576,7 @@ abbrev pub is_version : List ℕ → Bool
 is_version command = bytes_eq command (codes "version") || (bytes_eq command (codes "-V") || bytes_eq command (codes "--version"))
 
 -- the request of a command and what stands behind it
-abbrev pub bare_request : List ℕ → Given → Option Request
+unfoldable pub bare_request : List ℕ → Given → Option Request
 bare_request command given =
     if is_help command then alone Help given
     else (if is_version command then alone Version given
@@ -550,33 +585,38 @@ bare_request command given =
     else (if bytes_eq command (codes "stats") then named (λ (n : List ℕ). Stats n) given
     else None))))
 
-abbrev pub other_request : List ℕ → Given → Option Request
+unfoldable pub other_request : List ℕ → Given → Option Request
 other_request command given =
     if bytes_eq command (codes "steps") then steps_request given
     else (if bytes_eq command (codes "dump") then dump_request given
     else (if bytes_eq command (codes "signature") then signature_request given
     else (if bytes_eq command (codes "unscan") then unscan_request given
+    else (if bytes_eq command (codes "bench") then bench_request given
     else (if bytes_eq command (codes "cnf") then cnf_request given
     else (if bytes_eq command (codes "lrat") then lrat_request given
     else (if bytes_eq command (codes "novel") then novel_request given
+    else (if bytes_eq command (codes "near") then near_request given
     else (if bytes_eq command (codes "why") then why_request given
-    else bare_request command given)))))))
+    else bare_request command given)))))))))
 
-abbrev pub command_request : List ℕ → Given → Option Request
+unfoldable pub command_request : List ℕ → Given → Option Request
 command_request command given =
     if bytes_eq command (codes "trace") then trace_request given
+    else (if bytes_eq command (codes "candidates") then lists_request given
     else (if bytes_eq command (codes "wave") then wave_request given
+    else (if bytes_eq command (codes "gtkw") then gtkw_request given
     else (if bytes_eq command (codes "stimulus") then stimulus_request given
     else (if bytes_eq command (codes "check") then check_request given
     else (if bytes_eq command (codes "keys") then keys_request given
     else (if bytes_eq command (codes "page") then page_request given
-    else other_request command given)))))
+    else (if bytes_eq command (codes "seen") then seen_request given
+    else other_request command given))))))))
 
 -- the request of a command whose options stand anywhere behind it
 abbrev pub given_request : List ℕ → List (List ℕ) → Option Request
 given_request command words = option_and_then (command_request command) (read_all all_flags words start)
 
-abbrev pub spelled_request : List ℕ → List (List ℕ) → Option Request
+unfoldable pub spelled_request : List ℕ → List (List ℕ) → Option Request
 spelled_request command words =
     if bytes_eq command (codes "reach-cnf") then option_map (λ (t : LengthsRequest). ReachCnf t) (lengths_words words)
     else (if bytes_eq command (codes "reach-lrat") then option_map (λ (t : LengthsRequest). ReachLrat t) (lengths_words words)

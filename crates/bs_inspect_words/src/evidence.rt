@@ -2,34 +2,11 @@
 ghost use Rattle.std.specs.Prelude.{◌≡◌, map, option_map};
 ghost use Rattle.bs_top_words.specs.Asked.{given_in, setting_of};
 ghost use Rattle.bs_inspect_words.specs.Asked.{evidence_in, shown_request};
-ghost use Rattle.bs_inspect_words.specs.Request.{cnf_request, evidence_of, evidence_words, lrat_request, step_in, step_of};
+ghost use Rattle.bs_inspect_words.specs.Request.{cnf_request, evidence_of, evidence_words, lrat_request};
 
 use crate::request::{EvidenceRequest, Request};
-use crate::settings::{fit, value_of};
-use bs_top_words::{Flag, Given, Setting, number_between};
-
-/// A step of a report is one of so many.
-pub const MAX_STEP: u64 = 65_536;
-
-/// The number of a step that a word is.
-fn step_of(word: &str) -> Option<Option<u64>>
-    ensures { result ≡ step_of word.now }
-{
-    match number_between(1, MAX_STEP, word) {
-        Some(step) => Some(Some(step)),
-        None => None,
-    }
-}
-
-/// The number of a step, if there is a word.
-fn step_in(word: Option<&str>) -> Option<Option<u64>>
-    ensures { result ≡ step_in (option_map (λ s. s.now) word.entry) }
-{
-    match word {
-        Some(word) => step_of(word),
-        None => Some(None),
-    }
-}
+use bs_inspect_options::{fit, step_in, value_of};
+use bs_top_words::{Flag, Given, Setting};
 
 /// What is asked of lists by what the words say.
 fn evidence_at<'a>(positions: &[&'a str], step: Option<Option<u64>>) -> Option<EvidenceRequest<'a>>

@@ -3,62 +3,31 @@ ghost use Rattle.std.specs.Prelude.{◌≡◌, ◌≤◌, [], length, map, optio
 ghost use Rattle.std.specs.List.{list_all};
 ghost use Rattle.bs_top_words.specs.Asked.{shown};
 ghost use Rattle.bs_top_words.specs.Given.{read_all, start};
-ghost use Rattle.bs_top_words.specs.Job.{is_bit, is_state};
+ghost use Rattle.bs_top_words.specs.Job.{is_mark, is_state};
 ghost use Rattle.bs_inspect_words.specs.Asked.{lengths_in, shown_request};
-ghost use Rattle.bs_inspect_words.specs.Request.{cycles_behind, cycles_of, length_of, lengths_at, lengths_behind, lengths_for, lengths_words, ReachCnf, ReachLrat};
+ghost use Rattle.bs_inspect_words.specs.Request.{lengths_at, lengths_behind, lengths_for, lengths_words, ReachCnf, ReachLrat};
 
 use crate::request::{LengthsRequest, Request};
 use bs_bits::NoMemory;
-use bs_top_words::{Given, MAX_BOUND, number_between, read_given};
+use bs_inspect_options::length_of;
+use bs_top_words::{Given, read_given};
 use std::alloc::Global;
 
-/// The length that a word is.
-fn cycles_of(word: &str) -> Option<Option<u64>>
-    ensures { result ≡ cycles_of word.now }
+/// Whether all characters are 0, 1 or -.
+fn are_marks(word: &[u8]) -> bool
+    ensures { result ≡ list_all is_mark word.now }
 {
-    match number_between(1, MAX_BOUND, word) {
-        Some(length) => Some(Some(length)),
-        None => None,
-    }
+    word.iter().all(|&c| c == b'0' || c == b'1' || c == b'-')
 }
 
-/// The length that an option and its value say.
-fn cycles_behind(option: &str, number: &str) -> Option<Option<u64>>
-    ensures { result ≡ cycles_behind option.now number.now }
-{
-    if option == "--length" {
-        cycles_of(number)
-    } else {
-        None
-    }
-}
-
-/// The length behind the words by position, if there is one.
-fn length_of(behind: &[String]) -> Option<Option<u64>>
-    ensures { result ≡ length_of (map string_bytes behind.now) }
-{
-    match behind {
-        [] => Some(None),
-        [option, number] => cycles_behind(option.as_str(), number.as_str()),
-        _ => None,
-    }
-}
-
-/// Whether all characters are 0 or 1.
-fn are_bits(word: &[u8]) -> bool
-    ensures { result ≡ list_all is_bit word.now }
-{
-    word.iter().all(|&c| c == b'0' || c == b'1')
-}
-
-/// Whether a word is a state: one or more characters 0 and 1.
+/// Whether a word is a state: one or more characters 0, 1 and -.
 fn is_state(word: &str) -> bool
     ensures { result ≡ is_state word.now }
 {
-    let bits = are_bits(word.as_bytes());
+    let marks = are_marks(word.as_bytes());
     match word.as_bytes() {
         [] => false,
-        _ => bits,
+        _ => marks,
     }
 }
 

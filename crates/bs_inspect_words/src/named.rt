@@ -2,10 +2,9 @@
 ghost use Rattle.std.specs.Prelude.{◌≡◌, ◌∷◌, map, option_map, IfOk};
 ghost use Rattle.bs_top_words.specs.Asked.{given_in};
 ghost use Rattle.bs_inspect_words.specs.Asked.{shown_request};
-ghost use Rattle.bs_inspect_words.specs.Request.{alone, bare, is_alone, keys_of, keys_request, name_of, named, only_name, unscan_of, unscan_request};
-ghost use Rattle.bs_inspect_words.specs.Request.{Flops as FlopsOf, Help as HelpOf, Inputs as InputsOf, Stats as StatsOf, Version as VersionOf};
+ghost use Rattle.bs_inspect_words.specs.Request.{alone, bare, bench_asked, bench_request, is_alone, keys_of, keys_request, name_of, named, only_name, near_of, near_request, seen_of, seen_request, unscan_of, unscan_request, Flops as FlopsOf, Help as HelpOf, Inputs as InputsOf, Stats as StatsOf, Version as VersionOf};
 
-use crate::request::{KeysRequest, Request, UnscanRequest};
+use crate::request::{BenchRequest, KeysRequest, NearRequest, Request, SeenRequest, UnscanRequest};
 use bs_bits::NoMemory;
 use bs_top_words::Given;
 use std::alloc::Global;
@@ -145,6 +144,43 @@ pub fn keys_request<'a>(alloc: Global, given: &Given<'a>) -> Result<Option<Reque
     }
 }
 
+/// What `seen` asks by its words.
+fn seen_of<'a>(alloc: Global, words: &[&'a str]) -> Result<Option<Request<'a>>, NoMemory>
+    ensures { IfOk result (λ request. shown_request request ≡ seen_of (map (λ s. s.now) words.now)) }
+{
+    match words {
+        [netlist, values @ ..] => seen_for(alloc, netlist, values),
+        [] => Ok(None),
+    }
+}
+
+/// What `seen` asks of a netlist.
+#[tactic(auto, using(crate::proofs::RequestLemmas::seen_some, crate::proofs::RequestLemmas::seen_none))]
+fn seen_for<'a>(
+    alloc: Global,
+    netlist: &'a str,
+    words: &[&'a str],
+) -> Result<Option<Request<'a>>, NoMemory>
+    ensures { IfOk result (λ request. shown_request request ≡ seen_of (netlist.now ∷ map (λ s. s.now) words.now)) }
+{
+    if words.is_empty() {
+        return Ok(None);
+    }
+    let values = copied(alloc, words)?;
+    Ok(Some(Request::Seen(SeenRequest { netlist, values })))
+}
+
+/// `seen`.
+#[tactic(auto, using(crate::proofs::RequestLemmas::seen_there, crate::proofs::RequestLemmas::seen_bare))]
+pub fn seen_request<'a>(alloc: Global, given: &Given<'a>) -> Result<Option<Request<'a>>, NoMemory>
+    ensures { IfOk result (λ request. shown_request request ≡ seen_request (given_in given.now)) }
+{
+    match bare(given) {
+        Some(words) => seen_of(alloc, words),
+        None => Ok(None),
+    }
+}
+
 /// What `unscan` asks by its words.
 fn unscan_of<'a>(words: &[&'a str]) -> Option<Request<'a>>
     ensures { shown_request result ≡ unscan_of (map (λ s. s.now) words.now) }
@@ -166,6 +202,57 @@ pub fn unscan_request<'a>(given: &Given<'a>) -> Option<Request<'a>>
 {
     match bare(given) {
         Some(words) => unscan_of(words),
+        None => None,
+    }
+}
+
+/// What `near` asks by its words.
+fn near_of<'a>(words: &[&'a str]) -> Option<Request<'a>>
+    ensures { shown_request result ≡ near_of (map (λ s. s.now) words.now) }
+{
+    match words {
+        [netlist, runs, dump] => Some(Request::Near(NearRequest {
+            netlist,
+            runs,
+            dump,
+        })),
+        _ => None,
+    }
+}
+
+/// What `bench` asks by its words.
+fn bench_asked<'a>(words: &[&'a str]) -> Option<Request<'a>>
+    ensures { shown_request result ≡ bench_asked (map (λ s. s.now) words.now) }
+{
+    match words {
+        [netlist, runs, report, top] => Some(Request::Bench(BenchRequest {
+            netlist,
+            runs,
+            report,
+            top,
+        })),
+        _ => None,
+    }
+}
+
+/// `near`.
+#[tactic(auto, using(crate::proofs::RequestLemmas::near_there, crate::proofs::RequestLemmas::near_bare))]
+pub fn near_request<'a>(given: &Given<'a>) -> Option<Request<'a>>
+    ensures { shown_request result ≡ near_request (given_in given.now) }
+{
+    match bare(given) {
+        Some(words) => near_of(words),
+        None => None,
+    }
+}
+
+/// `bench`.
+#[tactic(auto, using(crate::proofs::RequestLemmas::bench_there, crate::proofs::RequestLemmas::bench_bare))]
+pub fn bench_request<'a>(given: &Given<'a>) -> Option<Request<'a>>
+    ensures { shown_request result ≡ bench_request (given_in given.now) }
+{
+    match bare(given) {
+        Some(words) => bench_asked(words),
         None => None,
     }
 }

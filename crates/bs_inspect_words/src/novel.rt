@@ -1,27 +1,14 @@
 //! The request of `novel`.
-ghost use Rattle.std.specs.Prelude.{◌≡◌, map, option_map};
+ghost use Rattle.std.specs.Prelude.{◌≡◌, map};
 ghost use Rattle.bs_top_words.specs.Asked.{given_in, setting_of};
 ghost use Rattle.bs_inspect_words.specs.Asked.{shown_request};
-ghost use Rattle.bs_inspect_words.specs.Request.{most_lines, novel_for, novel_of, novel_request, novel_words};
+ghost use Rattle.bs_inspect_words.specs.Request.{novel_for, novel_of, novel_request, novel_words};
 
 use crate::proposed::NovelRequest;
 use crate::request::Request;
-use crate::settings::{fit, value_of};
+use bs_inspect_options::{fit, most_lines, value_of};
 use bs_stim::MAX_RUNS;
 use bs_top_words::{Flag, Given, Setting, number_between};
-
-/// How many lines may be asked for: a netlist has no more flip-flops.
-pub const MAX_LINES: u64 = 4_096;
-
-/// The number of lines that a word is: all where there is none.
-fn most_lines(word: Option<&str>) -> Option<u64>
-    ensures { result ≡ most_lines (option_map (λ s. s.now) word.entry) }
-{
-    match word {
-        Some(word) => number_between(1, MAX_LINES, word),
-        None => Some(MAX_LINES),
-    }
-}
 
 /// The request of `novel` of a run, for so many lines.
 fn novel_for<'a>(

@@ -2,30 +2,14 @@
 ghost use Rattle.std.specs.Prelude.{◌≡◌, map, option_map, IfOk};
 ghost use Rattle.bs_top_words.specs.Asked.{given_in, setting_of};
 ghost use Rattle.bs_inspect_words.specs.Asked.{shown_request};
-ghost use Rattle.bs_inspect_words.specs.Request.{drawn_most, page_of, page_request, page_words};
+ghost use Rattle.bs_inspect_words.specs.Request.{page_of, page_request, page_words};
 
-use crate::paged::{DEFAULT_DRAWN, MAX_DRAWN, PageRequest};
+use crate::paged::PageRequest;
 use crate::request::Request;
-use crate::settings::{fit, value_of, values_of};
 use bs_bits::NoMemory;
-use bs_top_words::{Flag, Given, Setting, number_between};
+use bs_inspect_options::{drawn_most, fit, value_of, values_of};
+use bs_top_words::{Flag, Given, Setting};
 use std::alloc::Global;
-
-/// How many signals of a kind a page draws at most, by how many are named.
-fn drawn_most(word: Option<&str>, named: usize) -> Option<u64>
-    ensures { result ≡ drawn_most (option_map (λ s. s.now) word.entry) named }
-{
-    match word {
-        Some(word) => number_between(1, MAX_DRAWN, word),
-        None => {
-            if named == 0 {
-                Some(DEFAULT_DRAWN)
-            } else {
-                Some(MAX_DRAWN)
-            }
-        }
-    }
-}
 
 /// The request of `page` by what its words say.
 fn page_at<'a>(

@@ -1,25 +1,25 @@
 //! The request that words are.
 ghost use Rattle.std.specs.Prelude.{◌≡◌, map, string_bytes, IfOk};
-ghost use Rattle.bs_top_words.specs.Asked.{given_in, shown};
-ghost use Rattle.bs_top_words.specs.Given.{read_all, start};
+ghost use Rattle.bs_top_words.specs.Asked.{given_in};
 ghost use Rattle.bs_inspect_words.specs.Asked.{shown_request};
-ghost use Rattle.bs_inspect_words.specs.Request.{all_flags, bare_request, command_request, given_request, is_help, is_version, other_request, request_of, spelled_request};
+ghost use Rattle.bs_inspect_words.specs.Request.{bare_request, command_request, given_request, is_help, is_version, other_request, request_of, spelled_request};
 
 use crate::evidence::{cnf_request, lrat_request};
 use crate::lengths::{reach_cnf_request, reach_lrat_request};
 use crate::named::{
-    flops_request, help_request, inputs_request, keys_request, stats_request, unscan_request,
-    version_request,
+    bench_request, flops_request, help_request, inputs_request, keys_request, near_request,
+    seen_request, stats_request, unscan_request, version_request,
 };
 use crate::novel::novel_request;
 use crate::page::page_request;
-use crate::report::{steps_request, trace_request, wave_request};
+use crate::report::{gtkw_request, lists_request, steps_request, trace_request, wave_request};
 use crate::request::Request;
 use crate::signature::signature_request;
 use crate::simulation::{check_request, dump_request, stimulus_request};
 use crate::why::why_request;
 use bs_bits::NoMemory;
-use bs_top_words::{Flag, Given, read_given};
+use bs_inspect_options::given_words;
+use bs_top_words::Given;
 use std::alloc::Global;
 
 /// Whether a command asks how words stand.
@@ -37,6 +37,7 @@ fn is_version(command: &str) -> bool
 }
 
 /// The request of a command without options.
+#[tactic(auto, unfolding(crate::specs::Request::bare_request))]
 fn bare_request<'a>(command: &str, given: &Given<'a>) -> Option<Request<'a>>
     ensures { shown_request result ≡ bare_request command.now (given_in given.now) }
 {
@@ -59,6 +60,7 @@ fn bare_request<'a>(command: &str, given: &Given<'a>) -> Option<Request<'a>>
 }
 
 /// The request of a command that has no list of words.
+#[tactic(auto, unfolding(crate::specs::Request::other_request))]
 fn other_request<'a>(command: &str, given: &Given<'a>) -> Option<Request<'a>>
     ensures { shown_request result ≡ other_request command.now (given_in given.now) }
 {
@@ -74,6 +76,9 @@ fn other_request<'a>(command: &str, given: &Given<'a>) -> Option<Request<'a>>
     if command == "unscan" {
         return unscan_request(given);
     }
+    if command == "bench" {
+        return bench_request(given);
+    }
     if command == "cnf" {
         return cnf_request(given);
     }
@@ -83,6 +88,9 @@ fn other_request<'a>(command: &str, given: &Given<'a>) -> Option<Request<'a>>
     if command == "novel" {
         return novel_request(given);
     }
+    if command == "near" {
+        return near_request(given);
+    }
     if command == "why" {
         return why_request(given);
     }
@@ -90,6 +98,7 @@ fn other_request<'a>(command: &str, given: &Given<'a>) -> Option<Request<'a>>
 }
 
 /// The request of a command and what stands behind it.
+#[tactic(auto, unfolding(crate::specs::Request::command_request))]
 fn command_request<'a>(
     alloc: Global,
     command: &str,
@@ -100,8 +109,14 @@ fn command_request<'a>(
     if command == "trace" {
         return trace_request(alloc, given);
     }
+    if command == "candidates" {
+        return lists_request(alloc, given);
+    }
     if command == "wave" {
         return wave_request(alloc, given);
+    }
+    if command == "gtkw" {
+        return gtkw_request(alloc, given);
     }
     if command == "stimulus" {
         return stimulus_request(alloc, given);
@@ -115,33 +130,10 @@ fn command_request<'a>(
     if command == "page" {
         return page_request(alloc, given);
     }
+    if command == "seen" {
+        return seen_request(alloc, given);
+    }
     Ok(other_request(command, given))
-}
-
-/// The words by position and the options behind a command, where no option is misspelt or lacks its value.
-pub fn given_words<'a>(alloc: Global, words: &'a [String]) -> Result<Option<Given<'a>>, NoMemory>
-    ensures { IfOk result (λ given. shown given ≡ read_all all_flags (map string_bytes words.now) start) }
-{
-    let flags = [
-        Flag::All,
-        Flag::Only,
-        Flag::Clock,
-        Flag::Scope,
-        Flag::Map,
-        Flag::Bits,
-        Flag::From,
-        Flag::Time,
-        Flag::Cycle,
-        Flag::Signature,
-        Flag::Csv,
-        Flag::Step,
-        Flag::Most,
-        Flag::At,
-        Flag::Depth,
-        Flag::Flops,
-    ];
-    let given = read_given(alloc, &flags, words)?;
-    Ok(given)
 }
 
 /// The request of a command whose options stand anywhere behind it.
@@ -160,6 +152,7 @@ fn given_request<'a>(
 }
 
 /// The request of a command and the words behind it.
+#[tactic(auto, unfolding(crate::specs::Request::spelled_request))]
 fn spelled_request<'a>(
     alloc: Global,
     command: &str,

@@ -1,14 +1,13 @@
-//! The requests about a report: `trace`, `steps` and `wave`.
-ghost use Rattle.std.specs.Prelude.{◌≡◌, map, option_map, IfOk};
+//! The requests about a report: `trace`, `steps`, `candidates`, `wave` and `gtkw`.
+ghost use Rattle.std.specs.Prelude.{◌≡◌, map, IfOk};
 ghost use Rattle.bs_top_words.specs.Asked.{given_in, setting_of};
 ghost use Rattle.bs_inspect_words.specs.Asked.{request_in, shown_request, trace_in};
-ghost use Rattle.bs_inspect_words.specs.Request.{from_of, steps_for, steps_of, steps_request, steps_words, trace_for, trace_of, trace_request, trace_words, wave_of, wave_request, wave_words};
+ghost use Rattle.bs_inspect_words.specs.Request.{gtkw_of, gtkw_request, gtkw_words, lists_of, lists_request, lists_words, steps_for, steps_of, steps_request, steps_words, trace_for, trace_of, trace_request, trace_words, wave_of, wave_request, wave_words};
 
-use crate::request::{Request, TraceRequest, WaveRequest};
-use crate::settings::{fit, is_given, value_of, values_of};
+use crate::request::{GtkwRequest, ListsRequest, Request, TraceRequest, WaveRequest};
 use bs_bits::NoMemory;
-use bs_stim::MAX_CYCLES;
-use bs_top_words::{Flag, Given, Setting, number_between};
+use bs_inspect_options::{TraceWindow, fit, from_of, is_given, value_of, values_of, window_of};
+use bs_top_words::{Flag, Given, Setting};
 use std::alloc::Global;
 
 // ---- the trace
@@ -29,17 +28,19 @@ fn trace_at<'a>(
     positions: &[&'a str],
     csv: bool,
     all: bool,
+    window: Option<TraceWindow>,
     only: Vec<&'a str>,
 ) -> Option<Request<'a>>
-    ensures { shown_request result ≡ trace_of (map (λ s. s.now) positions.now) csv all (map (λ s. s.now) only.entry.items) }
+    ensures { shown_request result ≡ trace_of (map (λ s. s.now) positions.now) csv all window (map (λ s. s.now) only.entry.items) }
 {
-    match positions {
-        [netlist, report] => Some(trace_for(
+    match (positions, window) {
+        ([netlist, report], Some(window)) => Some(trace_for(
             csv,
             TraceRequest {
                 netlist,
                 report,
                 all,
+                window,
                 only,
             },
         )),
@@ -56,13 +57,22 @@ fn trace_words<'a>(
 ) -> Result<Option<Request<'a>>, NoMemory>
     ensures { IfOk result (λ request. shown_request request ≡ trace_words (map (λ s. s.now) positions.now) (map setting_of settings.now)) }
 {
-    if !fit(&[Flag::All, Flag::Only, Flag::Csv], settings) {
+    let flags = [
+        Flag::All,
+        Flag::From,
+        Flag::To,
+        Flag::Last,
+        Flag::Only,
+        Flag::Csv,
+    ];
+    if !fit(&flags, settings) {
         return Ok(None);
     }
     let csv = is_given(Flag::Csv, settings);
     let all = is_given(Flag::All, settings);
+    let window = window_of(settings);
     let only = values_of(alloc, Flag::Only, settings)?;
-    let request = trace_at(positions, csv, all, only);
+    let request = trace_at(positions, csv, all, window, only);
     Ok(request)
 }
 
@@ -114,17 +124,48 @@ pub fn steps_request<'a>(given: &Given<'a>) -> Option<Request<'a>>
     steps_words(&given.positions, &given.settings)
 }
 
-// ---- the waveform
+// ---- the lists
 
-/// The cycle at which a waveform begins.
-fn from_of(word: Option<&str>) -> Option<u64>
-    ensures { result ≡ from_of (option_map (λ s. s.now) word.entry) }
+/// The request of `candidates` by what its words say.
+fn lists_at<'a>(positions: &[&'a str], only: Vec<&'a str>) -> Option<Request<'a>>
+    ensures { shown_request result ≡ lists_of (map (λ s. s.now) positions.now) (map (λ s. s.now) only.entry.items) }
 {
-    match word {
-        Some(word) => number_between(0, MAX_CYCLES as u64, word),
-        None => Some(0),
+    match positions {
+        [netlist, report] => Some(Request::Lists(ListsRequest {
+            netlist,
+            report,
+            only,
+        })),
+        _ => None,
     }
 }
+
+/// The request of `candidates` by its words by position and its options.
+#[tactic(auto, using(crate::proofs::RequestLemmas::lists_told))]
+fn lists_words<'a>(
+    alloc: Global,
+    positions: &[&'a str],
+    settings: &[Setting<'a>],
+) -> Result<Option<Request<'a>>, NoMemory>
+    ensures { IfOk result (λ request. shown_request request ≡ lists_words (map (λ s. s.now) positions.now) (map setting_of settings.now)) }
+{
+    if !fit(&[Flag::Only], settings) {
+        return Ok(None);
+    }
+    let only = values_of(alloc, Flag::Only, settings)?;
+    let request = lists_at(positions, only);
+    Ok(request)
+}
+
+/// `candidates`.
+pub fn lists_request<'a>(alloc: Global, given: &Given<'a>) -> Result<Option<Request<'a>>, NoMemory>
+    ensures { IfOk result (λ request. shown_request request ≡ lists_request (given_in given.now)) }
+{
+    let request = lists_words(alloc, &given.positions, &given.settings)?;
+    Ok(request)
+}
+
+// ---- the waveform
 
 /// The request of `wave` by what its words say.
 fn wave_at<'a>(
@@ -171,5 +212,54 @@ pub fn wave_request<'a>(alloc: Global, given: &Given<'a>) -> Result<Option<Reque
     ensures { IfOk result (λ request. shown_request request ≡ wave_request (given_in given.now)) }
 {
     let request = wave_words(alloc, &given.positions, &given.settings)?;
+    Ok(request)
+}
+
+/// The request of `gtkw` by what its words say.
+fn gtkw_at<'a>(
+    positions: &[&'a str],
+    from: Option<u64>,
+    all: bool,
+    only: Vec<&'a str>,
+) -> Option<Request<'a>>
+    ensures { shown_request result ≡ gtkw_of (map (λ s. s.now) positions.now) from all (map (λ s. s.now) only.entry.items) }
+{
+    match (positions, from) {
+        ([netlist, report, wave], Some(from)) => Some(Request::Gtkw(GtkwRequest {
+            netlist,
+            report,
+            wave,
+            all,
+            from,
+            only,
+        })),
+        _ => None,
+    }
+}
+
+/// The request of `gtkw` by its words by position and its options.
+#[tactic(auto, using(crate::proofs::RequestLemmas::gtkw_told))]
+fn gtkw_words<'a>(
+    alloc: Global,
+    positions: &[&'a str],
+    settings: &[Setting<'a>],
+) -> Result<Option<Request<'a>>, NoMemory>
+    ensures { IfOk result (λ request. shown_request request ≡ gtkw_words (map (λ s. s.now) positions.now) (map setting_of settings.now)) }
+{
+    if !fit(&[Flag::All, Flag::From, Flag::Only], settings) {
+        return Ok(None);
+    }
+    let from = from_of(value_of(Flag::From, settings));
+    let all = is_given(Flag::All, settings);
+    let only = values_of(alloc, Flag::Only, settings)?;
+    let request = gtkw_at(positions, from, all, only);
+    Ok(request)
+}
+
+/// `gtkw`.
+pub fn gtkw_request<'a>(alloc: Global, given: &Given<'a>) -> Result<Option<Request<'a>>, NoMemory>
+    ensures { IfOk result (λ request. shown_request request ≡ gtkw_request (given_in given.now)) }
+{
+    let request = gtkw_words(alloc, &given.positions, &given.settings)?;
     Ok(request)
 }

@@ -2,6 +2,7 @@
 use crate::causes::WhyRequest;
 use crate::paged::PageRequest;
 use crate::proposed::{NovelRequest, SignatureRequest};
+use bs_inspect_options::TraceWindow;
 use bs_vcd::When;
 
 /// `keys`: the name of its file, and one name or more.
@@ -11,13 +12,29 @@ pub struct KeysRequest<'a> {
     pub names: Vec<&'a str>,
 }
 
-/// `trace`: the names of its files, whether it tells every flip-flop in each cycle, and the names that it tells alone,
-/// where there are any.
+/// `seen`: the name of its file, and one name with a value or more.
+#[derive(Drop)]
+pub struct SeenRequest<'a> {
+    pub netlist: &'a str,
+    pub values: Vec<&'a str>,
+}
+
+/// `trace`: the names of its files, whether it tells every flip-flop and data input in each cycle, which states, and the names that it
+/// tells alone, where there are any.
 #[derive(Drop)]
 pub struct TraceRequest<'a> {
     pub netlist: &'a str,
     pub report: &'a str,
     pub all: bool,
+    pub window: TraceWindow,
+    pub only: Vec<&'a str>,
+}
+
+/// `candidates`: the names of its files, and the names that it tells alone, where there are any.
+#[derive(Drop)]
+pub struct ListsRequest<'a> {
+    pub netlist: &'a str,
+    pub report: &'a str,
     pub only: Vec<&'a str>,
 }
 
@@ -27,6 +44,18 @@ pub struct TraceRequest<'a> {
 pub struct WaveRequest<'a> {
     pub netlist: &'a str,
     pub report: &'a str,
+    pub all: bool,
+    pub from: u64,
+    pub only: Vec<&'a str>,
+}
+
+/// `gtkw`: the names of its files, that of the waveform, and what the waveform draws: nets whose names nobody gave, the cycle at which
+/// it begins, and the names that it draws alone, where there are any.
+#[derive(Drop)]
+pub struct GtkwRequest<'a> {
+    pub netlist: &'a str,
+    pub report: &'a str,
+    pub wave: &'a str,
     pub all: bool,
     pub from: u64,
     pub only: Vec<&'a str>,
@@ -44,7 +73,7 @@ pub struct StimulusRequest<'a> {
 }
 
 /// `dump`: the names of its files, and when it is taken; the name of the clock, the path of a scope, the file of the names that the
-/// flip-flops have in a simulation, and that of a signature, where they are given.
+/// flip-flops have in a simulation, and that of a signature, where they are given; and whether bits may be unknown there.
 #[derive(Clone, Copy)]
 pub struct DumpRequest<'a> {
     pub netlist: &'a str,
@@ -54,6 +83,7 @@ pub struct DumpRequest<'a> {
     pub scope: Option<&'a str>,
     pub names: Option<&'a str>,
     pub signature: Option<&'a str>,
+    pub partial: bool,
 }
 
 /// `check`: the names of its files, of which those of values are one or more; the name of the clock, the path of a scope and the file of
@@ -74,6 +104,23 @@ pub struct UnscanRequest<'a> {
     pub netlist: &'a str,
     pub order: &'a str,
     pub pattern: &'a str,
+}
+
+/// `near`: the names of its files.
+#[derive(Clone, Copy)]
+pub struct NearRequest<'a> {
+    pub netlist: &'a str,
+    pub runs: &'a str,
+    pub dump: &'a str,
+}
+
+/// `bench`: the names of its files, and that of the module that it drives.
+#[derive(Clone, Copy)]
+pub struct BenchRequest<'a> {
+    pub netlist: &'a str,
+    pub runs: &'a str,
+    pub report: &'a str,
+    pub top: &'a str,
 }
 
 /// `cnf` and `lrat`: the names of its files, and the number of a step; where there is none, all lists are meant.
@@ -110,6 +157,8 @@ pub enum Request<'a> {
     Stats(&'a str),
     /// The keys of the flip-flops that names stand for.
     Keys(KeysRequest<'a>),
+    /// The state of which the values of some flip-flops are known.
+    Seen(SeenRequest<'a>),
     /// The trace of a report with the names of a netlist.
     Trace(TraceRequest<'a>),
     /// The same as a table.
@@ -118,8 +167,12 @@ pub enum Request<'a> {
     Steps(&'a str),
     /// The same as a table.
     StepsTable(&'a str),
+    /// The lists of a report with the names of a netlist.
+    Lists(ListsRequest<'a>),
     /// The waveform of a report's trace, as viewers take it.
     Wave(WaveRequest<'a>),
+    /// What a viewer is to show of that waveform.
+    Gtkw(GtkwRequest<'a>),
     /// A stimulus out of the values of a simulator, a run for each file.
     Stimulus(StimulusRequest<'a>),
     /// A dump out of the values of a simulator.
@@ -130,6 +183,8 @@ pub enum Request<'a> {
     Signature(SignatureRequest<'a>),
     /// The state that a pattern of a scan chain is.
     Unscan(UnscanRequest<'a>),
+    /// The trace of a report as a test bench.
+    Bench(BenchRequest<'a>),
     /// The clauses on which a step's list stands, or all lists.
     Cnf(EvidenceRequest<'a>),
     /// The proof that a step's list is complete, or all lists.
@@ -142,6 +197,8 @@ pub enum Request<'a> {
     Page(PageRequest<'a>),
     /// The values that one recorded run alone has.
     Novel(NovelRequest<'a>),
+    /// The recorded moment that a dump's state is nearest to.
+    Near(NearRequest<'a>),
     /// What forces the bits of a name in a trace.
     Why(WhyRequest<'a>),
 }

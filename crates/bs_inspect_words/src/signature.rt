@@ -1,24 +1,13 @@
 //! The request of `signature`.
-ghost use Rattle.std.specs.Prelude.{◌≡◌, ◌<◌, map, option_map, IfSome};
+ghost use Rattle.std.specs.Prelude.{◌≡◌, ◌<◌, map, IfSome};
 ghost use Rattle.bs_top_words.specs.Asked.{given_in, setting_of};
 ghost use Rattle.bs_inspect_words.specs.Asked.{shown_request};
-ghost use Rattle.bs_inspect_words.specs.Request.{items_in, signature_of, signature_request, signature_words};
+ghost use Rattle.bs_inspect_words.specs.Request.{signature_of, signature_request, signature_words};
 
 use crate::proposed::SignatureRequest;
 use crate::request::Request;
-use crate::settings::{fit, value_of};
-use bs_top_words::{Flag, Given, MAX_BITS, Setting, number_between};
-
-/// The number of items that a word is.
-fn items_in(word: Option<&str>) -> Option<u64>
-    ensures value { result ≡ items_in (option_map (λ s. s.now) word.entry) }
-    ensures some { IfSome result (λ items. 0 < items) }
-{
-    match word {
-        Some(word) => number_between(1, MAX_BITS, word),
-        None => None,
-    }
-}
+use bs_inspect_options::{fit, items_in, value_of};
+use bs_top_words::{Flag, Given, Setting};
 
 /// The request of `signature` by what its words say.
 fn signature_at<'a>(positions: &[&'a str], items: Option<u64>) -> Option<Request<'a>>

@@ -1,46 +1,14 @@
 //! The request of `why`.
-ghost use Rattle.std.specs.Prelude.{◌≡◌, ◌≤◌, map, option_map, IfSome};
+ghost use Rattle.std.specs.Prelude.{◌≡◌, ◌≤◌, map, IfSome};
 ghost use Rattle.bs_top_words.specs.Asked.{given_in, setting_of};
+ghost use Rattle.bs_inspect_options.specs.declared.numbers.TheConstants.{MAX_DEPTH};
 ghost use Rattle.bs_inspect_words.specs.Asked.{shown_request};
-ghost use Rattle.bs_inspect_words.specs.Request.{cycle_at, layers, some_cycle, why_for, why_of, why_request, why_words};
+ghost use Rattle.bs_inspect_words.specs.Request.{why_for, why_of, why_request, why_words};
 
-use crate::causes::{DEFAULT_DEPTH, MAX_DEPTH, WhyRequest};
+use crate::causes::WhyRequest;
 use crate::request::Request;
-use crate::settings::{fit, is_given, value_of};
-use bs_stim::MAX_CYCLES;
-use bs_top_words::{Flag, Given, Setting, number_between};
-
-/// A cycle, where it is one.
-fn some_cycle(cycle: Option<u64>) -> Option<Option<u64>>
-    ensures { result ≡ some_cycle cycle }
-{
-    match cycle {
-        Some(cycle) => Some(Some(cycle)),
-        None => None,
-    }
-}
-
-/// The cycle that a word is, and the last one where there is no word.
-fn cycle_at(word: Option<&str>) -> Option<Option<u64>>
-    ensures { result ≡ cycle_at (option_map (λ s. s.now) word.entry) }
-{
-    match word {
-        Some(word) => some_cycle(number_between(0, u64::from(MAX_CYCLES), word)),
-        None => Some(None),
-    }
-}
-
-/// The number of layers that a word is.
-fn layers(word: Option<&str>) -> Option<u64>
-    ensures value { result ≡ layers (option_map (λ s. s.now) word.entry) }
-    ensures some { IfSome result (λ depth. 1 ≤ depth) }
-    ensures few { IfSome result (λ depth. depth ≤ MAX_DEPTH) }
-{
-    match word {
-        Some(word) => number_between(1, MAX_DEPTH, word),
-        None => Some(DEFAULT_DEPTH),
-    }
-}
+use bs_inspect_options::{cycle_at, fit, is_given, layers, value_of};
+use bs_top_words::{Flag, Given, Setting};
 
 /// The request of `why` of a name, by its cycle and its layers.
 fn why_for<'a>(

@@ -1,11 +1,9 @@
 //! Limits that no row comes to are these numbers, so that a change of one is seen here.
 ghost use Rattle.std.specs.Prelude.{◌≡◌};
-ghost use Rattle.bs_inspect_lists.specs.declared.counting.TheConstants.{MAX_LEMMAS, MAX_LISTED};
-ghost use Rattle.bs_inspect_lists.specs.declared.lists.TheConstants.{MAX_LISTED_BITS};
+ghost use Rattle.bs_inspect_lists.specs.declared.counting.TheConstants.{MAX_LEMMAS, MAX_LISTED, MAX_TRY_LEMMAS};
+ghost use Rattle.bs_inspect_lists.specs.declared.lists.TheConstants.{MAX_LISTED_BITS, MAX_OTHERS};
 ghost use Rattle.bs_inspect_lists.specs.declared.spread.TheConstants.{MAX_MOMENTS};
-ghost use Rattle.bs_inspect_lists.specs.declared.sizes.TheConstants.{MAX_FACTOR};
-ghost use Rattle.bs_inspect_proposal.specs.declared.greedy.TheConstants.{MAX_COMPARED};
-ghost use Rattle.bs_inspect_film.specs.declared.state_table.TheConstants.{MAX_ROWS};
+ghost use Rattle.bs_inspect_proposal.specs.declared.deck.TheConstants.{FEW_ITEMS, WEIGHT};
 ghost use Rattle.bs_encode.specs.declared.encoding.TheConstants.{MAX_ACTIVATIONS};
 ghost use Rattle.bs_solve_reduction.specs.declared.rule.TheConstants.{SHORT, MOST_LONG};
 ghost use Rattle.bs_preimage.specs.declared.probe.TheConstants.{MAX_PROBES};
@@ -22,10 +20,11 @@ pub fn limits_are()
     ensures listed { MAX_LISTED ≡ 256 }
     ensures listed_bits { MAX_LISTED_BITS ≡ 1048576 }
     ensures lemmas { MAX_LEMMAS ≡ 10000 }
-    ensures moments { MAX_MOMENTS ≡ 32 }
-    ensures factor { MAX_FACTOR ≡ 4 }
-    ensures compared { MAX_COMPARED ≡ 2048 }
-    ensures rows { MAX_ROWS ≡ 65536 }
+    ensures try_lemmas { MAX_TRY_LEMMAS ≡ 2000 }
+    ensures moments { MAX_MOMENTS ≡ 64 }
+    ensures others { MAX_OTHERS ≡ 1 }
+    ensures weight { WEIGHT ≡ 3 }
+    ensures few_items { FEW_ITEMS ≡ 6 }
 
     // The search for states: its clauses, lemmas and questions.
     ensures variables { VARIABLE_LIMIT ≡ 1073741824 }

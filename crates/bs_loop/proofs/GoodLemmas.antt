@@ -24,7 +24,7 @@ use Rattle.bs_report.specs.declared.report.Budgets.{Budgets}
 use Rattle.bs_report.specs.declared.report.Report.{Report}
 use Rattle.bs_report_good.proofs.LoggedLemmas.{good_is_valid}
 use Rattle.bs_report_good.specs.Chain.{present_of}
-use Rattle.bs_report_good.specs.Trace.{IsTrace, trace_inputs, trace_states}
+use Rattle.bs_report_good.specs.Trace.{IsTrace, trace_end, trace_inputs, trace_states}
 use Rattle.bs_report.specs.declared.report.Stop.{Stop}
 use Rattle.bs_report_good.specs.Stop.{StopsFor}
 use Rattle.bs_report_good.specs.Good.{IsGood}
@@ -49,7 +49,7 @@ pub record IsReportOf (crash : Crash) (budgets : Budgets) (s : PreimageState) (r
 
 -- the report of a way, with its log
 pub report_is : (r : Recording) (dump : Dump) (budgets : Budgets) (s : PreimageState) (before after : Report) → DumpFits r.circuit r.choice dump →
-    HasEnded (crash_of r dump) budgets before.steps s before.stop → IsOfWay dump budgets before.steps before.stop before → IsAlikeButLog before after →
+    HasEnded (crash_of r dump) budgets before.steps s before.stop → IsOfWay (crash_of r dump) budgets before.steps before.stop before → IsAlikeButLog before after →
     history_of after.log ≡ s.history → IsReportOf (crash_of r dump) budgets s after
 report_is r dump budgets s before after fits ended way alike log =
     record {
@@ -58,8 +58,9 @@ report_is r dump budgets s before after fits ended way alike log =
       depth = alike.depth ∙ (way.depth ∙ fits.depth);
       asked = alike.asked ∙ way.asked;
       trace = record {
-        states = alike.states ∙ (way.states ∙ ap (trace_states dump.state) (sym alike.steps_are));
+        states = alike.states ∙ (way.states ∙ ap (λ (l : List Step). trace_states (trace_end (crash_of r dump) l).bits l) (sym alike.steps_are));
         inputs = alike.inputs ∙ (way.inputs ∙ ap trace_inputs (sym alike.steps_are));
+        free = alike.free ∙ (way.free ∙ ap (λ (l : List Step). (trace_end (crash_of r dump) l).free) (sym alike.steps_are));
       };
       log = log;
     }

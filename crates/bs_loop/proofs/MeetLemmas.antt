@@ -3,6 +3,7 @@ use Rattle.std.proofs.Common.{◌≡◌, Bool, List, ◌∷◌, length, refl, ap
 use Rattle.std.specs.Prelude.{All, Result, Ok, Err, IfOk, option_map, IfSome}
 use Rattle.std.specs.Option.{option_to_list}
 use Rattle.std.proofs.lemmas.List.Elements.{All-weaker, All-from_recursion, recursion_from_All}
+use Rattle.bs_seen.specs.declared.seen.Seen.{Seen}
 use Rattle.bs_net.specs.Circuit.{Circuit}
 use Rattle.bs_scan.specs.declared.dump.Dump.{Dump}
 use Rattle.bs_scan.specs.Choice.{Chosen, depth_of, IsDepth}
@@ -26,7 +27,7 @@ hit_fits r hit kept is = subst (DumpFits r.circuit r.choice) (sym is) (dump_at_f
 
 -- what is asked of a present whose register holds a signature
 pub record IsHeld (c : Circuit) (choice : Chosen) (now : Dump) (t : List Bool) : Type 0 where
-  pub state : length now.state ≡ length c.flops
+  pub state : length now.state.bits ≡ length c.flops
   pub stored : length t ≡ length choice.items
   pub older : AreWide (length choice.items) now.older
   pub alone : depth_of choice ≡ 1 → now.older ≡ None
@@ -57,7 +58,7 @@ hit_is r now cands None first dump =
     sym (ap (option_map (λ (m : Moment). record { run = m.run; cycle = m.cycle; state = state_of r.circuit r.runs m })) first)
 hit_is r now cands (Some hit) first dump =
     let due : Moment → HitLine = λ (m : Moment). record { run = m.run; cycle = m.cycle; state = state_of r.circuit r.runs m } in
-    let same : line_of hit ≡ due (moment hit.run hit.cycle) = λ i. record { run = hit.run; cycle = hit.cycle; state = (dump hit refl i).state } in
+    let same : line_of hit ≡ due (moment hit.run hit.cycle) = λ i. record { run = hit.run; cycle = hit.cycle; state = (dump hit refl i).state.bits } in
     ap Some same ∙ sym (ap (option_map due) first)
 
 pub has_its_dump : (r : Recording) (hit : Option Hit) → IfSome hit (HasItsDump r) → (h : Hit) → hit ≡ Some h → HasItsDump r h
@@ -69,13 +70,13 @@ pub met : (r : Recording) (now : Dump) (hit : Hit) → IsDepth (depth_of r.choic
     present_of_hit (crash_of r now) (line_of hit) ≡ present_in hit.dump
 met r now hit kept is =
     let m : Moment = moment hit.run hit.cycle in
-    let state : hit.dump.state ≡ state_of r.circuit r.runs m = ap (λ (d : Dump). d.state) is in
+    let state : hit.dump.state.bits ≡ state_of r.circuit r.runs m = ap (λ (d : Dump). d.state.bits) is in
     ap (λ (s : List Bool). present_of_hit (crash_of r now) (record { run = hit.run; cycle = hit.cycle; state = s })) state
     ∙ (sym (present_at r m kept) ∙ ap present_in (sym is))
 
 -- a candidate's state has a bit for each flip-flop
-pub candidate_widths : (c : Circuit) (choice : Chosen) (present : List Bool) (stored : List (List Bool)) (cands : List Cand) →
+pub candidate_widths : (c : Circuit) (choice : Chosen) (present : Seen) (stored : List (List Bool)) (cands : List Cand) →
     All (IsCandidate c choice present stored) cands → All (λ cand. length cand.state ≡ length c.flops) cands
 candidate_widths c choice present stored cands all =
     All-weaker (IsCandidate c choice present stored) (λ (cand : Cand). length cand.state ≡ length c.flops)
-    (λ cand is. (led_widths c cand.state cand.input present is.leads).0) cands all
+    (λ cand is. (led_widths c cand.state cand.input is.leads.there is.leads.leads).0) cands all

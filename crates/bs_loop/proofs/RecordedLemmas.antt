@@ -5,6 +5,8 @@ use Rattle.std.specs.Prelude.{IfSome, ◌==◌, ◌||◌, ◌&&◌, if◌then◌
 use Rattle.std.specs.Option.{option_to_list}
 use Rattle.std.proofs.lemmas.Bool.{or_right, eq-eqb, ne_eqb}
 use Rattle.bs_bits.specs.Bits.{bits_eq}
+use Rattle.bs_seen.specs.declared.seen.Seen.{Seen}
+use Rattle.bs_seen.specs.Seen.{whole}
 use Rattle.bs_net.specs.Circuit.{Circuit, Leads, next, reset_state}
 use Rattle.bs_net.proofs.NextLemmas.{next_is_led}
 use Rattle.bs_scan.specs.declared.dump.Dump.{Dump}
@@ -45,12 +47,12 @@ leads_on r run cycle sound is =
     (input_width r run cycle sound is cycle (omega arith))).1 (sym (state_next c line cycle))
 
 cand_leads : (r : Recording) (run cycle : ℕ) → IsRecording r → IsMoment r.runs (moment run (suc cycle)) →
-    IsCandidate r.circuit r.choice (state_at r.circuit (run_of r.runs run) (suc cycle)) (stored_at r.circuit r.choice (run_of r.runs run) (suc cycle))
+    IsCandidate r.circuit r.choice (whole (state_at r.circuit (run_of r.runs run) (suc cycle))) (stored_at r.circuit r.choice (run_of r.runs run) (suc cycle))
     (cand_at r run cycle)
 cand_leads r run cycle sound is =
     record {
       predecessor = came_from r.circuit r.choice (run_of r.runs run) cycle sound.kept (input_width r run cycle sound is);
-      leads = leads_on r run cycle sound is;
+      leads = record { there = state_at r.circuit (run_of r.runs run) (suc cycle); leads = leads_on r run cycle sound is; shown = refl };
     }
 
 -- ---- the state before
@@ -116,7 +118,7 @@ before_right r run cycle sound is = by sound.kept
 
 -- what a present at a moment has
 record IsAtMoment (r : Recording) (now : Dump) (stored : List Bool) (run cycle : ℕ) : Type 0 where
-  state : now.state ≡ state_at r.circuit (run_of r.runs run) cycle
+  state : now.state ≡ whole (state_at r.circuit (run_of r.runs run) cycle)
   held : stored ∷ option_to_list now.older ≡ stored_at r.circuit r.choice (run_of r.runs run) cycle
   older : now.older ≡ slice_get (stored_at r.circuit r.choice (run_of r.runs run) cycle) 1
 
@@ -133,8 +135,8 @@ cand_is_right : (r : Recording) (now : Dump) (stored : List Bool) (run cycle : �
     IsAtMoment r now stored run (suc cycle) → IsRightCand r.circuit r.choice now.state stored now.older (cand_at r run cycle)
 cand_is_right r now stored run cycle sound is at =
     record {
-      candidate = subst (λ (p : List Bool). IsCandidate r.circuit r.choice p (stored ∷ option_to_list now.older) (cand_at r run cycle)) (sym at.state)
-          (subst (λ (t : List (List Bool)). IsCandidate r.circuit r.choice (state_at r.circuit (run_of r.runs run) (suc cycle)) t (cand_at r run cycle))
+      candidate = subst (λ (p : Seen). IsCandidate r.circuit r.choice p (stored ∷ option_to_list now.older) (cand_at r run cycle)) (sym at.state)
+          (subst (λ (t : List (List Bool)). IsCandidate r.circuit r.choice (whole (state_at r.circuit (run_of r.runs run) (suc cycle))) t (cand_at r run cycle))
           (sym at.held) (cand_leads r run cycle sound is));
       before = ap (λ (o : Option (List Bool)). is_right_before r.circuit r.choice o (state_at r.circuit (run_of r.runs run) cycle) (before_at r run cycle))
           at.older ∙ before_right r run cycle sound is;

@@ -10,7 +10,7 @@ use Rattle.bs_report.specs.declared.report.Step.{Step}
 use Rattle.bs_report.specs.declared.report.Report.{Report}
 use Rattle.bs_scan.specs.Crash.{Crash}
 use Rattle.bs_report_good.specs.Step.{stored_of, IsCandidate, IsRightStep}
-use Rattle.bs_report_good.specs.Trace.{hit_state, input_for}
+use Rattle.bs_report_good.specs.Trace.{hit_state, input_for, trace_end}
 use Rattle.bs_report_good.specs.Good.{IsGood}
 use Rattle.bs_report_good.proofs.ProgressLemmas.{hit_at}
 use Rattle.bs_report_good.proofs.ExecutionLemmas.{cand_for}
@@ -42,6 +42,6 @@ one_each crash (step ∷ steps) right = by step.hit refl (one_each crash steps r
 pub one_state_more : (crash : Crash) (r : Report) → IsGood crash r → length r.states ≡ length r.inputs + 1
 one_state_more crash r good =
     let same = one_each crash r.steps (recursion_from_All (IsRightStep crash) r.steps good.steps) in
-    ap length good.trace.states ∙ length-append (reverse (filter_map hit_state r.steps)) (crash.dump.state ∷ [])
+    ap length good.trace.states ∙ length-append (reverse (filter_map hit_state r.steps)) ((trace_end crash r.steps).bits ∷ [])
     ∙ ap (λ (n : ℕ). n + 1)
     (length-reverse (filter_map hit_state r.steps) ∙ same ∙ sym (length-reverse (filter_map input_behind r.steps)) ∙ sym (ap length good.trace.inputs))

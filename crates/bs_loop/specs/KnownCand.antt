@@ -1,5 +1,6 @@
 -- What is known of the states before a present.
 use Rattle.std.specs.Prelude.{◌≡◌, ◌≢◌, ◌⊎◌, ℕ, ◌-◌, ◌==◌, ◌<◌, ◌≤◌, Bool, if◌then◌else◌, List, Option, Some, None, IfSome, MatchOption}
+use Rattle.bs_seen.specs.declared.seen.Seen.{Seen}
 use Rattle.bs_scan.specs.declared.dump.Dump.{Dump}
 use Rattle.bs_scan.specs.Crash.{Recording}
 use Rattle.bs_scan.specs.Moments.{Moment, moment, IsMoment, state_of, first_moment}
@@ -18,7 +19,7 @@ use Rattle.bs_loop.specs.declared.known.KnownCand.{KnownCand}
 use Rattle.bs_loop.specs.declared.known.Reach.{Reach}
 use Rattle.bs_loop.specs.declared.known.Reach.TheVariants.{Whole, Limited, Unanswered}
 use Rattle.bs_loop.specs.declared.known.Sight.{Sight}
-use Rattle.bs_loop.specs.declared.known.Sight.TheVariants.{Seen, Unseen}
+use Rattle.bs_loop.specs.declared.known.Sight.TheVariants.{Told, Untold}
 
 -- the moment before a moment above cycle 0
 abbrev pub floor_of : Option Moment → Option Moment
@@ -52,13 +53,13 @@ pub record IsCutFar (r : Recording) (states : List (List Bool)) (stored : List B
 
 -- No moment before one is in a predecessor of the present with these stored signatures. Whether this one is stays unknown: the solve of that
 -- question spent its budget, which is b, or it cannot be asked. The moment's signature has the hash of the stored one.
-pub record IsLeftOpen (r : Recording) (present stored : List Bool) (older : Option (List Bool)) (b : ℕ) (m : Moment) : Type 0 where
+pub record IsLeftOpen (r : Recording) (present : Seen) (stored : List Bool) (older : Option (List Bool)) (b : ℕ) (m : Moment) : Type 0 where
   pub stays : StaysOpen r (asked_in r present stored older) stored m
   pub unknown : IsUnknownAt r present stored older b m
 
 -- How far the recorded moments were searched for a predecessor of the present with these stored signatures, where b is the budget of a solve:
 -- the known candidate is of the first of all, or no moment is in one; or the search was cut.
-abbrev pub Reaches : Recording → List Bool → List Bool → Option (List Bool) → ℕ → Option Cand → Option Moment → Reach → Type 0
+abbrev pub Reaches : Recording → Seen → List Bool → Option (List Bool) → ℕ → Option Cand → Option Moment → Reach → Type 0
 Reaches r present stored older b known first Whole =
     MatchOption known (IsOfNone r (asked_in r present stored older) first) (IsOfFirst r (asked_in r present stored older) first)
 Reaches r present stored older b known first (Limited m) = IsCutFar r (asked_in r present stored older) stored m
@@ -101,23 +102,23 @@ reach_by (Some answer) = answer.reach
 -- ---- where a list is met
 
 abbrev pub seen_at : Option Moment → Reach → Sight
-seen_at first Whole = Seen first
-seen_at first (Limited m) = Unseen
-seen_at first (Unanswered m) = Unseen
+seen_at first Whole = Told first
+seen_at first (Limited m) = Untold
+seen_at first (Unanswered m) = Untold
 
 -- what is seen of a list that has ended so: a whole search found the first moment, unless the list ended with conflicts
 abbrev pub seen_by : Option SearchAnswer → ListEnd → Sight
-seen_by None end = Unseen
+seen_by None end = Untold
 seen_by (Some answer) (Finished id) = seen_at answer.first answer.reach
 seen_by (Some answer) Candidates = seen_at answer.first answer.reach
-seen_by (Some answer) Conflicts = Unseen
+seen_by (Some answer) Conflicts = Untold
 
 -- the same where the present is at a moment
 abbrev pub sight_by : Option Moment → Option SearchAnswer → ListEnd → Sight
-sight_by None answer end = Unseen
+sight_by None answer end = Untold
 sight_by (Some m) answer end = seen_by answer end
 
 -- what is seen is so
 abbrev pub Sees : Recording → List Cand → Sight → Type 0
-Sees r cands (Seen first) = (first_moment r.circuit r.runs (listed cands) ≡ first) × IfSome first (IsMoment r.runs)
-Sees r cands Unseen = Unit {0}
+Sees r cands (Told first) = (first_moment r.circuit r.runs (listed cands) ≡ first) × IfSome first (IsMoment r.runs)
+Sees r cands Untold = Unit {0}

@@ -23,7 +23,7 @@ use Rattle.bs_loop.specs.declared.known.Reach.{Reach}
 
 -- the hit line of a hit
 abbrev pub line_of : Hit → HitLine
-line_of hit = record { run = hit.run; cycle = hit.cycle; state = hit.dump.state }
+line_of hit = record { run = hit.run; cycle = hit.cycle; state = hit.dump.state.bits }
 
 -- the hit has the dump of its moment
 abbrev pub HasItsDump : Recording → Hit → Type 0

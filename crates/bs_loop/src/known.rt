@@ -52,9 +52,9 @@ pub struct KnownCand {
 #[derive(Clone, Copy)]
 pub enum Sight {
     /// This one, or that there is none.
-    Seen(Option<Moment>),
+    Told(Option<Moment>),
     /// Not yet.
-    Unseen,
+    Untold,
 }
 
 /// What a search says, from its parts.
@@ -213,9 +213,9 @@ fn seen_at(first: Option<Moment>, reach: Reach) -> Sight
     ensures { result ≡ seen_at first reach }
 {
     match reach {
-        Reach::Whole => Sight::Seen(first),
-        Reach::Limited(_) => Sight::Unseen,
-        Reach::Unanswered(_) => Sight::Unseen,
+        Reach::Whole => Sight::Told(first),
+        Reach::Limited(_) => Sight::Untold,
+        Reach::Unanswered(_) => Sight::Untold,
     }
 }
 
@@ -224,11 +224,11 @@ fn seen_by(answer: Option<SearchAnswer>, end: &ListEnd) -> Sight
     ensures { result ≡ seen_by answer end.now }
 {
     match answer {
-        None => Sight::Unseen,
+        None => Sight::Untold,
         Some(answer) => match end {
             ListEnd::Finished(_) => seen_at(answer.first, answer.reach),
             ListEnd::Candidates => seen_at(answer.first, answer.reach),
-            ListEnd::Conflicts => Sight::Unseen,
+            ListEnd::Conflicts => Sight::Untold,
         },
     }
 }
@@ -239,7 +239,7 @@ pub fn sight_of(at: Option<Moment>, answer: Option<SearchAnswer>, end: &ListEnd)
     ensures { result ≡ sight_by at answer end.now }
 {
     match at {
-        None => Sight::Unseen,
+        None => Sight::Untold,
         Some(_) => seen_by(answer, end),
     }
 }

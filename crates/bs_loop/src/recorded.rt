@@ -19,7 +19,7 @@ fn recorded_at(alloc: Global, chip: &mut Chip<'_>, run: u32, cycle: u32) -> Resu
     let input = chip.input_at(alloc, run, cycle)?;
     let dump = chip.dump_at(alloc, run, cycle)?;
     Ok(Before {
-        state: dump.state,
+        state: dump.state.bits,
         input,
     })
 }

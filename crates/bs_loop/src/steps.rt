@@ -129,8 +129,8 @@ fn hit_in(
     ensures chip { chip.new.recording ≡ chip.old.recording }
 {
     match sight {
-        Sight::Seen(first) => hit_at(alloc, chip, first),
-        Sight::Unseen => {
+        Sight::Told(first) => hit_at(alloc, chip, first),
+        Sight::Untold => {
             let hit = chip.first(alloc, cands)?;
             Ok(hit)
         }
@@ -156,7 +156,7 @@ fn line_of(hit: &Option<Hit>) -> Result<Option<HitLine>, NoMemory>
         Some(hit) => Ok(Some(HitLine {
             run: hit.run,
             cycle: hit.cycle,
-            state: hit.dump.state.copy()?,
+            state: hit.dump.state.bits.copy()?,
         })),
     }
 }

@@ -1,9 +1,10 @@
-//! The trace of a backtrace: the way from the last hit to the dump.
+//! The trace of a backtrace: the way from the last hit to its end.
 ghost use Rattle.std.specs.Prelude.{◌≡◌, ◌∷◌, ◌++◌, [], IfOk, OnOk, option_and_then};
 ghost use Rattle.bs_report_good.specs.Trace.{hit_state, input_for, trace_inputs, trace_states};
 
 use bs_bits::{Bits, List, NoMemory};
 use bs_report::Step;
+use bs_trace::input_for;
 use std::alloc::Global;
 
 /// Puts a copy of a state behind the others.
@@ -14,9 +15,9 @@ fn push_copy(states: &mut List<Bits>, state: &Bits) -> Result<(), NoMemory>
     states.push(copy)
 }
 
-/// The states hit, from the last step to the first, and then the dumped one.
-pub fn states_back(alloc: Global, steps: &[Step], dumped: &Bits) -> Result<List<Bits>, NoMemory>
-    ensures { IfOk result (λ states. states ≡ trace_states dumped.now steps.now) }
+/// The states hit, from the last step to the first, and then the last one.
+pub fn states_back(alloc: Global, steps: &[Step], last: &Bits) -> Result<List<Bits>, NoMemory>
+    ensures { IfOk result (λ states. states ≡ trace_states last.now steps.now) }
 {
     let mut states = List::new(alloc);
     'steps: for i in (0..steps.len()).rev() {
@@ -24,17 +25,16 @@ pub fn states_back(alloc: Global, steps: &[Step], dumped: &Bits) -> Result<List<
             push_copy(&mut states, &hit.state)?;
         }
     }
-    push_copy(&mut states, dumped)?;
+    push_copy(&mut states, last)?;
     Ok(states)
 }
 
-/// The input that a step lists for a state.
+/// A copy of the input that a step lists for a state.
 fn input_beside(step: &Step, state: &Bits) -> Result<Option<Bits>, NoMemory>
     ensures { IfOk result (λ input. input ≡ input_for step.now state.now) }
 {
-    let cands = step.cands.slice();
-    match cands.iter().find(|cand| cand.state.equals(state)) {
-        Some(cand) => Ok(Some(cand.input.copy()?)),
+    match input_for(step, state) {
+        Some(input) => Ok(Some(input.copy()?)),
         None => Ok(None),
     }
 }

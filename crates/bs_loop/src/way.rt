@@ -9,7 +9,7 @@ ghost use Rattle.bs_report_good.specs.Chain.{present_of};
 ghost use Rattle.bs_report_good.specs.Stop.{StopsFor};
 ghost use Rattle.bs_report_good.specs.Good.{IsGood};
 ghost use Rattle.bs_report_good.specs.Progress.{GoesBack};
-ghost use Rattle.bs_report_good.specs.Trace.{trace_inputs, trace_states};
+ghost use Rattle.bs_report_good.specs.Trace.{trace_end, trace_inputs, trace_states};
 ghost use Rattle.bs_report.specs.Text.{HasReportText};
 ghost use Rattle.bs_report_good.specs.Valid.{IsValid};
 ghost use Rattle.bs_report.specs.declared.report.Stop.TheVariants.{Reset, Length};
@@ -17,6 +17,7 @@ ghost use Rattle.bs_preimage.specs.Preimage.{fresh};
 ghost use Rattle.bs_loop.specs.Budget.{IsBudget};
 ghost use Rattle.bs_loop.specs.Made.{HasMade};
 ghost use Rattle.bs_loop.specs.Way.{HasEnded};
+ghost use Rattle.bs_trace.specs.WideCands.{HasWideCands};
 ghost use Rattle.bs_loop.specs.Report.{IsAlikeButLog, IsOfWay, IsWithLog};
 ghost use Rattle.bs_loop.specs.Bound.{HasBound};
 ghost use Rattle.bs_loop.specs.Searched.{AreSearched, is_cut, is_last_cut, TellsCut, WereSearched};
@@ -31,6 +32,8 @@ use bs_preimage::Preimage;
 use bs_preimage_recorded::Finder;
 use bs_report::{Budgets, Report, Step, Stop};
 use bs_scan::Dump;
+use bs_seen::Seen;
+use bs_trace::end_of;
 use std::alloc::Global;
 
 /// The steps made, and why no more are made.
@@ -164,28 +167,40 @@ fn walk(
     }
 }
 
-/// The trace of steps from a dump: its states, and its inputs.
+/// The trace of steps from a dump: its states, its inputs, and which places of the last state are not known.
 #[derive(Drop)]
 struct Trace {
     states: List<Bits>,
     inputs: List<Bits>,
+    free: Bits,
 }
 
 /// The trace of the steps.
-fn traced(alloc: Global, steps: &[Step], dumped: &Bits) -> Result<Trace, NoMemory>
-    ensures states { IfOk result (λ trace. trace.states ≡ trace_states dumped.now steps.now) }
+fn traced(alloc: Global, chip: &Chip<'_>, dump: &Dump, steps: &[Step]) -> Result<Trace, NoMemory>
+    requires { All (HasWideCands chip.now.recording.circuit) steps.now }
+    ensures states { IfOk result (λ trace. trace.states ≡ trace_states (trace_end (crash_of chip.now.recording dump.now) steps.now).bits steps.now) }
     ensures inputs { IfOk result (λ trace. trace.inputs ≡ trace_inputs steps.now) }
+    ensures free { IfOk result (λ trace. trace.free ≡ (trace_end (crash_of chip.now.recording dump.now) steps.now).free) }
 {
-    let states = states_back(alloc, steps, dumped)?;
+    let Seen { bits, free } = end_of(alloc, chip.net(), &dump.state, steps)?;
+    let states = states_back(alloc, steps, &bits)?;
     let inputs = inputs_back(alloc, steps)?;
-    Ok(Trace { states, inputs })
+    Ok(Trace {
+        states,
+        inputs,
+        free,
+    })
 }
 
 /// The report of a way and its trace, with no line of a log.
 fn report_of(alloc: Global, way: Way, trace: Trace, dump: &Dump, budgets: &Budgets) -> Report
-    requires states { trace.states ≡ trace_states dump.now.state way.steps }
-    requires inputs { trace.inputs ≡ trace_inputs way.steps }
-    ensures { IsOfWay dump.now budgets.now way.steps way.stop result }
+    ensures depth { result.depth ≡ dump.now.depth }
+    ensures asked { result.budgets ≡ budgets.now }
+    ensures steps { result.steps ≡ way.steps }
+    ensures stop { result.stop ≡ way.stop }
+    ensures states { result.states ≡ trace.states }
+    ensures inputs { result.inputs ≡ trace.inputs }
+    ensures free { result.free ≡ trace.free }
 {
     Report {
         depth: dump.depth,
@@ -194,15 +209,23 @@ fn report_of(alloc: Global, way: Way, trace: Trace, dump: &Dump, budgets: &Budge
         stop: way.stop,
         states: trace.states,
         inputs: trace.inputs,
+        free: trace.free,
         log: Log::new(alloc),
     }
 }
 
 /// The report of a way, with no line of a log.
-fn reported(alloc: Global, way: Way, dump: &Dump, budgets: &Budgets) -> Result<Report, NoMemory>
-    ensures { IfOk result (IsOfWay dump.now budgets.now way.steps way.stop) }
+fn reported(
+    alloc: Global,
+    chip: &Chip<'_>,
+    way: Way,
+    dump: &Dump,
+    budgets: &Budgets,
+) -> Result<Report, NoMemory>
+    requires { All (HasWideCands chip.now.recording.circuit) way.steps }
+    ensures { IfOk result (IsOfWay (crash_of chip.now.recording dump.now) budgets.now way.steps way.stop) }
 {
-    match traced(alloc, way.steps.slice(), &dump.state) {
+    match traced(alloc, chip, dump, way.steps.slice()) {
         Ok(trace) => Ok(report_of(alloc, way, trace, dump, budgets)),
         Err(want) => Err(want),
     }
@@ -222,12 +245,12 @@ fn unlogged(
     requires budgets { IsBudget budgets.now }
     ensures searched { IfOk result (λ r. WereSearched chip.old.recording budgets.now.conflicts r.steps) }
     ensures cut { IfOk result (λ r. TellsCut chip.old.recording budgets.now.conflicts r.steps cut.new) }
-    ensures way { IfOk result (λ r. IsOfWay dump.now budgets.now r.steps r.stop r) }
+    ensures way { IfOk result (λ r. IsOfWay (crash_of chip.old.recording dump.now) budgets.now r.steps r.stop r) }
     ensures ended { IfOk result (λ r. HasEnded (crash_of chip.old.recording dump.now) budgets.now r.steps preimage.new r.stop) }
     ensures chip { chip.new.recording ≡ chip.old.recording }
 {
     match walk(alloc, chip, preimage, dump, budgets, cut) {
-        Ok(way) => reported(alloc, way, dump, budgets),
+        Ok(way) => reported(alloc, chip, way, dump, budgets),
         Err(want) => Err(want),
     }
 }

@@ -68,6 +68,10 @@ rejected_text =
 abbrev pub large_text : List ℕ → List ℕ
 large_text path = file_text path (codes "the waveform of this trace has too many values, one for each net at each state: draw a shorter trace")
 
+-- a report whose trace is a state that is known in part
+abbrev pub partial_text : List ℕ → List ℕ
+partial_text path = file_text path (codes "the trace of this report is the dump alone, of which some flip-flops are not known: no step has a hit")
+
 -- how many cycles a run has, where there is one of that number
 abbrev pub cycles_of : Stimulus → ℕ → Option ℕ
 cycles_of runs run = if nat_le 1 run && nat_le run (length runs.runs) then Some (length (run_at runs run).inputs) else None

@@ -10,13 +10,13 @@ use Rattle.bs_note_calls.specs.declared.miss.Miss.TheVariants as M
 abbrev pub miss_text : Miss → List ℕ
 miss_text M.Unreached =
     pair_text
-    (codes "no execution of so many cycles from reset, or of fewer, ends in this state, whatever the inputs")
+    (codes "no execution of so many cycles from reset, or of fewer, ends in a state with these bits, whatever the inputs")
     (codes "ask for more cycles, up to 1024; the state's bits are in the order of the netlist's flip-flops, the first on the left")
 miss_text M.Unknown =
     pair_text (codes "the budget of conflicts is spent on this number of cycles, and each smaller one is refuted")
     (codes "ask for more with --conflicts B, up to 2^40")
 
--- a word of characters 0 and 1 that is no state of a netlist with so many flip-flops
+-- a word of characters 0, 1 and - that is no state of a netlist with so many flip-flops
 abbrev pub state_sentence : List ℕ → ℕ → List ℕ
 state_sentence word flops =
     codes "the state `" ++ (shown_line word ++ (codes "`: " ++ width_text (length word) flops (codes "flip-flop of the netlist")))

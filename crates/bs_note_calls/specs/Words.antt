@@ -1,13 +1,14 @@
 -- Notes on words that are no job.
 use Rattle.std.specs.Prelude.{◌≡◌, ℕ, ◌+◌, Bool, List, [], ◌∷◌, ◌++◌, codes, decimal, slice_index_or, if◌then◌else◌}
-use Rattle.std.specs.List.{list_any}
+use Rattle.std.specs.List.{flat_map, list_any}
 use Rattle.std.specs.Str.{bytes_eq}
 use Rattle.std.specs.Borrow.{Bor}
+use Rattle.bs_bits.specs.Lines.{line}
 use Rattle.bs_note_places.specs.Quotes.{shown_line}
 use Rattle.bs_top_words.specs.declared.fault.WordFault.{WordFault}
 use Rattle.bs_top_words.specs.declared.fault.WordFault.TheVariants as W
 use Rattle.bs_top_words.specs.Faults.{command_of, IsWordFault}
-use Rattle.bs_note_files.specs.Notes.{pair_text}
+use Rattle.bs_note_files.specs.Notes.{pair_text, plain_text}
 
 -- a word with its number from 1, and what is said of it
 abbrev pub named_sentence : ℕ → List ℕ → List ℕ → List ℕ
@@ -45,14 +46,13 @@ rest_sentence command =
     if bytes_eq command (codes "run") then codes "an option is given twice"
     else (if bytes_eq command (codes "dump") then codes "RUN lies between 1 and 256 and CYCLE between 0 and 65536, each in digits alone"
     else (if bytes_eq command (codes "reach")
-    then codes "STATE is one or more characters 0 and 1, CYCLES lies between 0 and 1024, in digits alone, and an option is given once"
+    then codes "STATE is one or more characters 0, 1 and `-`, CYCLES lies between 0 and 1024, in digits alone, and an option is given once"
     else codes "NUMBER lies below 2^64, in digits alone"))
 
 -- the commands of the program `backspace_inspect` that are none here
 abbrev pub companions : List (List ℕ)
 companions =
-    codes "flops" ∷ codes "keys" ∷ codes "inputs" ∷ codes "stats" ∷ codes "trace" ∷ codes "steps" ∷ codes "page" ∷ codes "stimulus" ∷ codes "check"
-    ∷ codes "signature" ∷ codes "unscan" ∷ codes "cnf" ∷ codes "lrat" ∷ codes "reach-cnf" ∷ codes "reach-lrat" ∷ codes "novel" ∷ codes "why" ∷ []
+    codes "flops" ∷ codes "keys" ∷ codes "seen" ∷ codes "inputs" ∷ codes "stats" ∷ codes "trace" ∷ codes "steps" ∷ codes "candidates" ∷ codes "gtkw" ∷ codes "page" ∷ codes "stimulus" ∷ codes "check" ∷ codes "signature" ∷ codes "unscan" ∷ codes "bench" ∷ codes "cnf" ∷ codes "lrat" ∷ codes "reach-cnf" ∷ codes "reach-lrat" ∷ codes "novel" ∷ codes "near" ∷ codes "why" ∷ []
 
 -- a word stands in a table of the code
 abbrev pub listed_in : List ℕ → List (Bor (List ℕ)) → Bool
@@ -65,10 +65,64 @@ is_companions command = list_any (λ o. bytes_eq o command) companions
 abbrev pub command_sentence : List ℕ → List ℕ
 command_sentence command = if is_companions command then codes "is a command of the program `backspace_inspect`" else codes "is no command"
 
+-- ---- help and the version
+
+-- the words that ask for help
+abbrev pub helps : List (List ℕ)
+helps = codes "help" ∷ codes "-h" ∷ codes "--help" ∷ []
+
+-- and for the version
+abbrev pub versions : List (List ℕ)
+versions = codes "version" ∷ codes "-V" ∷ codes "--version" ∷ []
+
+abbrev pub is_help : List ℕ → Bool
+is_help command = list_any (λ o. bytes_eq o command) helps
+
+abbrev pub is_version : List ℕ → Bool
+is_version command = list_any (λ o. bytes_eq o command) versions
+
+-- a command, and what it writes
+pub record Purpose : Type 0 where
+  pub command : List ℕ
+  pub writes : List ℕ
+
+abbrev pub purpose : List ℕ → List ℕ → Purpose
+purpose command writes = record { command = command; writes = writes }
+
+-- each command
+abbrev pub purposes : List Purpose
+purposes =
+    purpose (codes "run") (codes "the report of the way back from the dump, state by state")
+    ∷ purpose (codes "audit") (codes "`accepted`, or `rejected` and the first part of the report that fails")
+    ∷ purpose (codes "wave") (codes "a valid report's trace as a waveform, every net at every cycle")
+    ∷ purpose (codes "dump") (codes "the dump that a recorded run gives at that cycle")
+    ∷ purpose (codes "reach") (codes "a shortest execution from reset to the state, or that none has CYCLES cycles or fewer")
+    ∷ purpose (codes "demo") (codes "one line about a backtrace on a generated netlist; NUMBER is the seed")
+    ∷ []
+
+-- how each command is used, and what it writes
+abbrev pub help_text : List ℕ
+help_text =
+    plain_text (codes "the commands of `backspace`; options stand anywhere behind a command")
+    ++ (flat_map (λ p. line (usage p.command) ++ line (codes "writes " ++ p.writes)) purposes
+    ++ plain_text (codes "`backspace_inspect help` tells how the commands are used that make and show its files"))
+
+-- the version of the program
+abbrev pub version_text : List ℕ
+version_text = plain_text (codes "backspace 1")
+
+-- the note on a first word that is no command
+abbrev pub command_text : List ℕ → List ℕ
+command_text command =
+    if is_help command then help_text
+    else (if is_version command then version_text else named_text 0 command (command_sentence command) (usage command))
+
+-- ---- the note
+
 -- the note on what is wrong with words
 abbrev pub fault_text : List (List ℕ) → WordFault → List ℕ
 fault_text words W.Absent = pair_text (codes "there are no words") (usage (command_of words))
-fault_text words W.Command = named_text 0 (command_of words) (command_sentence (command_of words)) (usage (command_of words))
+fault_text words W.Command = command_text (command_of words)
 fault_text words (W.Option at) = named_text at (slice_index_or words at []) (codes "is no option of this command") (usage (command_of words))
 fault_text words (W.Value at) =
     named_text at (slice_index_or words at [])

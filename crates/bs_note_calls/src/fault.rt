@@ -3,7 +3,7 @@
 ghost use Rattle.std.specs.Prelude.{◌≡◌, ◌≤◌, ◌++◌, codes, decimal, length, IfOk, OnOk};
 ghost use Rattle.bs_top_plan.specs.Files.{file_word};
 ghost use Rattle.bs_note_calls.specs.Faults.{closed_sentence, cycles_of, cycles_text, IsOutputNote, kind_text, large_text, long_sentence, long_text};
-ghost use Rattle.bs_note_calls.specs.Faults.{output_sentence, output_text, range_text, rejected_text, unread_text};
+ghost use Rattle.bs_note_calls.specs.Faults.{output_sentence, output_text, partial_text, range_text, rejected_text, unread_text};
 
 use crate::brief::{Brief, brief_on_file, brief_pair, brief_plain};
 use crate::reason::{output_reason, unread_reason};
@@ -144,6 +144,17 @@ pub fn large_note(alloc: Global, path: &str) -> Result<Vec<u8>, NoMemory>
         alloc,
         path,
         b"the waveform of this trace has too many values, one for each net at each state: draw a shorter trace",
+    )
+}
+
+/// A note on a report whose trace is a state that is known in part.
+pub fn partial_note(alloc: Global, path: &str) -> Result<Vec<u8>, NoMemory>
+    ensures { IfOk result (λ note. note.items ≡ partial_text path.now) }
+{
+    file_note(
+        alloc,
+        path,
+        b"the trace of this report is the dump alone, of which some flip-flops are not known: no step has a hit",
     )
 }
 

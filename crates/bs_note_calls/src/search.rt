@@ -15,7 +15,7 @@ pub fn miss_note(miss: Miss) -> Brief
 {
     match miss {
         Miss::Unreached => brief_pair(
-            b"no execution of so many cycles from reset, or of fewer, ends in this state, whatever the inputs",
+            b"no execution of so many cycles from reset, or of fewer, ends in a state with these bits, whatever the inputs",
             b"ask for more cycles, up to 1024; the state's bits are in the order of the netlist's flip-flops, the first on the left",
         ),
         Miss::Unknown => brief_pair(
@@ -37,7 +37,7 @@ fn state_sentence(alloc: Global, word: &str, flops: usize) -> Result<Vec<u8>, No
     Ok(said)
 }
 
-/// A note on a word of characters 0 and 1 that is no state of a netlist with so many flip-flops.
+/// A note on a word of characters 0, 1 and - that is no state of a netlist with so many flip-flops.
 pub fn state_note(alloc: Global, word: &str, flops: usize) -> Result<Vec<u8>, NoMemory>
     ensures { IfOk result (λ note. note.items ≡ state_text word.now flops) }
 {

@@ -1,32 +1,61 @@
-//! Words that are no job: what is wrong, at which word, and how the command is used.
+//! Words that are no job: what is wrong, at which word, and how the command is used. A request for help or for the version is none.
 ghost use Rattle.std.specs.Prelude.{◌≡◌, ◌<◌, ◌≤◌, ◌^◌, [], length, map, slice_index_or, string_bytes};
 ghost use Rattle.std.specs.Str.{bytes_eq};
 ghost use Rattle.bs_top_words.specs.Faults.{command_of, IsWordFault};
-ghost use Rattle.bs_note_calls.specs.Words.{command_sentence, counted_sentence, counted_text, fault_text, is_companions, IsWordsNote, listed_in, named_sentence, named_text, rest_sentence, unread_text, usage};
+ghost use Rattle.bs_note_calls.specs.Words.{command_sentence, command_text, counted_sentence, counted_text, fault_text, help_text, is_companions, is_help, is_version, IsWordsNote, listed_in, named_sentence, named_text};
+ghost use Rattle.bs_note_calls.specs.Words.{rest_sentence, unread_text, usage, version_text};
+ghost use Rattle.bs_note_calls.specs.declared.brief.TheConstants.{ROOM};
 
-use crate::brief::{Brief, brief_pair};
+use crate::brief::{Brief, ROOM, brief_pair, brief_plain};
 use bs_top_words::{WordFault, word_fault};
 
 /// The commands of the program `backspace_inspect` that are none here.
-const COMPANIONS: [&str; 17] = [
+const COMPANIONS: [&str; 22] = [
     "flops",
     "keys",
+    "seen",
     "inputs",
     "stats",
     "trace",
     "steps",
+    "candidates",
+    "gtkw",
     "page",
     "stimulus",
     "check",
     "signature",
     "unscan",
+    "bench",
     "cnf",
     "lrat",
     "reach-cnf",
     "reach-lrat",
     "novel",
+    "near",
     "why",
 ];
+
+/// The words that ask for help.
+const HELPS: [&str; 3] = ["help", "-h", "--help"];
+
+/// The words that ask for the version.
+const VERSIONS: [&str; 3] = ["version", "-V", "--version"];
+
+/// What is said where help is asked for.
+const HELP: &str = "note: the commands of `backspace`; options stand anywhere behind a command\n\
+    usage: backspace run NETLIST SIGNATURE STIMULUS DUMP [--steps L] [--candidates K] [--conflicts B]\n\
+    writes the report of the way back from the dump, state by state\n\
+    usage: backspace audit NETLIST SIGNATURE STIMULUS DUMP REPORT\n\
+    writes `accepted`, or `rejected` and the first part of the report that fails\n\
+    usage: backspace wave NETLIST SIGNATURE STIMULUS DUMP REPORT\n\
+    writes a valid report's trace as a waveform, every net at every cycle\n\
+    usage: backspace dump NETLIST SIGNATURE STIMULUS RUN CYCLE\n\
+    writes the dump that a recorded run gives at that cycle\n\
+    usage: backspace reach NETLIST STATE CYCLES [--conflicts B]\n\
+    writes a shortest execution from reset to the state, or that none has CYCLES cycles or fewer\n\
+    usage: backspace demo NUMBER\n\
+    writes one line about a backtrace on a generated netlist; NUMBER is the seed\n\
+    note: `backspace_inspect help` tells how the commands are used that make and show its files\n";
 
 /// How a command is used, or all of them.
 fn usage(command: &str) -> &'static str
@@ -66,7 +95,7 @@ fn rest_sentence(command: &str) -> &'static str
         return "RUN lies between 1 and 256 and CYCLE between 0 and 65536, each in digits alone";
     }
     if command == "reach" {
-        return "STATE is one or more characters 0 and 1, CYCLES lies between 0 and 1024, in digits alone, and an option is given once";
+        return "STATE is one or more characters 0, 1 and `-`, CYCLES lies between 0 and 1024, in digits alone, and an option is given once";
     }
     "NUMBER lies below 2^64, in digits alone"
 }
@@ -131,6 +160,55 @@ fn named_note(at: usize, word: &str, sentence: &str, usage: &str) -> Brief
     brief_pair(said.bytes(), usage.as_bytes())
 }
 
+/// How each command is used, and what it writes.
+fn help_words() -> &'static str
+    ensures text { result.now ≡ help_text }
+    ensures short { length result.now ≤ ROOM }
+{
+    HELP
+}
+
+/// A note on how each command is used.
+fn help_note() -> Brief
+    ensures { result ≡ help_text }
+{
+    Brief::of(help_words().as_bytes())
+}
+
+/// A note on the version of the program.
+fn version_note() -> Brief
+    ensures { result ≡ version_text }
+{
+    brief_plain(b"backspace 1")
+}
+
+/// Whether a word asks for help.
+fn is_help(command: &str) -> bool
+    ensures { result ≡ is_help command.now }
+{
+    listed_in(command, &HELPS)
+}
+
+/// Whether a word asks for the version.
+fn is_version(command: &str) -> bool
+    ensures { result ≡ is_version command.now }
+{
+    listed_in(command, &VERSIONS)
+}
+
+/// A note on a first word that is no command: what is asked for, where it asks for help or the version.
+fn command_note(command: &str) -> Brief
+    ensures { result ≡ command_text command.now }
+{
+    if is_help(command) {
+        return help_note();
+    }
+    if is_version(command) {
+        return version_note();
+    }
+    named_note(0, command, command_sentence(command), usage(command))
+}
+
 /// What is said of the number of words by position.
 fn counted_sentence(given: usize) -> Brief
     ensures text { result ≡ counted_sentence given }
@@ -179,7 +257,7 @@ fn fault_note(words: &[String], fault: WordFault) -> Brief
     let usage = usage(command);
     match fault {
         WordFault::Absent => brief_pair(b"there are no words", usage.as_bytes()),
-        WordFault::Command => named_note(0, command, command_sentence(command), usage),
+        WordFault::Command => command_note(command),
         WordFault::Option(at) => named_note(
             at,
             word_at(words, at),

@@ -56,7 +56,7 @@ what_saying byte what.Expression =
     saying (codes "expressions and concatenations are left out")
     (codes "a net, a bit of a vector or a constant of one bit may stand here; examples/yosys/synth.sh maps the rest to gates")
 what_saying byte what.Width = saying (codes "a whole vector or a part of it is left out") (codes "name one bit, as a[0]")
-what_saying byte what.Constant = saying (codes "a constant here is of one bit") (codes "write 1'b0 or 1'b1")
+what_saying byte what.Constant = saying (codes "a constant here is 1'b0 or 1'b1") (codes "x, z and wider constants are left out")
 what_saying byte what.Directive = saying (codes "this compiler directive is left out") (codes "take it out, or run a preprocessor first")
 what_saying byte what.Hierarchy = cell_saying byte
 
@@ -74,9 +74,11 @@ syntax_saying (Some b) =
     else (if b == 36 then saying (codes "no cell of this name is known")
     (codes "cells are dff and dffs (CK, Q, D), dffe (E too), dffr (R too): flatten and map to these (docs/FORMATS.md, Netlists)")
     else (if b == 31 then packed_saying
+    else (if b == 59 then saying (codes "a `;` cannot stand here")
+    (codes "is something missing before it, as an instance's terminals? is this SystemVerilog, as `logic r;`? synthesize it, as by examples/yosys/synth.sh")
     else (if is_binary b then saying (codes "a byte that no text has: is this file packed or binary?") (codes "give the text of a structural netlist")
     else saying (codes "what begins here cannot stand here")
-    (codes "is a `;` missing before it? is this RTL or SystemVerilog? synthesize it, as by examples/yosys/synth.sh (docs/FORMATS.md, Netlists)"))))
+    (codes "is a `;` missing before it? is this RTL or SystemVerilog? synthesize it, as by examples/yosys/synth.sh (docs/FORMATS.md, Netlists)")))))
 
 abbrev pub port_saying : Saying
 port_saying =
@@ -145,7 +147,9 @@ abbrev pub runs_saying : Saying
 runs_saying = saying (codes "a stimulus has at most 256 runs") (codes "this is the 257th")
 
 abbrev pub cycles_saying : Saying
-cycles_saying = saying (codes "a run has at most 65536 cycles") (codes "split it, or begin it later")
+cycles_saying =
+    saying (codes "a run has at most 65536 cycles")
+    (codes "a run begins at reset, and can be neither split nor begun later: shorten the way to the failure, or end the run earlier")
 
 -- ---- a dump
 
@@ -179,8 +183,8 @@ begins_bits line =
 abbrev pub dump_form : ℕ → ℕ → List ℕ → Saying
 dump_form depth number line =
     if begins_bits line && nat_lt number 3
-    then saying (codes "behind the word stand characters 0 and 1 alone, or `sig none`, and this line has something else")
-    (codes "write a number of base 16 bit by bit, as 1010 for a; x and z are no values of a chip: read what it had")
+    then saying (codes "behind the word stand characters 0 and 1, in `state` also `-`, or `sig none`, and this line has something else")
+    (codes "write a number of base 16 bit by bit, as 1010 for a; in `state` write `-` where the chip's bit is not known, as for x and z")
     else dump_saying depth number
 
 abbrev pub reset_saying : Saying
@@ -207,6 +211,11 @@ item_saying =
 
 abbrev pub comment_saying : Saying
 comment_saying = saying (codes "a signature has no comments") (codes "take the line out")
+
+abbrev pub choice_saying : Saying
+choice_saying =
+    saying (codes "this is a proposal of `backspace_inspect signature`, and more than a signature")
+    (codes "keep its lines `xor` alone, as by `grep ^xor`")
 
 abbrev pub items_saying : Saying
 items_saying = saying (codes "a signature has at most 256 items") (codes "this is the 257th")

@@ -10,7 +10,7 @@ use Rattle.bs_note_places.specs.Quotes.{shown_line}
 use Rattle.bs_note_files.specs.Notes.{Saying, saying, file_text, IsNoteOn}
 use Rattle.bs_note_files.specs.Flaws.{IsLineNote, IsStartNote}
 use Rattle.bs_note_files.specs.Parts.{IsNumbered}
-use Rattle.bs_note_files.specs.Sayings.{comment_saying, item_saying, line_saying, items_saying}
+use Rattle.bs_note_files.specs.Sayings.{choice_saying, comment_saying, item_saying, line_saying, items_saying}
 
 -- no flip-flop has this key
 pub record IsNoKey (r : Parts) (name : List ℕ) : Type 0 where
@@ -91,7 +91,8 @@ IsUnknownNote r path text number note = IsUnknownIn r path text number note ⊎ 
 abbrev pub form_saying : List ℕ → Saying
 form_saying line =
     if starts_with nat_eq line (codes "bit ") then item_saying
-    else (if starts_with nat_eq line (codes "#") || starts_with nat_eq line (codes "//") then comment_saying else line_saying)
+    else (if starts_with nat_eq line (codes "choice ") then choice_saying
+    else (if starts_with nat_eq line (codes "#") || starts_with nat_eq line (codes "//") then comment_saying else line_saying))
 
 abbrev pub IsSignatureNote : Parts → List ℕ → List ℕ → ChoiceFault → List ℕ → Type 0
 IsSignatureNote r path text (choice.Line number) note = IsLineNote path text number form_saying note

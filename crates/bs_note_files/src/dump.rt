@@ -94,8 +94,8 @@ fn form_of(depth: u8, number: u32, line: &[u8]) -> Message<'static>
     let begins = begins_bits(line);
     if begins && number < 3 {
         return say(
-            "behind the word stand characters 0 and 1 alone, or `sig none`, and this line has something else",
-            "write a number of base 16 bit by bit, as 1010 for a; x and z are no values of a chip: read what it had",
+            "behind the word stand characters 0 and 1, in `state` also `-`, or `sig none`, and this line has something else",
+            "write a number of base 16 bit by bit, as 1010 for a; in `state` write `-` where the chip's bit is not known, as for x and z",
         );
     }
     numbered_form(depth, number)

@@ -68,7 +68,10 @@ fn what_message(byte: Option<u8>, what: What) -> Message<'static>
             "a whole vector or a part of it is left out",
             "name one bit, as a[0]",
         ),
-        What::Constant => say("a constant here is of one bit", "write 1'b0 or 1'b1"),
+        What::Constant => say(
+            "a constant here is 1'b0 or 1'b1",
+            "x, z and wider constants are left out",
+        ),
         What::Directive => say(
             "this compiler directive is left out",
             "take it out, or run a preprocessor first",
@@ -112,6 +115,12 @@ fn byte_message(byte: u8) -> Message<'static>
     }
     if byte == 31 {
         return packed_message();
+    }
+    if byte == b';' {
+        return say(
+            "a `;` cannot stand here",
+            "is something missing before it, as an instance's terminals? is this SystemVerilog, as `logic r;`? synthesize it, as by examples/yosys/synth.sh",
+        );
     }
     if is_binary(byte) {
         return say(

@@ -161,6 +161,12 @@ fn form_of(line: &[u8]) -> Message<'static>
             "write `xor NAME NAME ..` for the parity of several; an index is a part of the key, as of `[0]\\a.b`: `backspace_inspect keys` tells it",
         );
     }
+    if line.starts_with(b"choice ".as_slice()) {
+        return say(
+            "this is a proposal of `backspace_inspect signature`, and more than a signature",
+            "keep its lines `xor` alone, as by `grep ^xor`",
+        );
+    }
     let hash = line.starts_with(b"#".as_slice());
     let slashes = line.starts_with(b"//".as_slice());
     if hash || slashes {

@@ -150,7 +150,7 @@ pub fn stimulus_note(
             u64::from(number),
             say(
                 "a run has at most 65536 cycles",
-                "split it, or begin it later",
+                "a run begins at reset, and can be neither split nor begun later: shorten the way to the failure, or end the run earlier",
             ),
         ),
         StimFault::NoMemory => file_note(alloc, path, b"memory ran out"),

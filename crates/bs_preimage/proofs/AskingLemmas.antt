@@ -1,6 +1,7 @@
 -- What a list that asks a source says of what is known.
 use Rattle.std.proofs.Common.{◌≡◌, ◌≢◌, ℕ, ◌+◌, ◌≤◌, List, Bool, inl, inr, Option, None, subst}
 use Rattle.std.specs.Prelude.{IfSome}
+use Rattle.bs_seen.specs.declared.seen.Seen.{Seen}
 use Rattle.bs_report.specs.declared.report.Cand.{Cand}
 use Rattle.bs_report.specs.declared.report.ListEnd.{ListEnd}
 use Rattle.bs_report.specs.declared.report.ListEnd.TheVariants.{Candidates}
@@ -33,7 +34,7 @@ pub knows_weaker : {S : Type 0} (knows : S → Option Cand → S → Type 0) (so
 knows_weaker knows source Right Weak f may = record { right = λ known after is. f known (may.right known after is) }
 
 -- a list that ended sooner, where something is known
-sooner_known : (old new : PreimageState) (present stored : List Bool) (older : Option (List Bool)) (known : Option Cand) (k b : ℕ) (listing : Listing) →
+sooner_known : (old new : PreimageState) (present : Seen) (stored : List Bool) (older : Option (List Bool)) (known : Option Cand) (k b : ℕ) (listing : Listing) →
     listing.end ≢ Candidates → HasListed old new present stored older None k b listing → HasListed old new present stored older known k b listing
 sooner_known old new present stored older known k b listing sooner h =
     record {
@@ -55,7 +56,7 @@ sooner_known old new present stored older known k b listing sooner h =
     }
 
 -- a source that knows one thing alone
-pub listed_knowing : {S : Type 0} (knows : S → Option Cand → S → Type 0) (source after : S) (old new : PreimageState) (present stored : List Bool)
+pub listed_knowing : {S : Type 0} (knows : S → Option Cand → S → Type 0) (source after : S) (old new : PreimageState) (present : Seen) (stored : List Bool)
     (older : Option (List Bool)) (known : Option Cand) (k b : ℕ) (listing : Listing) →
     ((answer : Option Cand) → knows source answer after → answer ≡ known) →
     HasListedAsking knows source after old new present stored older k b listing → HasListed old new present stored older known k b listing

@@ -11,6 +11,9 @@ use Rattle.std.proofs.lemmas.List.{length-append, reverse-reverse}
 use Rattle.std.proofs.lemmas.List.Elements.{All-weaker, All-map, All-from_recursion, recursion_from_All}
 use Rattle.std.proofs.lemmas.List.Sorted.{IsPermutation-map, IsPermutation-sym, length_permutation, list_any-IsPermutation, All-permutation}
 use Rattle.bs_bits.specs.Bits.{bits_eq}
+use Rattle.bs_seen.specs.declared.seen.Seen.{Seen}
+use Rattle.bs_seen.proofs.SeenLemmas.{shows_where}
+use Rattle.bs_seen.specs.Seen.{Shows, is_shown}
 use Rattle.bs_clause.specs.Literal.{Literal, Clause, negation, literal_value, Satisfies}
 use Rattle.bs_clause.specs.UnitRun.{IsUnitRun}
 use Rattle.bs_clause.specs.Range.{HasVariables}
@@ -28,7 +31,7 @@ use Rattle.bs_net.proofs.NextLemmas.{Member}
 use Rattle.bs_scan.specs.Choice.{Chosen, depth_of, IsDepth}
 use Rattle.bs_scan.specs.Present.{Present}
 use Rattle.bs_scan.specs.Moments.{is_listed}
-use Rattle.bs_scan.specs.Signature.{agrees, some_input_leads, predecessors}
+use Rattle.bs_scan.specs.Signature.{agrees, some_input_shows, predecessors}
 use Rattle.bs_scan.proofs.MomentLemmas.{each_member}
 use Rattle.bs_scan.proofs.SignatureLemmas.{bits_same, bits_same_is, is_predecessor}
 use Rattle.bs_solve_recording.specs.ProofLog.{ProofLog, standing, next_id, without}
@@ -70,7 +73,7 @@ pub record Sought : Type 0 where
   pub e : Encoded
   pub old : SolverState
   pub new : SolverState
-  pub present : List Bool
+  pub present : Seen
   pub stored : List Bool
   pub older : Option (List Bool)
   pub known : Option Cand
@@ -81,7 +84,7 @@ pub record Sought : Type 0 where
   pub end : ListEnd
   pub about : IsAbout c choice e old.proof
   pub rest : IsAtRest old
-  pub state : length present ≡ length c.flops
+  pub state : length present.bits ≡ length c.flops
   pub signature : length stored ≡ length choice.items
   pub older_wide : AreWide (length choice.items) older
   pub alone : depth_of choice ≡ 1 → older ≡ None
@@ -310,7 +313,7 @@ not_listed (x ∷ cands) s e = by (bits_eq s x.state) refl e (not_listed cands s
     by false b e rest = (λ same. true≢false (sym (ap (bits_eq s) same ∙ bits_same s) ∙ b), rest e)
 
 state_width : (t : Sought) (cand : Cand) → IsRightCand t.c t.choice t.present t.stored t.older cand → length cand.state ≡ length t.c.flops
-state_width t cand h = (led_widths t.c cand.state cand.input t.present h.candidate.leads).0
+state_width t cand h = (led_widths t.c cand.state cand.input h.candidate.leads.there h.candidate.leads.leads).0
 
 blocks_hold : (t : Sought) (v : ℕ → Bool) (s : List Bool) → is_listed (listed t.cands) s ≡ false →
     ((u : List Bool) → length u ≡ length t.c.flops → u ≢ s → Satisfies v (negation (next_activation t.old.proof.problem) ∷ block_for t.e u)) →
@@ -336,7 +339,7 @@ lines_now t =
     ∙ get_last (steps_of (reverse t.old.proof.history)) (reverse (lines_by t)) (length t.old.proof.problem.steps) [] (sym t.rest.count)
 
 refuted : (t : Sought) (id : ℕ) → t.end ≡ Finished id → (s x : List Bool) → length s ≡ length t.c.flops → length x ≡ length t.c.inputs →
-    agrees t.c t.choice (t.stored ∷ option_to_list t.older) s ≡ true → next t.c s x ≡ t.present → is_listed (listed t.cands) s ≡ false → ⊥
+    agrees t.c t.choice (t.stored ∷ option_to_list t.older) s ≡ true → Shows t.present (next t.c s x) → is_listed (listed t.cands) s ≡ false → ⊥
 refuted t id fin s x ls lx ag nx out =
     let p : Problem = t.new.proof.problem in
     let i : ℕ = length t.old.proof.problem.steps in
@@ -376,7 +379,7 @@ candidates t =
 whole : (t : Sought) (id : ℕ) → t.end ≡ Finished id → listed t.cands ≡ predecessors t.c t.choice t.present (t.stored ∷ option_to_list t.older)
 unfolding predecessors
 whole t id fin =
-    let q : List Bool → Bool = λ s. agrees t.c t.choice (t.stored ∷ option_to_list t.older) s && some_input_leads t.c s t.present in
+    let q : List Bool → Bool = λ s. agrees t.c t.choice (t.stored ∷ option_to_list t.older) s && some_input_shows t.c s t.present in
     let all : List (List Bool) = all_bits (length t.c.flops) in
     let asked_for : List (List Bool) = predecessors t.c t.choice t.present (t.stored ∷ option_to_list t.older) in
     same_lists (listed t.cands) asked_for
@@ -389,11 +392,11 @@ whole t id fin =
     (recursion_from_All (λ (cand : Cand). is_listed asked_for cand.state ≡ true) t.cands (λ i d lt. (candidates t i d lt).predecessor))) m))
     (λ s m.
     let found = filter_member q s all m in
-    let tests = both (agrees t.c t.choice (t.stored ∷ option_to_list t.older) s) (some_input_leads t.c s t.present) found.0 in
-    let x = passing (λ (x : List Bool). bits_eq (next t.c s x) t.present) (all_bits (length t.c.inputs)) tests.1 in
+    let tests = both (agrees t.c t.choice (t.stored ∷ option_to_list t.older) s) (some_input_shows t.c s t.present) found.0 in
+    let x = passing (λ (x : List Bool). is_shown t.present (next t.c s x)) (all_bits (length t.c.inputs)) tests.1 in
     by s (is_listed (listed t.cands) s) refl
     (refuted t id fin s x.item (all_bits_length (length t.c.flops) s found.1) (all_bits_length (length t.c.inputs) x.item x.member) tests.0
-    (bits_same_is (next t.c s x.item) t.present x.passes)))
+    (shows_where t.present (next t.c s x.item) x.passes)))
   where
     by : (s : List Bool) (b : Bool) → is_listed (listed t.cands) s ≡ b → (is_listed (listed t.cands) s ≡ false → ⊥) → Member s (listed t.cands)
     by s true e out = listed_member s (listed t.cands) e
@@ -529,9 +532,9 @@ solutions_by c choice e is h = subst (λ (e : Encoded). SolutionsArePredecessors
 pub accepted_by : (p : Problem) (h : History) (log : List Line) → history_of log ≡ h → IsAccepted p log → IsAccepted p (reverse h)
 accepted_by p h log e ok = subst (IsAccepted p) (sym (ap reverse (sym e) ∙ reverse-reverse log)) ok
 
-pub known_width : (c : Circuit) (choice : Chosen) (e : Encoded) (present stored : List Bool) (older : Option (List Bool)) (known : Option Cand) →
+pub known_width : (c : Circuit) (choice : Chosen) (e : Encoded) (present : Seen) (stored : List Bool) (older : Option (List Bool)) (known : Option Cand) →
     e ≡ encoding_by c choice → IsTidy c choice (encoding_by c choice) → IfSome known (IsRightCand c choice present stored older) →
     IfSome known (λ cand. length cand.state ≡ length e.states)
 known_width c choice e present stored older None is tidy right = tt
 known_width c choice e present stored older (Some cand) is tidy right =
-    (led_widths c cand.state cand.input present right.candidate.leads).0 ∙ (sym tidy.states_width ∙ ap (λ (e : Encoded). length e.states) (sym is))
+    (led_widths c cand.state cand.input right.candidate.leads.there right.candidate.leads.leads).0 ∙ (sym tidy.states_width ∙ ap (λ (e : Encoded). length e.states) (sym is))

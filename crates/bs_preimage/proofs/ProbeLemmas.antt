@@ -9,6 +9,10 @@ use Rattle.std.proofs.lemmas.Bool.{true≢false, ne_eqb, eqb-true, false≢true,
 use Rattle.std.proofs.lemmas.List.{length-append, reverse-append, reverse-reverse}
 use Rattle.std.proofs.lemmas.List.Elements.{All-from_recursion, recursion_from_All}
 use Rattle.bs_bits.specs.Bits.{bits_eq}
+use Rattle.bs_seen.specs.declared.seen.Seen.{Seen}
+use Rattle.bs_seen.proofs.KeptLemmas.{kept_each}
+use Rattle.bs_seen.proofs.SeenLemmas.{shows_where}
+use Rattle.bs_seen.specs.Seen.{kept, Shows, is_shown}
 use Rattle.bs_clause.specs.Literal.{Literal, Clause, negation, literal_value, Satisfies}
 use Rattle.bs_clause.specs.Range.{IsWithin, HasVariables}
 use Rattle.bs_clause.specs.UnitRun.{IsUnitRun}
@@ -26,7 +30,7 @@ use Rattle.bs_net.specs.Order.{IsChecked}
 use Rattle.bs_scan.specs.Choice.{Chosen, depth_of, IsDepth}
 use Rattle.bs_scan.specs.Moments.{is_listed}
 use Rattle.bs_scan.specs.Present.{Present}
-use Rattle.bs_scan.specs.Signature.{agrees, some_input_leads, predecessors}
+use Rattle.bs_scan.specs.Signature.{agrees, some_input_shows, predecessors}
 use Rattle.bs_scan.proofs.SignatureLemmas.{bits_same, bits_same_is, is_predecessor}
 use Rattle.bs_solve_analysis.proofs.Clauses.{contains_first}
 use Rattle.bs_solve_recording.specs.declared.stage.Stage.TheVariants.{Begun, Blocked, Ended}
@@ -37,7 +41,7 @@ use Rattle.bs_solve_recording.proofs.CallerLemmas.{activations_stay_retired, axi
 use Rattle.bs_encode.specs.Encoded.{Encoded, encoding_of}
 use Rattle.bs_encode.specs.Transition.{first_next, first_item, variables}
 use Rattle.bs_encode.specs.Depth.{encoding_by, linked, link_of}
-use Rattle.bs_encode.specs.Assuming.{signed, assumptions_for, block_for, asking, AreWide}
+use Rattle.bs_encode.specs.Assuming.{signed, signed_seen, assumptions_for, block_for, asking, AreWide}
 use Rattle.bs_encode.specs.Cycle.{bits_on, IsTransition}
 use Rattle.bs_encode.specs.Listing.{IsTidy, PredecessorsAreShown, SolutionsArePredecessors, IsPredecessor, joins}
 use Rattle.bs_encode.specs.Meaning.{IsClosed}
@@ -82,26 +86,28 @@ low_states c items p state =
     (weaken (IsWithin c.nets) (IsLow c) (λ l w. w.1) (encoding_of c items).states
     (signs_ranged c.nets true _ (state_vars_ranged c.nets c.nets c.flops (omega arith) (states_in_place c items p))))
 
-high_next : (c : Circuit) (items : List (List ℕ)) (state : List Bool) → Each (IsHigh c) (signed (encoding_of c items).next state)
+high_next : (c : Circuit) (items : List (List ℕ)) (state : Seen) → Each (IsHigh c) (signed_seen (encoding_of c items).next state)
 high_next c items state =
-    signed_all (λ v. c.nets + 1 ≤ v) (encoding_of c items).next state (above_numbers (c.nets + 1) (first_next c) (length c.flops) (omega arith))
+    let next : List Literal = (encoding_of c items).next in
+    signed_all (λ v. c.nets + 1 ≤ v) (kept state.free next) (kept state.free state.bits)
+    (kept_each (IsHigh c) state.free next (above_numbers (c.nets + 1) (first_next c) (length c.flops) (omega arith)))
 
 high_signature : (c : Circuit) (items : List (List ℕ)) (stored : List Bool) → Each (IsHigh c) (signed (encoding_of c items).signatures stored)
 high_signature c items stored =
     signed_all (λ v. c.nets + 1 ≤ v) (encoding_of c items).signatures stored (above_items (c.nets + 1) (first_item c) items (omega arith))
 
 -- what is assumed besides the state, with one time frame
-high_one : (c : Circuit) (items : List (List ℕ)) (activation : Literal) (present stored : List Bool) (older : Option (List Bool)) →
+high_one : (c : Circuit) (items : List (List ℕ)) (activation : Literal) (present : Seen) (stored : List Bool) (older : Option (List Bool)) →
     (encoding_of c items).variables < activation.variable → Each (IsHigh c) (assumptions_for (encoding_of c items) activation (asking present stored older))
 high_one c items activation present stored older above = (
   omega (arith, above),
-  join (IsHigh c) (signed (encoding_of c items).next present) (signed (encoding_of c items).signatures stored ++ []) (high_next c items present)
+  join (IsHigh c) (signed_seen (encoding_of c items).next present) (signed (encoding_of c items).signatures stored ++ []) (high_next c items present)
       (join (IsHigh c) (signed (encoding_of c items).signatures stored) [] (high_signature c items stored) tt),
 )
 
 -- the same with two, where an older signature is there
 high_two : (c : Circuit) (choice : Chosen) → IsTransition c choice.items (encoding_of c choice.items) → (activation : Literal)
-    (present stored older : List Bool) → (linked (reset_state c) (encoding_of c choice.items)).variables < activation.variable →
+    (present : Seen) (stored older : List Bool) → (linked (reset_state c) (encoding_of c choice.items)).variables < activation.variable →
     Each (IsHigh c) (assumptions_for (linked (reset_state c) (encoding_of c choice.items)) activation (asking present stored (Some older)))
 high_two c choice t activation present stored older above =
     let e : Encoded = encoding_of c choice.items in
@@ -116,7 +122,7 @@ high_two c choice t activation present stored older above =
           (raised_in n n (2 * n) e.signatures (recursion_from_All (IsWithin n) e.signatures t.signatures_range) (omega arith))),
     ) in (
       omega (arith, above, low),
-      join (IsHigh c) (signed e.next present) (signed e.signatures stored ++ (link ∷ signed E.older_signatures older)) (high_next c choice.items present)
+      join (IsHigh c) (signed_seen e.next present) (signed e.signatures stored ++ (link ∷ signed E.older_signatures older)) (high_next c choice.items present)
           (join (IsHigh c) (signed e.signatures stored) (link ∷ signed E.older_signatures older) (high_signature c choice.items stored) before),
     )
 
@@ -128,13 +134,13 @@ apart_from_state c xs ys high low dx dy =
     (λ l hi. weaken (IsLow c) (λ (m : Literal). m.variable ≡ l.variable → ⊥) (λ m lo same. omega (arith, lo, hi, same)) ys low) xs high) dx dy
 
 -- what is wanted of an encoding
-abbrev IsApart : Chosen → Literal → List Bool → List Bool → Option (List Bool) → List Bool → Encoded → Type 0
+abbrev IsApart : Chosen → Literal → Seen → List Bool → Option (List Bool) → List Bool → Encoded → Type 0
 IsApart choice activation present stored older state e =
     e.variables < activation.variable → ((g : Literal) (q : Present) → e.variables < g.variable → has_distinct_variables (assumptions_for e g q) ≡ true) →
     has_distinct_variables (probing_for e activation (asking present stored older) state) ≡ true
 
 apart_one : (c : Circuit) (choice : Chosen) (p : IsClosed c choice.items) (t : IsTransition c choice.items (encoding_of c choice.items))
-    (activation : Literal) (present stored : List Bool) (older : Option (List Bool)) (state : List Bool) →
+    (activation : Literal) (present : Seen) (stored : List Bool) (older : Option (List Bool)) (state : List Bool) →
     IsApart choice activation present stored older state (encoding_of c choice.items)
 apart_one c choice p t activation present stored older state above distinct =
     let e : Encoded = encoding_of c choice.items in
@@ -143,7 +149,7 @@ apart_one c choice p t activation present stored older state above distinct =
     (t.states_distinct state)
 
 apart_two : (c : Circuit) (choice : Chosen) (p : IsClosed c choice.items) (t : IsTransition c choice.items (encoding_of c choice.items))
-    (activation : Literal) (present stored older state : List Bool) →
+    (activation : Literal) (present : Seen) (stored older state : List Bool) →
     IsApart choice activation present stored (Some older) state (linked (reset_state c) (encoding_of c choice.items))
 apart_two c choice p t activation present stored older state above distinct =
     let e : Encoded = encoding_of c choice.items in
@@ -152,7 +158,7 @@ apart_two c choice p t activation present stored older state above distinct =
     (distinct activation (asking present stored (Some older)) above) (t.states_distinct state)
 
 apart : (c : Circuit) (choice : Chosen) → IsChecked c → IsClosed c choice.items → (older : Option (List Bool)) → MayProbe choice older →
-    (activation : Literal) (present stored state : List Bool) → IsApart choice activation present stored older state (encoding_by c choice)
+    (activation : Literal) (present : Seen) (stored state : List Bool) → IsApart choice activation present stored older state (encoding_by c choice)
 apart c choice checked p None may activation present stored state = by (depth_of choice == 2) refl
   where
     by : (b : Bool) → (depth_of choice == 2) ≡ b →
@@ -166,7 +172,7 @@ apart c choice checked p (Some older) may activation present stored state = by (
     by true is = apart_two c choice p (is_transition c choice.items checked p) activation present stored older state
     by false is = absurd (false≢true (sym is ∙ eq-eqb (depth_of choice) 2 may))
 
-pub probing_distinct : (c : Circuit) (choice : Chosen) (e : Encoded) (b : ProofLog) (present stored : List Bool) (older : Option (List Bool)) (state : List Bool) →
+pub probing_distinct : (c : Circuit) (choice : Chosen) (e : Encoded) (b : ProofLog) (present : Seen) (stored : List Bool) (older : Option (List Bool)) (state : List Bool) →
     IsChecked c → IsClosed c choice.items → MayProbe choice older → IsAbout c choice e b → IsTidy c choice (encoding_by c choice) →
     has_distinct_variables (probing_at e b present stored older state) ≡ true
 probing_distinct c choice e b present stored older state checked p may about tidy =
@@ -191,7 +197,7 @@ begun_is_not_blocked e = true≢false (ap is_begun e)
 pub activation_is : (s : SolverState) → IsPaused s → activation_in s.proof ≡ next_activation s.proof.problem
 activation_is s rest = ap (activation_of s.proof.problem) rest.number
 
-may_start : (e : Encoded) (s : SolverState) (present stored : List Bool) (older : Option (List Bool)) (state : List Bool) → IsReadable e →
+may_start : (e : Encoded) (s : SolverState) (present : Seen) (stored : List Bool) (older : Option (List Bool)) (state : List Bool) → IsReadable e →
     s.proof.problem.vars ≡ e.variables → s.proof.problem.clauses ≡ e.clauses → IsPaused s →
     has_distinct_variables (probing_at e s.proof present stored older state) ≡ true → MayTurn e (begun s) (probing_at e s.proof present stored older state)
 may_start e s present stored older state readable vars clauses rest distinct =
@@ -217,7 +223,7 @@ may_start e s present stored older state readable vars clauses rest distinct =
       stand = rest.stand;
     }
 
-pub may_probe : (e : Encoded) (old s : SolverState) (present stored : List Bool) (older : Option (List Bool)) (state : List Bool) (activation : Literal) →
+pub may_probe : (e : Encoded) (old s : SolverState) (present : Seen) (stored : List Bool) (older : Option (List Bool)) (state : List Bool) (activation : Literal) →
     IsReadable e → old.proof.problem.vars ≡ e.variables → old.proof.problem.clauses ≡ e.clauses → IsPaused old →
     has_distinct_variables (probing_at e old.proof present stored older state) ≡ true → s ≡ begun old → activation ≡ activation_in old.proof →
     MayTurn e s (probing_for e activation (asking present stored older) state)
@@ -240,7 +246,7 @@ turned_end e a limit old new (Refuted id) h = λ _. h.ended
 turned_end e a limit old new Spent h = tt
 
 -- a step that was begun, searched once and ended
-pub once_probed : (e : Encoded) (old s middle new : SolverState) (present stored : List Bool) (older : Option (List Bool)) (state : List Bool)
+pub once_probed : (e : Encoded) (old s middle new : SolverState) (present : Seen) (stored : List Bool) (older : Option (List Bool)) (state : List Bool)
     (activation : Literal) (limit : ℕ) (end : TurnEnd) → IsPaused old → s ≡ begun old → activation ≡ activation_in old.proof →
     TurnsTo e (probing_for e activation (asking present stored older) state) limit s middle end → HasEnded middle new (last_of end) →
     HasProbed e old new (probing_at e old.proof present stored older state) limit end
@@ -328,7 +334,7 @@ pub record Probing : Type 0 where
   pub e : Encoded
   pub old : SolverState
   pub new : SolverState
-  pub present : List Bool
+  pub present : Seen
   pub stored : List Bool
   pub older : Option (List Bool)
   pub state : List Bool
@@ -336,7 +342,7 @@ pub record Probing : Type 0 where
   pub end : TurnEnd
   pub about : IsAbout c choice e old.proof
   pub rest : IsPaused old
-  pub present_wide : length present ≡ length c.flops
+  pub present_wide : length present.bits ≡ length c.flops
   pub stored_wide : length stored ≡ length choice.items
   pub older_wide : AreWide (length choice.items) older
   pub state_wide : length state ≡ length c.flops
@@ -522,7 +528,7 @@ shows_state t p n sh = by (bits_eq (bits_on sh.value t.e.states) t.state) refl
         (sh.blocks u (length-bits_on sh.value t.e.states ∙ t.states_wide) (differs is)) refl)
 
 refuted : (t : Probing) (id : ℕ) → t.end ≡ Refuted id → (x : List Bool) → length x ≡ length t.c.inputs →
-    agrees t.c t.choice (t.stored ∷ option_to_list t.older) t.state ≡ true → next t.c t.state x ≡ t.present → ⊥
+    agrees t.c t.choice (t.stored ∷ option_to_list t.older) t.state ≡ true → Shows t.present (next t.c t.state x) → ⊥
 refuted t id fin x lx ag nx =
     let p : Problem = t.new.proof.problem in
     let i : ℕ = length t.old.proof.problem.steps in
@@ -572,7 +578,7 @@ unfolding predecessors
 none t id fin = by (is_listed (predecessors t.c t.choice t.present (t.stored ∷ option_to_list t.older)) t.state) refl
   where
     q : List Bool → Bool
-    q s = agrees t.c t.choice (t.stored ∷ option_to_list t.older) s && some_input_leads t.c s t.present
+    q s = agrees t.c t.choice (t.stored ∷ option_to_list t.older) s && some_input_shows t.c s t.present
 
     by : (b : Bool) → is_listed (predecessors t.c t.choice t.present (t.stored ∷ option_to_list t.older)) t.state ≡ b →
         is_listed (predecessors t.c t.choice t.present (t.stored ∷ option_to_list t.older)) t.state ≡ false
@@ -580,9 +586,9 @@ none t id fin = by (is_listed (predecessors t.c t.choice t.present (t.stored ∷
     by true is =
         let found = filter_member q t.state (all_bits (length t.c.flops))
         (listed_member t.state (predecessors t.c t.choice t.present (t.stored ∷ option_to_list t.older)) is) in
-        let tests = both (agrees t.c t.choice (t.stored ∷ option_to_list t.older) t.state) (some_input_leads t.c t.state t.present) found.0 in
-        let x = passing (λ (x : List Bool). bits_eq (next t.c t.state x) t.present) (all_bits (length t.c.inputs)) tests.1 in
-        absurd (refuted t id fin x.item (all_bits_length (length t.c.inputs) x.item x.member) tests.0 (bits_same_is (next t.c t.state x.item) t.present x.passes))
+        let tests = both (agrees t.c t.choice (t.stored ∷ option_to_list t.older) t.state) (some_input_shows t.c t.state t.present) found.0 in
+        let x = passing (λ (x : List Bool). is_shown t.present (next t.c t.state x)) (all_bits (length t.c.inputs)) tests.1 in
+        absurd (refuted t id fin x.item (all_bits_length (length t.c.inputs) x.item x.member) tests.0 (shows_where t.present (next t.c t.state x.item) x.passes))
 
 -- ---- a search that spent its budget
 
@@ -639,7 +645,7 @@ pub lean_by : (p : Problem) (h : History) (log : List Line) → history_of log �
 lean_by p h log e steps lemmas = subst (IsLean p) e (record { steps = steps; lemmas = lemmas })
 
 -- a question that cannot be asked
-pub unaskable : (c : Circuit) (choice : Chosen) (present stored : List Bool) (older : Option (List Bool)) (state : List Bool) (b : ℕ) →
+pub unaskable : (c : Circuit) (choice : Chosen) (present : Seen) (stored : List Bool) (older : Option (List Bool)) (state : List Bool) (b : ℕ) →
     (¬ MayProbe choice older) → IsUnknown c choice present stored older state b
 unaskable c choice present stored older state b not_asked = record { why = inl not_asked }
 

@@ -2,6 +2,7 @@
 use Rattle.std.proofs.Common.{◌≡◌, ℕ, ◌+◌, ◌<◌, Bool, true, false, List, [], ◌∷◌, refl, ap, subst, sym, ◌∙◌, ◌⊎◌, inl, inr, arith, Option, Some, None}
 use Rattle.std.specs.Prelude.{Contains}
 use Rattle.std.proofs.lemmas.Bool.{true≢false}
+use Rattle.bs_seen.specs.declared.seen.Seen.{Seen}
 use Rattle.bs_clause.specs.Literal.{Literal, Clause}
 use Rattle.bs_clause.specs.Range.{HasVariables}
 use Rattle.bs_log.specs.declared.line.Line.TheVariants.{Finish, Retire, Delete}
@@ -28,7 +29,7 @@ begun_is_not_blocked e = true≢false (ap is_begun e)
 activation_is : (old : SolverState) → IsAtRest old → activation_in old.proof ≡ next_activation old.proof.problem
 activation_is old rest = ap (activation_of old.proof.problem) rest.number
 
-may_start : (e : Encoded) (old : SolverState) (present stored : List Bool) (older : Option (List Bool)) → IsReadable e → old.proof.problem.vars ≡ e.variables →
+may_start : (e : Encoded) (old : SolverState) (present : Seen) (stored : List Bool) (older : Option (List Bool)) → IsReadable e → old.proof.problem.vars ≡ e.variables →
     old.proof.problem.clauses ≡ e.clauses → IsAtRest old →
     MayTurn e (begun old) (assumptions_at e old.proof present stored older)
 may_start e old present stored older readable vars clauses rest =
@@ -47,13 +48,13 @@ may_start e old present stored older readable vars clauses rest =
       stand = rest.stand;
     }
 
-assumptions_are : (e : Encoded) (old : SolverState) (present stored : List Bool) (older : Option (List Bool)) (activation : Literal) (a : Clause) →
+assumptions_are : (e : Encoded) (old : SolverState) (present : Seen) (stored : List Bool) (older : Option (List Bool)) (activation : Literal) (a : Clause) →
     IsAtRest old → activation ≡ activation_in old.proof →
     a ≡ assumptions_for e activation (asking present stored older) → a ≡ assumptions_at e old.proof present stored older
 assumptions_are e old present stored older activation a rest g is = is ∙ ap (λ (g : Literal). assumptions_for e g (asking present stored older))
     (g ∙ activation_is old rest)
 
-pub may_seek : (e : Encoded) (old s : SolverState) (present stored : List Bool) (older : Option (List Bool)) (activation : Literal) (a : Clause) → IsReadable e →
+pub may_seek : (e : Encoded) (old s : SolverState) (present : Seen) (stored : List Bool) (older : Option (List Bool)) (activation : Literal) (a : Clause) → IsReadable e →
     old.proof.problem.vars ≡ e.variables →
     old.proof.problem.clauses ≡ e.clauses → IsAtRest old → s ≡ begun old → activation ≡ activation_in old.proof →
     a ≡ assumptions_for e activation (asking present stored older) →
@@ -64,7 +65,7 @@ may_seek e old s present stored older activation a readable vars clauses rest ne
     (may_start e old present stored older readable vars clauses rest))
 
 -- a search in a step that was begun, and the end of the step
-pub sought_with : (e : Encoded) (old s middle new : SolverState) (present stored : List Bool) (older : Option (List Bool)) (activation : Literal) (a : Clause)
+pub sought_with : (e : Encoded) (old s middle new : SolverState) (present : Seen) (stored : List Bool) (older : Option (List Bool)) (activation : Literal) (a : Clause)
     (known : Option Cand) (k b : ℕ) (found : List Cand) (end : ListEnd) (last : Option ℕ) → IsAtRest old → s ≡ begun old → activation ≡ activation_in old.proof →
     a ≡ assumptions_for e activation (asking present stored older) → last ≡ ending_of end → HasEnded middle new last →
     HasEndedSearch e a known k b s middle found end → HasSought e old new present stored older known k b found end
@@ -108,7 +109,7 @@ failed_extends old new end (inl e) = extends_same false old new [] e
 failed_extends old new end (inr e) = finished_extends old new end e
 
 -- a search in a step that has just begun
-pub sought_extends : (e : Encoded) (old s new : SolverState) (present stored : List Bool) (older : Option (List Bool)) (activation : Literal)
+pub sought_extends : (e : Encoded) (old s new : SolverState) (present : Seen) (stored : List Bool) (older : Option (List Bool)) (activation : Literal)
     (a : Clause) → IsAtRest old → s ≡ begun old →
     activation ≡ activation_in old.proof →
     a ≡ assumptions_for e activation (asking present stored older) → Extends true s.proof new.proof a →
@@ -120,7 +121,7 @@ sought_extends e old s new present stored older activation a rest is g assumed x
     (subst (λ (a : Clause). Extends true s.proof new.proof a) (assumptions_are e old present stored older activation a rest g assumed) x)
 
 -- a step that was begun, and no more
-pub begun_extends : (e : Encoded) (old s : SolverState) (present stored : List Bool) (older : Option (List Bool)) → s ≡ begun old →
+pub begun_extends : (e : Encoded) (old s : SolverState) (present : Seen) (stored : List Bool) (older : Option (List Bool)) → s ≡ begun old →
     Extends true old.proof s.proof (assumptions_at e old.proof present stored older)
 begun_extends e old s present stored older is = extends_same true old.proof s.proof (assumptions_at e old.proof present stored older) (ap (λ
     (s : SolverState). s.proof) is)

@@ -1,5 +1,6 @@
 -- A step of the log, as a contract of the lists sees it.
 use Rattle.std.proofs.Common.{◌≡◌, ℕ, Bool, false, List, Option, refl, subst}
+use Rattle.bs_seen.specs.declared.seen.Seen.{Seen}
 use Rattle.bs_net.specs.Circuit.{Circuit}
 use Rattle.bs_scan.specs.Choice.{Chosen}
 use Rattle.bs_solve_recording.specs.ProofLog.{ProofLog}
@@ -21,7 +22,7 @@ viewed c choice proof calls failed =
       failed = failed;
     }
 
-listed_seen : (c : Circuit) (choice : Chosen) (before after : ProofLog) (failed : Bool) (n m : ℕ) (present stored : List Bool)
+listed_seen : (c : Circuit) (choice : Chosen) (before after : ProofLog) (failed : Bool) (n m : ℕ) (present : Seen) (stored : List Bool)
     (older : Option (List Bool)) (known : Option Cand) (k b : ℕ) (listing : Listing) →
     failed ≡ false →
     HasListed (seen c choice before) (seen c choice after) present stored older known k b listing →
@@ -54,7 +55,7 @@ listed_seen c choice before after failed n m present stored older known k b list
 
 -- a list, where its old state is so seen
 pub listed_again : (c : Circuit) (choice : Chosen) (before after : ProofLog) (old : PreimageState) (failed : Bool) (n m : ℕ)
-    (present stored : List Bool) (older : Option (List Bool)) (known : Option Cand)
+    (present : Seen) (stored : List Bool) (older : Option (List Bool)) (known : Option Cand)
     (k b : ℕ) (listing : Listing) →
     viewed c choice before n failed ≡ old → failed ≡ false → HasListed (seen c choice before) (seen c choice after) present stored older known k b listing →
     HasListed old (viewed c choice after m false) present stored older known k b listing

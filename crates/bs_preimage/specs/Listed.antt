@@ -1,6 +1,7 @@
 -- What a list of candidates is, and what it adds to the log.
 use Rattle.std.specs.Prelude.{◌≡◌, ℕ, ◌-◌, ◌^◌, ◌<◌, Bool, true, false, List, [], ◌∷◌, ◌++◌, reverse, length, Option, Some, All, IsTrue}
 use Rattle.std.specs.Option.{option_to_list}
+use Rattle.bs_seen.specs.declared.seen.Seen.{Seen}
 use Rattle.bs_clause.specs.Literal.{Literal}
 use Rattle.bs_clause.specs.UnitRun.{IsUnitRun}
 use Rattle.bs_clause.specs.Range.{HasVariables}
@@ -20,8 +21,8 @@ use Rattle.bs_preimage.specs.declared.listing.Listing.{Listing}
 use Rattle.bs_preimage.specs.Asking.{HasAsked}
 use Rattle.bs_preimage.specs.Preimage.{PreimageState, encoding_in, next_activation, assumptions_in, GoesOn}
 
--- a predecessor with an input under which it leads to the present state, and with the right state before it
-pub record IsRightCand (c : Circuit) (choice : Chosen) (present stored : List Bool) (older : Option (List Bool)) (cand : Cand) : Type 0 where
+-- a predecessor with an input under which it leads to a state that shows the present one, and with the right state before it
+pub record IsRightCand (c : Circuit) (choice : Chosen) (present : Seen) (stored : List Bool) (older : Option (List Bool)) (cand : Cand) : Type 0 where
   pub candidate : IsCandidate c choice present (stored ∷ option_to_list older) cand
   pub before : IsTrue (is_right_before c choice older cand.state cand.before)
 
@@ -29,7 +30,7 @@ pub record IsRightCand (c : Circuit) (choice : Chosen) (present stored : List Bo
 -- step: what it assumes, and its lines, with a block for each candidate; a solve has at most b lemmas, and fewer before a block.
 -- A solve does not come to its budget where a unit run over the encoding and what
 -- the step assumes leaves so few of the encoding's variables open that b is at least the number of their values.
-pub record HasListed (old new : PreimageState) (present stored : List Bool) (older : Option (List Bool)) (known : Option Cand) (k b : ℕ)
+pub record HasListed (old new : PreimageState) (present : Seen) (stored : List Bool) (older : Option (List Bool)) (known : Option Cand) (k b : ℕ)
     (listing : Listing) : Type 0 where
   pub was_well : old.failed ≡ false
   pub well : new.failed ≡ false
@@ -49,7 +50,7 @@ pub record HasListed (old new : PreimageState) (present stored : List Bool) (old
       IsUnitRun (encoding_in old).clauses (assumptions_in old present stored older) run → b < 2 ^ ((encoding_in old).variables - length run)
 
 -- The same, where a source is asked for what is known, once at most, and not before one place is left.
-abbrev pub HasListedAsking : {S : Type 0} → (S → Option Cand → S → Type 0) → S → S → PreimageState → PreimageState → List Bool → List Bool →
+abbrev pub HasListedAsking : {S : Type 0} → (S → Option Cand → S → Type 0) → S → S → PreimageState → PreimageState → Seen → List Bool →
     Option (List Bool) → ℕ → ℕ → Listing → Type 0
 HasListedAsking knows source after old new present stored older k b listing =
     HasAsked knows source after (λ known. HasListed old new present stored older known k b listing) k (length listing.cands) listing.end

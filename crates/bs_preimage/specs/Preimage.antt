@@ -1,5 +1,6 @@
 -- What makes lists of candidates, as a contract sees it.
 use Rattle.std.specs.Prelude.{◌≡◌, ◌⊎◌, ℕ, ◌+◌, Bool, false, List, [], ◌∷◌, ◌++◌, length, Option}
+use Rattle.bs_seen.specs.declared.seen.Seen.{Seen}
 use Rattle.bs_clause.specs.Literal.{Literal, Clause}
 use Rattle.bs_log.specs.declared.line.Line.{Line}
 use Rattle.bs_log.specs.History.{Problem, History, activation_of}
@@ -39,7 +40,7 @@ abbrev pub next_activation : Problem → Literal
 next_activation p = activation_of p (length p.steps + 1)
 
 -- what the next step assumes
-abbrev pub assumptions_in : PreimageState → List Bool → List Bool → Option (List Bool) → Clause
+abbrev pub assumptions_in : PreimageState → Seen → List Bool → Option (List Bool) → Clause
 assumptions_in s present stored older = assumptions_for (encoding_in s) (next_activation s.problem) (asking present stored older)
 
 -- further lines were logged, about the same clauses

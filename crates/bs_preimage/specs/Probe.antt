@@ -1,6 +1,7 @@
 -- A private search: whether one state is a predecessor.
 use Rattle.std.specs.Prelude.{◌≡◌, ◌⊎◌, ℕ, ◌+◌, ◌-◌, ◌^◌, ◌<◌, ◌≤◌, true, false, List, [], ◌∷◌, ◌++◌, length, reverse, Bool, Option, Some, None, IfSome}
 use Rattle.std.specs.Option.{option_to_list}
+use Rattle.bs_seen.specs.declared.seen.Seen.{Seen}
 use Rattle.bs_clause.specs.Literal.{Literal, Clause}
 use Rattle.bs_clause.specs.Range.{HasVariables}
 use Rattle.bs_clause.specs.UnitRun.{IsUnitRun}
@@ -64,19 +65,19 @@ pub record HasSpentBudget (e : Encoded) (q : Present) (state : List Bool) (b : �
 
 -- It stays unknown whether the state is a predecessor, where b is the budget of a solve: this cannot be asked, or a solve of the question
 -- spent its budget.
-pub record IsUnknown (c : Circuit) (choice : Chosen) (present stored : List Bool) (older : Option (List Bool)) (state : List Bool) (b : ℕ) :
+pub record IsUnknown (c : Circuit) (choice : Chosen) (present : Seen) (stored : List Bool) (older : Option (List Bool)) (state : List Bool) (b : ℕ) :
     Type 0 where
   pub why : (¬ MayProbe choice older) ⊎ HasSpentBudget (encoding_by c choice) (asking present stored older) state b
 
 -- A state that is a predecessor comes as a candidate; of one that is none the answer says so; and it says nothing where that stays unknown.
-abbrev pub IsProbed : Circuit → Chosen → List Bool → List Bool → Option (List Bool) → List Bool → ℕ → Probed → Type 0
+abbrev pub IsProbed : Circuit → Chosen → Seen → List Bool → Option (List Bool) → List Bool → ℕ → Probed → Type 0
 IsProbed c choice present stored older state b (Predecessor cand) = IsRightCand c choice present stored older cand × (cand.state ≡ state)
 IsProbed c choice present stored older state b NoPredecessor =
     is_listed (predecessors c choice present (stored ∷ option_to_list older)) state ≡ false
 IsProbed c choice present stored older state b Unknown = IsUnknown c choice present stored older state b
 
 -- the same of the next step
-abbrev pub probing_at : Encoded → ProofLog → List Bool → List Bool → Option (List Bool) → List Bool → Clause
+abbrev pub probing_at : Encoded → ProofLog → Seen → List Bool → Option (List Bool) → List Bool → Clause
 probing_at e b present stored older state = probing_for e (next_activation b.problem) (asking present stored older) state
 
 -- no step is under way, and the next one has no block
@@ -122,8 +123,8 @@ pub record IsProbing (c : Circuit) (choice : Chosen) (engine : Option Engine) (f
   pub ready : failed ≡ false → IfSome engine (IsReadyEngine c choice)
 
 -- a question has the widths of the circuit and its signature, and one signature is kept, or both are there
-pub record IsQuestion (c : Circuit) (choice : Chosen) (present stored : List Bool) (older : Option (List Bool)) (state : List Bool) (b : ℕ) : Type 0 where
-  pub present_width : length present ≡ length c.flops
+pub record IsQuestion (c : Circuit) (choice : Chosen) (present : Seen) (stored : List Bool) (older : Option (List Bool)) (state : List Bool) (b : ℕ) : Type 0 where
+  pub present_width : length present.bits ≡ length c.flops
   pub stored_width : length stored ≡ length choice.items
   pub older_width : AreWide (length choice.items) older
   pub state_width : length state ≡ length c.flops
@@ -131,7 +132,7 @@ pub record IsQuestion (c : Circuit) (choice : Chosen) (present stored : List Boo
   pub limit : 1 ≤ b
 
 -- a question was answered in a step of its own
-pub record HasAnswered (c : Circuit) (choice : Chosen) (e : Encoded) (old new : SolverState) (present stored : List Bool)
+pub record HasAnswered (c : Circuit) (choice : Chosen) (e : Encoded) (old new : SolverState) (present : Seen) (stored : List Bool)
     (older : Option (List Bool)) (state : List Bool) (b : ℕ) (answer : Probed) : Type 0 where
   pub ready : IsReadyFor c choice e new (length old.proof.problem.steps + 1)
   pub probed : IsProbed c choice present stored older state b answer

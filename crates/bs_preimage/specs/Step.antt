@@ -1,5 +1,6 @@
 -- A step of the log: the search for its candidates, and its end.
 use Rattle.std.specs.Prelude.{◌≡◌, ℕ, ◌+◌, Bool, false, List, length, Option, Some, None}
+use Rattle.bs_seen.specs.declared.seen.Seen.{Seen}
 use Rattle.bs_clause.specs.Literal.{Clause}
 use Rattle.bs_net.specs.Circuit.{Circuit}
 use Rattle.bs_scan.specs.Choice.{Chosen}
@@ -28,11 +29,11 @@ abbrev pub begun : SolverState → SolverState
 begun s = record { proof = s.proof; vars = s.vars + 1; stage = Begun; failed = false }
 
 -- what the next step assumes of a state and its stored signatures
-abbrev pub assumptions_at : Encoded → ProofLog → List Bool → List Bool → Option (List Bool) → Clause
+abbrev pub assumptions_at : Encoded → ProofLog → Seen → List Bool → Option (List Bool) → Clause
 assumptions_at e b present stored older = assumptions_for e (next_activation b.problem) (asking present stored older)
 
 -- a step was begun, searched and ended
-pub record HasSought (e : Encoded) (old new : SolverState) (present stored : List Bool) (older : Option (List Bool)) (known : Option Cand)
+pub record HasSought (e : Encoded) (old new : SolverState) (present : Seen) (stored : List Bool) (older : Option (List Bool)) (known : Option Cand)
     (k b : ℕ) (found : List Cand) (end : ListEnd) : Type 0 where
   pub middle : SolverState
   pub search : HasEndedSearch e (assumptions_at e old.proof present stored older) known k b (begun old) middle found end
@@ -51,7 +52,7 @@ seen c choice proof =
     }
 
 -- the solver rests again, with one step more, which is that of the list
-pub record HasMadeStep (c : Circuit) (choice : Chosen) (old new : SolverState) (present stored : List Bool) (older : Option (List Bool))
+pub record HasMadeStep (c : Circuit) (choice : Chosen) (old new : SolverState) (present : Seen) (stored : List Bool) (older : Option (List Bool))
     (known : Option Cand) (k b : ℕ) (listing : Listing) : Type 0 where
   pub rest : IsAtRest new
   pub count : length new.proof.problem.steps ≡ length old.proof.problem.steps + 1

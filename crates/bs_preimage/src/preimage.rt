@@ -26,6 +26,7 @@ use bs_log::Log;
 use bs_net::Netlist;
 use bs_report::Cand;
 use bs_scan::Choice;
+use bs_seen::Seen;
 use bs_solve::Solver;
 use std::alloc::Global;
 use std::marker::Model;
@@ -136,14 +137,14 @@ impl<'a> Preimage<'a> {
     pub fn list(
         &mut self,
         alloc: Global,
-        present: &Bits,
+        present: &Seen,
         stored: &Bits,
         older: Option<&Bits>,
         known: &Option<Cand>,
         k: u64,
         b: u64,
     ) -> Result<Listing, NoMemory>
-        requires state { length present.now ≡ length self.old.circuit.flops }
+        requires state { length present.now.bits ≡ length self.old.circuit.flops }
         requires signature { length stored.now ≡ length self.old.choice.items }
         requires older { AreWide (length self.old.choice.items) (option_map (λ bits. bits.now) older) }
         requires alone { depth_of self.old.choice ≡ 1 → option_map (λ bits. bits.now) older ≡ None }
@@ -168,14 +169,14 @@ impl<'a> Preimage<'a> {
     pub fn list_asking<S: Source>(
         &mut self,
         alloc: Global,
-        present: &Bits,
+        present: &Seen,
         stored: &Bits,
         older: Option<&Bits>,
         source: &mut S,
         k: u64,
         b: u64,
     ) -> Result<Listing, NoMemory>
-        requires state { length present.now ≡ length self.old.circuit.flops }
+        requires state { length present.now.bits ≡ length self.old.circuit.flops }
         requires signature { length stored.now ≡ length self.old.choice.items }
         requires older { AreWide (length self.old.choice.items) (option_map (λ bits. bits.now) older) }
         requires alone { depth_of self.old.choice ≡ 1 → option_map (λ bits. bits.now) older ≡ None }

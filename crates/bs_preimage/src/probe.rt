@@ -20,6 +20,7 @@ use bs_encode::{
 use bs_net::Netlist;
 use bs_report::Cand;
 use bs_scan::Choice;
+use bs_seen::Seen;
 use bs_solve::Solver;
 use std::alloc::Global;
 use std::marker::Model;
@@ -43,7 +44,7 @@ pub enum Probed {
 /// most `b` lemmas.
 #[derive(Clone, Copy)]
 struct ProbeRequest<'a> {
-    present: &'a Bits,
+    present: &'a Seen,
     stored: &'a Bits,
     older: Option<&'a Bits>,
     state: &'a Bits,
@@ -57,7 +58,7 @@ fn assumed(
     activation: Lit,
     asked: &ProbeRequest<'_>,
 ) -> Result<Lits, NoMemory>
-    requires present { length asked.now.present.now ≡ length encoding.now.next }
+    requires present { length asked.now.present.now.bits ≡ length encoding.now.next }
     requires stored { length asked.now.stored.now ≡ length encoding.now.signatures }
     requires older { AreWide (length encoding.now.older_signatures) (option_map (λ bits. bits.now) asked.now.older) }
     requires state { length encoding.now.states ≡ length asked.now.state.now }
@@ -84,7 +85,7 @@ fn probe_turn(
 ) -> Result<TurnEnd, NoMemory>
     requires readable { IsReadable encoding.now }
     requires may { MayTurn encoding.now solver.old (probing_for encoding.now activation (asking asked.now.present.now asked.now.stored.now (option_map (λ bits. bits.now) asked.now.older)) asked.now.state.now) }
-    requires present { length asked.now.present.now ≡ length encoding.now.next }
+    requires present { length asked.now.present.now.bits ≡ length encoding.now.next }
     requires stored { length asked.now.stored.now ≡ length encoding.now.signatures }
     requires older { AreWide (length encoding.now.older_signatures) (option_map (λ bits. bits.now) asked.now.older) }
     requires state { length encoding.now.states ≡ length asked.now.state.now }
@@ -120,7 +121,7 @@ fn probe_once(
     requires rest { IsPaused solver.old }
     requires few { length solver.old.proof.problem.steps < MAX_ACTIVATIONS }
     requires distinct { has_distinct_variables (probing_at encoding.now solver.old.proof asked.now.present.now asked.now.stored.now (option_map (λ bits. bits.now) asked.now.older) asked.now.state.now) ≡ true }
-    requires present { length asked.now.present.now ≡ length encoding.now.next }
+    requires present { length asked.now.present.now.bits ≡ length encoding.now.next }
     requires stored { length asked.now.stored.now ≡ length encoding.now.signatures }
     requires older { AreWide (length encoding.now.older_signatures) (option_map (λ bits. bits.now) asked.now.older) }
     requires state { length encoding.now.states ≡ length asked.now.state.now }
@@ -156,7 +157,7 @@ fn probe_step(
     requires about { IsAbout (circuit net.now) choice.now encoding.now solver.old.proof }
     requires rest { IsPaused solver.old }
     requires few { length solver.old.proof.problem.steps < MAX_ACTIVATIONS }
-    requires present { length asked.now.present.now ≡ length (circuit net.now).flops }
+    requires present { length asked.now.present.now.bits ≡ length (circuit net.now).flops }
     requires stored { length asked.now.stored.now ≡ length choice.now.items }
     requires older { AreWide (length choice.now.items) (option_map (λ bits. bits.now) asked.now.older) }
     requires state { length asked.now.state.now ≡ length (circuit net.now).flops }
@@ -369,13 +370,13 @@ impl<'a> Probe<'a> {
     pub fn ask(
         &mut self,
         alloc: Global,
-        present: &Bits,
+        present: &Seen,
         stored: &Bits,
         older: Option<&Bits>,
         state: &Bits,
         b: u64,
     ) -> Result<Probed, NoMemory>
-        requires present { length present.now ≡ length self.old.circuit.flops }
+        requires present { length present.now.bits ≡ length self.old.circuit.flops }
         requires stored { length stored.now ≡ length self.old.choice.items }
         requires older { AreWide (length self.old.choice.items) (option_map (λ bits. bits.now) older) }
         requires state { length state.now ≡ length self.old.circuit.flops }

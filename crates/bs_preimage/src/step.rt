@@ -20,6 +20,7 @@ use bs_encode::{Encoding, encodings_are_tidy, predecessors_are_shown, solutions_
 use bs_net::Netlist;
 use bs_report::{Cand, ListEnd};
 use bs_scan::Choice;
+use bs_seen::Seen;
 use bs_solve::Solver;
 use std::alloc::Global;
 
@@ -27,7 +28,7 @@ use std::alloc::Global;
 /// of them, with at most `b` lemmas in a solve.
 #[derive(Clone, Copy)]
 pub(crate) struct Question<'a> {
-    pub(crate) present: &'a Bits,
+    pub(crate) present: &'a Seen,
     pub(crate) stored: &'a Bits,
     pub(crate) older: Option<&'a Bits>,
     pub(crate) k: u64,
@@ -59,7 +60,7 @@ fn seek<S: Source>(
     requires clauses { solver.old.proof.problem.clauses ≡ encoding.now.clauses }
     requires rest { IsAtRest solver.old }
     requires few { length solver.old.proof.problem.steps < MAX_ACTIVATIONS }
-    requires state { length asked.now.present.now ≡ length encoding.now.next }
+    requires state { length asked.now.present.now.bits ≡ length encoding.now.next }
     requires signature { length asked.now.stored.now ≡ length encoding.now.signatures }
     requires older { AreWide (length encoding.now.older_signatures) (option_map (λ bits. bits.now) asked.now.older) }
     requires ready { S.ready source.old }
@@ -106,7 +107,7 @@ pub(crate) fn list_step<S: Source>(
     requires about { IsAbout (circuit net.now) choice.now encoding.now solver.old.proof }
     requires rest { IsAtRest solver.old }
     requires few { length solver.old.proof.problem.steps < MAX_ACTIVATIONS }
-    requires state { length asked.now.present.now ≡ length (circuit net.now).flops }
+    requires state { length asked.now.present.now.bits ≡ length (circuit net.now).flops }
     requires signature { length asked.now.stored.now ≡ length choice.now.items }
     requires older { AreWide (length choice.now.items) (option_map (λ bits. bits.now) asked.now.older) }
     requires alone { depth_of choice.now ≡ 1 → option_map (λ bits. bits.now) asked.now.older ≡ None }

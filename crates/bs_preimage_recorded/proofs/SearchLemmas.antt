@@ -7,18 +7,21 @@ use Rattle.std.specs.Option.{option_to_list}
 use Rattle.std.proofs.lemmas.Bool.{and_from, and_parts, cases_eq, cases_lt, le-leb}
 use Rattle.std.proofs.lemmas.List.Sums.{sum_by_push}
 use Rattle.bs_bits.specs.Bits.{bits_eq}
+use Rattle.bs_seen.specs.declared.seen.Seen.{Seen}
+use Rattle.bs_seen.specs.Seen.{is_shown}
+use Rattle.bs_seen.proofs.SeenLemmas.{shows_where}
 use Rattle.bs_net.specs.Circuit.{Circuit, all_bits}
 use Rattle.bs_scan.specs.Choice.{Chosen, depth_of}
 use Rattle.bs_scan.specs.Crash.{Recording}
 use Rattle.bs_scan.specs.Moments.{Moment, moment, IsMoment, run_of, state_at, is_listed}
-use Rattle.bs_scan.specs.Signature.{signature, may_hold, agrees, some_input_leads, predecessors}
+use Rattle.bs_scan.specs.Signature.{signature, may_hold, agrees, some_input_shows, predecessors}
 use Rattle.bs_scan.proofs.SignatureLemmas.{bits_same_is}
 use Rattle.std.proofs.lemmas.List.Elements.{recursion_from_All}
 use Rattle.bs_net.specs.Circuit.{next}
 use Rattle.bs_net.proofs.CallerLemmas.{all_bits_widths}
 use Rattle.bs_scan.proofs.MomentLemmas.{each_member}
 use Rattle.bs_report_good.proofs.GoodLemmas.{listed_member, filter_member, passing, Passing}
-use Rattle.bs_chip_forward.specs.Forward.{LeadsNowhere, NoneLeadBefore}
+use Rattle.bs_preimage_recorded.specs.Finder.{LeadsPast, NonePassBefore}
 use Rattle.bs_chip.specs.Lockstep.{IsLongest, IsLowest, NoneAmong, NoneBefore}
 use Rattle.bs_chip.specs.Replay.{lists}
 use Rattle.bs_chip.specs.SignatureHashes.{signature_at, is_alike, NoneAlike, IsNextAlike}
@@ -36,16 +39,16 @@ use Rattle.bs_preimage_recorded.specs.Search.{IsOpenAt, SoughtAt, SoughtBefore, 
 -- ---- a state with another signature
 
 -- a predecessor has the stored signature
-has_signature : (c : Circuit) (choice : Chosen) (p s stored : List Bool) (older : List (List Bool)) →
+has_signature : (c : Circuit) (choice : Chosen) (p : Seen) (s stored : List Bool) (older : List (List Bool)) →
     is_listed (predecessors c choice p (stored ∷ older)) s ≡ true → signature choice s ≡ stored
 unfolding predecessors
 has_signature c choice p s stored older there =
-    let found = filter_member (λ (s : List Bool). agrees c choice (stored ∷ older) s && some_input_leads c s p) s (all_bits (length c.flops))
+    let found = filter_member (λ (s : List Bool). agrees c choice (stored ∷ older) s && some_input_shows c s p) s (all_bits (length c.flops))
     (listed_member s (predecessors c choice p (stored ∷ older)) there) in
-    let tests = and_parts (agrees c choice (stored ∷ older) s) (some_input_leads c s p) found.0 in
+    let tests = and_parts (agrees c choice (stored ∷ older) s) (some_input_shows c s p) found.0 in
     bits_same_is (signature choice s) stored (and_parts (bits_eq (signature choice s) stored) (may_hold c choice (depth_of choice - 1) older s) tests.0).0
 
-other_signature : (r : Recording) (present stored : List Bool) (older : Option (List Bool)) (run cycle : ℕ) → signature_at r run cycle ≢ stored →
+other_signature : (r : Recording) (present : Seen) (stored : List Bool) (older : Option (List Bool)) (run cycle : ℕ) → signature_at r run cycle ≢ stored →
     lists r.circuit (run_of r.runs run) (asked_in r present stored older) cycle ≡ false
 other_signature r present stored older run cycle other = by (lists r.circuit (run_of r.runs run) (asked_in r present stored older) cycle) refl
   where
@@ -55,7 +58,7 @@ other_signature r present stored older run cycle other = by (lists r.circuit (ru
     by true is =
         absurd (other (has_signature r.circuit r.choice present (state_at r.circuit (run_of r.runs run) cycle) stored (option_to_list older) is))
 
-none_among : (r : Recording) (present stored : List Bool) (older : Option (List Bool)) (cycle from below : ℕ) → NoneAlike r stored cycle from below →
+none_among : (r : Recording) (present : Seen) (stored : List Bool) (older : Option (List Bool)) (cycle from below : ℕ) → NoneAlike r stored cycle from below →
     NoneAmong r.circuit r.runs (asked_in r present stored older) cycle from below
 none_among r present stored older cycle from below none =
     record { each = λ n lo hi there last. other_signature r present stored older n cycle (none.each n lo hi there last) }
@@ -63,25 +66,25 @@ none_among r present stored older cycle from below none =
 -- ---- a state that leads elsewhere
 
 -- some input leads from a predecessor to the present
-is_led : (c : Circuit) (choice : Chosen) (p s : List Bool) (stored : List (List Bool)) → is_listed (predecessors c choice p stored) s ≡ true →
-    some_input_leads c s p ≡ true
+is_led : (c : Circuit) (choice : Chosen) (p : Seen) (s : List Bool) (stored : List (List Bool)) → is_listed (predecessors c choice p stored) s ≡ true →
+    some_input_shows c s p ≡ true
 unfolding predecessors
 is_led c choice p s stored there =
-    let found = filter_member (λ (s : List Bool). agrees c choice stored s && some_input_leads c s p) s (all_bits (length c.flops))
+    let found = filter_member (λ (s : List Bool). agrees c choice stored s && some_input_shows c s p) s (all_bits (length c.flops))
     (listed_member s (predecessors c choice p stored) there) in
-    (and_parts (agrees c choice stored s) (some_input_leads c s p) found.0).1
+    (and_parts (agrees c choice stored s) (some_input_shows c s p) found.0).1
 
-led_by_none : (c : Circuit) (s p : List Bool) → LeadsNowhere c s p → some_input_leads c s p ≡ true → ⊥
+led_by_none : (c : Circuit) (s : List Bool) (p : Seen) → LeadsPast c s p → some_input_shows c s p ≡ true → ⊥
 led_by_none c s p nowhere some =
-    let x : Passing (λ (x : List Bool). bits_eq (next c s x) p) (all_bits (length c.inputs)) =
-    passing (λ (x : List Bool). bits_eq (next c s x) p) (all_bits (length c.inputs)) some in
+    let x : Passing (λ (x : List Bool). is_shown p (next c s x)) (all_bits (length c.inputs)) =
+    passing (λ (x : List Bool). is_shown p (next c s x)) (all_bits (length c.inputs)) some in
     let wide : length x.item ≡ length c.inputs =
     each_member (λ (y : List Bool). length y ≡ length c.inputs) x.item (all_bits (length c.inputs))
     (recursion_from_All (λ (y : List Bool). length y ≡ length c.inputs) (all_bits (length c.inputs)) (all_bits_widths (length c.inputs))) x.member in
-    nowhere.each x.item wide (bits_same_is (next c s x.item) p x.passes)
+    nowhere.each x.item wide (shows_where p (next c s x.item) x.passes)
 
-leads_elsewhere : (r : Recording) (present stored : List Bool) (older : Option (List Bool)) (run cycle : ℕ) →
-    LeadsNowhere r.circuit (state_at r.circuit (run_of r.runs run) cycle) present →
+leads_elsewhere : (r : Recording) (present : Seen) (stored : List Bool) (older : Option (List Bool)) (run cycle : ℕ) →
+    LeadsPast r.circuit (state_at r.circuit (run_of r.runs run) cycle) present →
     lists r.circuit (run_of r.runs run) (asked_in r present stored older) cycle ≡ false
 leads_elsewhere r present stored older run cycle nowhere = by (lists r.circuit (run_of r.runs run) (asked_in r present stored older) cycle) refl
   where
@@ -94,7 +97,7 @@ leads_elsewhere r present stored older run cycle nowhere = by (lists r.circuit (
         (is_led r.circuit r.choice present (state_at r.circuit (run_of r.runs run) cycle) (stored ∷ option_to_list older) is))
 
 -- no state before a cycle is a predecessor, where none leads to the present
-pub none_led : (r : Recording) (present stored : List Bool) (older : Option (List Bool)) (from limit : ℕ) → NoneLeadBefore r.circuit r.runs present from →
+pub none_led : (r : Recording) (present : Seen) (stored : List Bool) (older : Option (List Bool)) (from limit : ℕ) → NonePassBefore r.circuit r.runs present from →
     limit ≤ from → NoneBefore r.circuit r.runs (asked_in r present stored older) limit
 none_led r present stored older from limit none within =
     record {
@@ -108,14 +111,14 @@ none_led r present stored older from limit none within =
 -- ---- a run
 
 -- no run behind the number is in such a state
-pub none_behind : (r : Recording) (present stored : List Bool) (older : Option (List Bool)) (cycle from below : ℕ) →
+pub none_behind : (r : Recording) (present : Seen) (stored : List Bool) (older : Option (List Bool)) (cycle from below : ℕ) →
     NoneAlike r stored cycle from (length r.runs) → NoneAmong r.circuit r.runs (asked_in r present stored older) cycle from below
 none_behind r present stored older cycle from below none =
     let all = none_among r present stored older cycle from (length r.runs) none in
     record { each = λ n lo hi there last. all.each n lo there there last }
 
 -- the next one is past the last
-pub none_within : (r : Recording) (present stored : List Bool) (older : Option (List Bool)) (cycle from below run : ℕ) →
+pub none_within : (r : Recording) (present : Seen) (stored : List Bool) (older : Option (List Bool)) (cycle from below run : ℕ) →
     IsNextAlike r stored cycle from run → below < run → NoneAmong r.circuit r.runs (asked_in r present stored older) cycle from below
 none_within r present stored older cycle from below run next past =
     let all = none_among r present stored older cycle from (run - 1) next.before in
@@ -131,8 +134,8 @@ one_more_run r states cycle from run some none here =
     }
 
 -- the run that is next leads elsewhere
-pub passed : (r : Recording) (present stored : List Bool) (older : Option (List Bool)) (cycle from below run : ℕ) → IsNextAlike r stored cycle from run →
-    run ≤ below → LeadsNowhere r.circuit (state_at r.circuit (run_of r.runs run) cycle) present →
+pub passed : (r : Recording) (present : Seen) (stored : List Bool) (older : Option (List Bool)) (cycle from below run : ℕ) → IsNextAlike r stored cycle from run →
+    run ≤ below → LeadsPast r.circuit (state_at r.circuit (run_of r.runs run) cycle) present →
     TurnsTo r present stored older cycle from below (GoOn run)
 passed r present stored older cycle from below run next within nowhere = (
   next.behind,
@@ -142,7 +145,7 @@ passed r present stored older cycle from below run next within nowhere = (
 )
 
 -- the run that is next stays open
-pub open_at : (r : Recording) (present stored : List Bool) (older : Option (List Bool)) (cycle from run : ℕ) → IsNextAlike r stored cycle from run →
+pub open_at : (r : Recording) (present : Seen) (stored : List Bool) (older : Option (List Bool)) (cycle from run : ℕ) → IsNextAlike r stored cycle from run →
     IsOpenAt r (asked_in r present stored older) stored cycle from (moment run cycle)
 open_at r present stored older cycle from run next =
     record {
@@ -153,7 +156,7 @@ open_at r present stored older cycle from run next =
       before = none_among r present stored older cycle from (run - 1) next.before;
     }
 
-pub turned : (r : Recording) (present stored : List Bool) (older : Option (List Bool)) (b cycle from below run : ℕ) (said : Probed) →
+pub turned : (r : Recording) (present : Seen) (stored : List Bool) (older : Option (List Bool)) (b cycle from below run : ℕ) (said : Probed) →
     IsNextAlike r stored cycle from run → run ≤ below →
     IsProbed r.circuit r.choice present stored older (state_at r.circuit (run_of r.runs run) cycle) b said →
     TurnsTo r present stored older cycle from below (turn_by said run cycle)
@@ -234,7 +237,7 @@ alike_more r stored cycle from run next =
     omega (arith, so_far, one)
 
 -- one try is taken
-pub tried_one : (r : Recording) (present stored : List Bool) (older : Option (List Bool)) (b old new cycle from below run : ℕ) (said : Probed) →
+pub tried_one : (r : Recording) (present : Seen) (stored : List Bool) (older : Option (List Bool)) (b old new cycle from below run : ℕ) (said : Probed) →
     old ≡ new + 1 → IsNextAlike r stored cycle from run →
     IsProbed r.circuit r.choice present stored older (state_at r.circuit (run_of r.runs run) cycle) b said →
     HasTurned old new (alike_at r stored cycle) (IsUnknownAt r present stored older b) from below (turn_by said run cycle)
@@ -287,7 +290,7 @@ open_further r states stored cycle from m none h =
       before = both_spans r states cycle from (m.run - 1) none h.before;
     }
 
-pub sought_at : (r : Recording) (present stored : List Bool) (older : Option (List Bool)) (cycle from below : ℕ) (sought : Sought) →
+pub sought_at : (r : Recording) (present : Seen) (stored : List Bool) (older : Option (List Bool)) (cycle from below : ℕ) (sought : Sought) →
     NoneAmong r.circuit r.runs (asked_in r present stored older) cycle 0 from → SoughtAt r present stored older cycle from below sought →
     SoughtAt r present stored older cycle 0 below sought
 sought_at r present stored older cycle from below (Found f) none h =
@@ -316,7 +319,7 @@ tried_at first old new passed alike before unknown (Unsaid m) so_far h = h
 
 -- ---- the cycles
 
-pub found_first : (r : Recording) (present stored : List Bool) (older : Option (List Bool)) (cycle below : ℕ) (f : Recorded) →
+pub found_first : (r : Recording) (present : Seen) (stored : List Bool) (older : Option (List Bool)) (cycle below : ℕ) (f : Recorded) →
     NoneBefore r.circuit r.runs (asked_in r present stored older) cycle → SoughtAt r present stored older cycle 0 below (Found f) →
     IsFirstRecorded r present stored older f
 found_first r present stored older cycle below f none h =
@@ -340,7 +343,7 @@ open_sooner r states stored cycle m none h =
       };
     }
 
-pub sooner_found : (r : Recording) (present stored : List Bool) (older : Option (List Bool)) (m : Moment) (sought : Sought) →
+pub sooner_found : (r : Recording) (present : Seen) (stored : List Bool) (older : Option (List Bool)) (m : Moment) (sought : Sought) →
     NoneBefore r.circuit r.runs (asked_in r present stored older) m.cycle → SoughtAt r present stored older m.cycle 0 (m.run - 1) sought →
     SoughtSooner r present stored older m sought
 sooner_found r present stored older m (Found f) none h = found_first r present stored older m.cycle (m.run - 1) f none h
@@ -348,7 +351,7 @@ sooner_found r present stored older m NoMoment none h = record { cycles = none; 
 sooner_found r present stored older m (Cut o) none h = open_sooner r (asked_in r present stored older) stored m.cycle o none h
 sooner_found r present stored older m (Unsaid o) none h = open_sooner r (asked_in r present stored older) stored m.cycle o none h
 
-pub of_all : (r : Recording) (present stored : List Bool) (older : Option (List Bool)) (most : ℕ) (sought : Sought) → IsLongest r.runs most →
+pub of_all : (r : Recording) (present : Seen) (stored : List Bool) (older : Option (List Bool)) (most : ℕ) (sought : Sought) → IsLongest r.runs most →
     SoughtBefore r present stored older (most + 1) sought → SoughtOfAll r present stored older sought
 of_all r present stored older most (Found f) longest h = h
 of_all r present stored older most NoMoment longest h =
@@ -379,7 +382,7 @@ pub cut_in_cycle : (r : Recording) (states : List (List Bool)) (stored : List Bo
 cut_in_cycle r states stored cycle first old m so_far h here =
     subst (λ (n : ℕ). first ≤ alike_below r stored n + alike_at r stored n (m.run - 1)) (sym h.cycle_is) (omega (arith, so_far, here))
 
-pub cut_sooner : (r : Recording) (present stored : List Bool) (older : Option (List Bool)) (b : ℕ) (m : Moment) (first old new : ℕ) (sought : Sought) →
+pub cut_sooner : (r : Recording) (present : Seen) (stored : List Bool) (older : Option (List Bool)) (b : ℕ) (m : Moment) (first old new : ℕ) (sought : Sought) →
     first ≤ old + alike_below r stored m.cycle → SoughtAt r present stored older m.cycle 0 (m.run - 1) sought →
     HasTried old new (alike_at r stored m.cycle (m.run - 1)) (λ o. alike_at r stored m.cycle (o.run - 1)) (IsUnknownAt r present stored older b) sought →
     IsCutAt r present stored older b first sought
@@ -390,7 +393,7 @@ cut_sooner r present stored older b m first old new (Cut o) so_far h tried =
 cut_sooner r present stored older b m first old new (Unsaid o) so_far h tried = tried
 
 -- the runs of a moment's cycle were searched behind the cycles before it
-pub cut_behind : {E : Type 0} (r : Recording) (present stored : List Bool) (older : Option (List Bool)) (b : ℕ) (m : Moment) (first old new : ℕ)
+pub cut_behind : {E : Type 0} (r : Recording) (present : Seen) (stored : List Bool) (older : Option (List Bool)) (b : ℕ) (m : Moment) (first old new : ℕ)
     (result : Result Sought E) → first ≤ old + alike_below r stored m.cycle →
     IfOk result (SoughtAt r present stored older m.cycle 0 (m.run - 1)) →
     IfOk result (HasTried old new (alike_at r stored m.cycle (m.run - 1)) (λ o. alike_at r stored m.cycle (o.run - 1))
@@ -399,7 +402,7 @@ pub cut_behind : {E : Type 0} (r : Recording) (present stored : List Bool) (olde
 cut_behind r present stored older b m first old new (Ok sought) so_far h tried = cut_sooner r present stored older b m first old new sought so_far h tried
 cut_behind r present stored older b m first old new (Err want) so_far h tried = tt
 
-pub cut_of_tried : (r : Recording) (present stored : List Bool) (older : Option (List Bool)) (b old new alike : ℕ) (sought : Sought) →
+pub cut_of_tried : (r : Recording) (present : Seen) (stored : List Bool) (older : Option (List Bool)) (b old new alike : ℕ) (sought : Sought) →
     HasTried old new alike (alike_before r stored) (IsUnknownAt r present stored older b) sought → IsCutAt r present stored older b old sought
 cut_of_tried r present stored older b old new alike (Found f) h = tt
 cut_of_tried r present stored older b old new alike NoMoment h = tt

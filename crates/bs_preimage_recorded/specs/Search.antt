@@ -2,6 +2,7 @@
 use Rattle.std.specs.Prelude.{◌≡◌, ℕ, ◌≤◌, ◌<◌, ◌+◌, ◌-◌, nat_le, ◌&&◌, Bool, true, List, ◌∷◌, length, count_by, sum_by, Option, Some, None}
 use Rattle.std.specs.List.{range_with_len}
 use Rattle.std.specs.Option.{option_to_list}
+use Rattle.bs_seen.specs.declared.seen.Seen.{Seen}
 use Rattle.bs_scan.specs.Crash.{Recording}
 use Rattle.bs_scan.specs.Moments.{Run, Moment, moment, IsMoment, run_of, state_at, state_of}
 use Rattle.bs_scan.specs.Signature.{predecessors}
@@ -18,7 +19,7 @@ use Rattle.bs_preimage_recorded.specs.declared.search.Turn.{Turn}
 use Rattle.bs_preimage_recorded.specs.declared.search.Turn.TheVariants.{GoOn, End}
 
 -- the predecessors of a present that agree with its stored signatures
-abbrev pub asked_in : Recording → List Bool → List Bool → Option (List Bool) → List (List Bool)
+abbrev pub asked_in : Recording → Seen → List Bool → Option (List Bool) → List (List Bool)
 asked_in r present stored older = predecessors r.circuit r.choice present (stored ∷ option_to_list older)
 
 -- whether there is a run with this number, and it lasts to the cycle
@@ -39,7 +40,7 @@ abbrev pub alike_before : Recording → List Bool → Moment → ℕ
 alike_before r stored m = alike_below r stored m.cycle + alike_at r stored m.cycle (m.run - 1)
 
 -- the candidate has the state of the moment
-pub record IsRecorded (r : Recording) (present stored : List Bool) (older : Option (List Bool)) (f : Recorded) : Type 0 where
+pub record IsRecorded (r : Recording) (present : Seen) (stored : List Bool) (older : Option (List Bool)) (f : Recorded) : Type 0 where
   pub cand : IsRightCand r.circuit r.choice present stored older f.cand
   pub state : f.cand.state ≡ state_at r.circuit (run_of r.runs f.run) f.cycle
 
@@ -53,7 +54,7 @@ pub record IsOpenAt (r : Recording) (states : List (List Bool)) (stored : List B
 
 -- What comes of the runs behind a number, up to another, at a cycle: the lowest one that is in a predecessor there, or that none is; or
 -- a moment at which the search ends, and before which none is.
-abbrev pub SoughtAt : Recording → List Bool → List Bool → Option (List Bool) → ℕ → ℕ → ℕ → Sought → Type 0
+abbrev pub SoughtAt : Recording → Seen → List Bool → Option (List Bool) → ℕ → ℕ → ℕ → Sought → Type 0
 SoughtAt r present stored older cycle from below (Found f) =
     (f.cycle ≡ cycle) × IsLowest r.circuit r.runs (asked_in r present stored older) cycle from f.run × IsRecorded r present stored older f
 SoughtAt r present stored older cycle from below NoMoment = NoneAmong r.circuit r.runs (asked_in r present stored older) cycle from below
@@ -61,7 +62,7 @@ SoughtAt r present stored older cycle from below (Cut m) = IsOpenAt r (asked_in 
 SoughtAt r present stored older cycle from below (Unsaid m) = IsOpenAt r (asked_in r present stored older) stored cycle from m
 
 -- none is up to a later number, or that is what comes of them
-abbrev pub TurnsTo : Recording → List Bool → List Bool → Option (List Bool) → ℕ → ℕ → ℕ → Turn → Type 0
+abbrev pub TurnsTo : Recording → Seen → List Bool → Option (List Bool) → ℕ → ℕ → ℕ → Turn → Type 0
 TurnsTo r present stored older cycle from below (GoOn run) =
     (from < run) × (run ≤ below) × NoneAmong r.circuit r.runs (asked_in r present stored older) cycle from run
 TurnsTo r present stored older cycle from below (End sought) = SoughtAt r present stored older cycle from below sought
@@ -75,7 +76,7 @@ turn_by Unknown run cycle = End (Unsaid (moment run cycle))
 -- ---- what was asked
 
 -- it stays unknown whether the state of a moment is a predecessor, where b is the budget of a solve
-abbrev pub IsUnknownAt : Recording → List Bool → List Bool → Option (List Bool) → ℕ → Moment → Type 0
+abbrev pub IsUnknownAt : Recording → Seen → List Bool → Option (List Bool) → ℕ → Moment → Type 0
 IsUnknownAt r present stored older b m = IsUnknown r.circuit r.choice present stored older (state_of r.circuit r.runs m) b
 
 -- Of so many tries these are left. No more were taken than there are moments alike up to the end; and where they were all taken, there are
@@ -94,7 +95,7 @@ HasTurned old new alike unknown from below (End sought) =
 
 -- ---- in the order of moments
 
-pub record IsFirstRecorded (r : Recording) (present stored : List Bool) (older : Option (List Bool)) (f : Recorded) : Type 0 where
+pub record IsFirstRecorded (r : Recording) (present : Seen) (stored : List Bool) (older : Option (List Bool)) (f : Recorded) : Type 0 where
   pub first : IsFirstIn r.circuit r.runs (asked_in r present stored older) (moment f.run f.cycle)
   pub recorded : IsRecorded r present stored older f
 
@@ -110,34 +111,34 @@ pub record StaysOpen (r : Recording) (states : List (List Bool)) (stored : List 
   pub sooner : NoneSooner r states m
 
 -- what comes of the cycles before a limit
-abbrev pub SoughtBefore : Recording → List Bool → List Bool → Option (List Bool) → ℕ → Sought → Type 0
+abbrev pub SoughtBefore : Recording → Seen → List Bool → Option (List Bool) → ℕ → Sought → Type 0
 SoughtBefore r present stored older limit (Found f) = IsFirstRecorded r present stored older f
 SoughtBefore r present stored older limit NoMoment = NoneBefore r.circuit r.runs (asked_in r present stored older) limit
 SoughtBefore r present stored older limit (Cut m) = StaysOpen r (asked_in r present stored older) stored m
 SoughtBefore r present stored older limit (Unsaid m) = StaysOpen r (asked_in r present stored older) stored m
 
 -- what comes of the moments before one
-abbrev pub SoughtSooner : Recording → List Bool → List Bool → Option (List Bool) → Moment → Sought → Type 0
+abbrev pub SoughtSooner : Recording → Seen → List Bool → Option (List Bool) → Moment → Sought → Type 0
 SoughtSooner r present stored older m (Found f) = IsFirstRecorded r present stored older f
 SoughtSooner r present stored older m NoMoment = NoneSooner r (asked_in r present stored older) m
 SoughtSooner r present stored older m (Cut o) = StaysOpen r (asked_in r present stored older) stored o
 SoughtSooner r present stored older m (Unsaid o) = StaysOpen r (asked_in r present stored older) stored o
 
 -- what comes of all moments
-abbrev pub SoughtOfAll : Recording → List Bool → List Bool → Option (List Bool) → Sought → Type 0
+abbrev pub SoughtOfAll : Recording → Seen → List Bool → Option (List Bool) → Sought → Type 0
 SoughtOfAll r present stored older (Found f) = IsFirstRecorded r present stored older f
 SoughtOfAll r present stored older NoMoment = NoneReached r.circuit r.runs (asked_in r present stored older)
 SoughtOfAll r present stored older (Cut o) = StaysOpen r (asked_in r present stored older) stored o
 SoughtOfAll r present stored older (Unsaid o) = StaysOpen r (asked_in r present stored older) stored o
 
 -- what comes of those before a moment, if one is given, or of all
-abbrev pub SoughtWithin : Recording → List Bool → List Bool → Option (List Bool) → Option Moment → Sought → Type 0
+abbrev pub SoughtWithin : Recording → Seen → List Bool → Option (List Bool) → Option Moment → Sought → Type 0
 SoughtWithin r present stored older None sought = SoughtOfAll r present stored older sought
 SoughtWithin r present stored older (Some m) sought = SoughtSooner r present stored older m sought
 
 -- Before the moment at which a search was cut there are so many whose signature has the hash of the stored one. A moment that is unsaid
 -- stays unknown, where b is the budget of a solve.
-abbrev pub IsCutAt : Recording → List Bool → List Bool → Option (List Bool) → ℕ → ℕ → Sought → Type 0
+abbrev pub IsCutAt : Recording → Seen → List Bool → Option (List Bool) → ℕ → ℕ → Sought → Type 0
 IsCutAt r present stored older b limit (Found f) = Unit {0}
 IsCutAt r present stored older b limit NoMoment = Unit {0}
 IsCutAt r present stored older b limit (Cut m) = limit ≤ alike_before r stored m

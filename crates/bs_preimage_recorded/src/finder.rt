@@ -2,16 +2,17 @@
 ghost use Rattle.std.specs.Prelude.{◌≡◌, ◌≤◌, [], false, length, option_map, IfOk, IfSome, MatchOption};
 ghost use Rattle.bs_scan.specs.Moments.{IsMoment, moment, run_of, state_at};
 ghost use Rattle.bs_stim.specs.declared.limits.TheConstants.{MAX_CYCLES};
-ghost use Rattle.bs_chip_forward.specs.Forward.{IsAim, LeadsNowhere, NoneLeadBefore};
+ghost use Rattle.bs_chip_forward.specs.Forward.{IsAim, LeadsNowhere};
 ghost use Rattle.bs_chip.specs.Lockstep.{IsLongest};
 ghost use Rattle.bs_chip.specs.SignatureHashes.{IsNextAlike, NoneAlike};
 ghost use Rattle.bs_preimage.specs.Probe.{IsProbed};
-ghost use Rattle.bs_preimage_recorded.specs.Finder.{IsAsking, LeadsAway, StartsBy};
+ghost use Rattle.bs_preimage_recorded.specs.Finder.{IsAsking, LeadsAway, LeadsPast, NonePassBefore, StartsBy};
 
 use bs_bits::{Bits, NoMemory};
 use bs_chip::{Chip, SignatureHashes, hash_of};
 use bs_chip_forward::{Aim, Forward};
 use bs_preimage::{Probe, Probed};
+use bs_seen::Seen;
 use std::alloc::Global;
 use std::marker::Model;
 
@@ -19,7 +20,7 @@ use std::marker::Model;
 /// at most `b` lemmas a state.
 #[derive(Clone, Copy)]
 pub struct Query<'a> {
-    pub present: &'a Bits,
+    pub present: &'a Seen,
     pub stored: &'a Bits,
     pub older: Option<&'a Bits>,
     pub b: u64,
@@ -47,7 +48,7 @@ fn ask_moment(
         query.present,
         query.stored,
         query.older,
-        &dump.state,
+        &dump.state.bits,
         query.b,
     )?;
     Ok(said)
@@ -86,12 +87,36 @@ fn may_lead_in(
     forward.may_lead(alloc, present, aim, run, cycle)
 }
 
+/// The same of a present of which some bits may not be known. Then any state may lead to it.
+fn may_lead_seen(
+    alloc: Global,
+    chip: &Chip<'_>,
+    forward: &mut Forward<'_>,
+    present: &Seen,
+    aim: Aim,
+    run: u32,
+    cycle: u32,
+) -> Result<bool, NoMemory>
+    requires circuit { forward.old.circuit ≡ chip.now.recording.circuit }
+    requires runs { forward.old.runs ≡ chip.now.recording.runs }
+    requires few { cycle ≤ MAX_CYCLES }
+    requires there { IsMoment forward.old.runs (moment run cycle) }
+    requires aim { IsAim forward.old present.now.bits aim }
+    ensures lead { IfOk result (λ may. may ≡ false → LeadsPast forward.old.circuit (state_at forward.old.circuit (run_of forward.old.runs run) cycle) present.now) }
+    ensures kept { forward.new ≡ forward.old }
+{
+    if present.is_whole() {
+        return may_lead_in(alloc, chip, forward, &present.bits, aim, run, cycle);
+    }
+    Ok(true)
+}
+
 /// Whether the state of a moment may lead to a present, as far as it is known.
 fn may_lead_by(
     alloc: Global,
     chip: &Chip<'_>,
     forward: &mut Option<Forward<'_>>,
-    present: &Bits,
+    present: &Seen,
     aim: Aim,
     run: u32,
     cycle: u32,
@@ -99,25 +124,37 @@ fn may_lead_by(
     requires recording { IfSome forward.old (λ f. (f.circuit ≡ chip.now.recording.circuit) × (f.runs ≡ chip.now.recording.runs)) }
     requires few { cycle ≤ MAX_CYCLES }
     requires there { IfSome forward.old (λ f. IsMoment f.runs (moment run cycle)) }
-    requires aim { IfSome forward.old (λ f. IsAim f present.now aim) }
+    requires aim { IfSome forward.old (λ f. IsAim f present.now.bits aim) }
     ensures lead { IfOk result (λ may. may ≡ false → LeadsAway forward.old run cycle present.now) }
     ensures kept { forward.new ≡ forward.old }
 {
     match forward {
         None => Ok(true),
-        Some(forward) => may_lead_in(alloc, chip, forward, present, aim, run, cycle),
+        Some(forward) => may_lead_seen(alloc, chip, forward, present, aim, run, cycle),
     }
 }
 
+/// A cycle before which no state leads to a present. Where some of its bits are not known it is the first one.
+fn start_seen(forward: &mut Forward<'_>, present: &Seen, aim: Aim) -> Result<u32, NoMemory>
+    requires { IsAim forward.old present.now.bits aim }
+    ensures none { IfOk result (NonePassBefore forward.old.circuit forward.old.runs present.now) }
+    ensures kept { forward.new ≡ forward.old }
+{
+    if present.is_whole() {
+        return forward.start(&present.bits, aim);
+    }
+    Ok(0)
+}
+
 /// A cycle before which no state leads to a present, as far as it is known.
-fn start_by(forward: &mut Option<Forward<'_>>, present: &Bits, aim: Aim) -> Result<u32, NoMemory>
-    requires { IfSome forward.old (λ f. IsAim f present.now aim) }
+fn start_by(forward: &mut Option<Forward<'_>>, present: &Seen, aim: Aim) -> Result<u32, NoMemory>
+    requires { IfSome forward.old (λ f. IsAim f present.now.bits aim) }
     ensures none { IfOk result (StartsBy forward.old present.now) }
     ensures kept { forward.new ≡ forward.old }
 {
     match forward {
         None => Ok(0),
-        Some(forward) => forward.start(present, aim),
+        Some(forward) => start_seen(forward, present, aim),
     }
 }
 
@@ -126,7 +163,7 @@ pub struct Finder<'a, 'p> {
     signature_hashes: SignatureHashes<'a>,
     probe: Probe<'p>,
     forward: Option<Forward<'a>>,
-    present: Bits,
+    present: Seen,
     stored: Bits,
     hash: u64,
     aim: Aim,
@@ -173,7 +210,7 @@ impl<'a, 'p> Finder<'a, 'p> {
                 signature_hashes,
                 probe,
                 forward: None,
-                present: Bits::new(alloc),
+                present: Seen::whole(alloc, Bits::new(alloc)),
                 stored: Bits::new(alloc),
                 hash: 0,
                 aim: Aim { low: 0, high: 0 },
@@ -183,15 +220,15 @@ impl<'a, 'p> Finder<'a, 'p> {
     }
 
     /// Goes to a present and its stored signature.
-    pub(crate) fn stand_at(&mut self, present: &Bits, stored: &Bits) -> Result<(), NoMemory>
-        requires { length present.now ≡ length self.old.recording.circuit.flops }
+    pub(crate) fn stand_at(&mut self, present: &Seen, stored: &Bits) -> Result<(), NoMemory>
+        requires { length present.now.bits ≡ length self.old.recording.circuit.flops }
         ensures there { IfOk result (λ _. self.new ≡ record { recording = self.old.recording; present = present.now; stored = stored.now }) }
         ensures kept { self.new.recording ≡ self.old.recording }
     {
         let seen = present.copy()?;
         let held = stored.copy()?;
         let hash = hash_of(stored);
-        let aim = aim_of(&self.forward, present);
+        let aim = aim_of(&self.forward, &present.bits);
         self.present = seen;
         self.stored = held;
         self.hash = hash;
@@ -244,17 +281,17 @@ impl<'a, 'p> Finder<'a, 'p> {
     fn see(&mut self, forward: Forward<'a>)
         requires circuit { forward.circuit ≡ self.old.recording.circuit }
         requires runs { forward.runs ≡ self.old.recording.runs }
-        requires width { length self.old.present ≡ length self.old.recording.circuit.flops }
+        requires width { length self.old.present.bits ≡ length self.old.recording.circuit.flops }
         ensures { self.new ≡ self.old }
     {
-        self.aim = forward.aim(&self.present);
+        self.aim = forward.aim(&self.present.bits);
         self.forward = Some(forward);
     }
 
     /// Sees from now on where the recorded states lead.
     pub(crate) fn look_forward(&mut self, alloc: Global, chip: &Chip<'a>) -> Result<(), NoMemory>
         requires recording { self.old.recording ≡ chip.now.recording }
-        requires width { length self.old.present ≡ length self.old.recording.circuit.flops }
+        requires width { length self.old.present.bits ≡ length self.old.recording.circuit.flops }
         ensures kept { self.new ≡ self.old }
     {
         match Forward::new(alloc, chip) {
@@ -268,7 +305,7 @@ impl<'a, 'p> Finder<'a, 'p> {
 
     /// A cycle before which no recorded state leads to the present, under any input.
     pub(crate) fn start(&mut self) -> Result<u32, NoMemory>
-        ensures none { IfOk result (NoneLeadBefore self.old.recording.circuit self.old.recording.runs self.old.present) }
+        ensures none { IfOk result (NonePassBefore self.old.recording.circuit self.old.recording.runs self.old.present) }
         ensures kept { self.new ≡ self.old }
     {
         start_by(&mut self.forward, &self.present, self.aim)
@@ -285,7 +322,7 @@ impl<'a, 'p> Finder<'a, 'p> {
         requires recording { self.old.recording ≡ chip.now.recording }
         requires few { cycle ≤ MAX_CYCLES }
         requires there { IsMoment self.old.recording.runs (moment run cycle) }
-        ensures lead { IfOk result (λ may. may ≡ false → LeadsNowhere self.old.recording.circuit (state_at self.old.recording.circuit (run_of self.old.recording.runs run) cycle) self.old.present) }
+        ensures lead { IfOk result (λ may. may ≡ false → LeadsPast self.old.recording.circuit (state_at self.old.recording.circuit (run_of self.old.recording.runs run) cycle) self.old.present) }
         ensures kept { self.new ≡ self.old }
     {
         may_lead_by(

@@ -1,6 +1,7 @@
 -- What a caller asks of an answer.
 use Rattle.std.proofs.Common.{◌≡◌, ℕ, ◌+◌, Bool, List, length, ap, ◌∙◌, arith}
 use Rattle.std.proofs.lemmas.List.FromFn.{length-map-range_with_len}
+use Rattle.bs_seen.specs.declared.seen.Seen.{Seen}
 use Rattle.bs_net.specs.Circuit.{Circuit}
 use Rattle.bs_scan.specs.Moments.{state_at}
 use Rattle.bs_reach.specs.declared.reach.Outcome.{Outcome}
@@ -10,7 +11,7 @@ use Rattle.bs_reach.specs.Reach.{IsOutcome, IsReach}
 use Rattle.bs_reach.specs.Text.{HasStates}
 
 -- a right answer has a text
-pub reach_has_states : (c : Circuit) (p : List Bool) (k b : ℕ) (r : Reach) → IsReach c p k b r → HasStates r.outcome r
+pub reach_has_states : (c : Circuit) (p : Seen) (k b : ℕ) (r : Reach) → IsReach c p k b r → HasStates r.outcome r
 reach_has_states c p k b r is = by r.outcome is.outcome_is
   where
     by : (o : Outcome) → IsOutcome c p k b r o → HasStates o r

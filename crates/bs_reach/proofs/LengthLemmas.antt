@@ -7,6 +7,7 @@ use Rattle.std.specs.List.{AllByRecursion as Each, range_with_len}
 use Rattle.std.proofs.lemmas.Bool.{false≢true}
 use Rattle.std.proofs.lemmas.List.Elements.{All-contains, All-tail}
 use Rattle.std.proofs.lemmas.List.FromFn.{map-range_with_len_more}
+use Rattle.bs_seen.specs.declared.seen.Seen.{Seen}
 use Rattle.bs_bits.proofs.RangeLemmas.{range_more}
 use Rattle.bs_clause.specs.Literal.{Literal, Clause, negation, literal_value, Satisfies}
 use Rattle.bs_clause.specs.UnitRun.{IsUnitRun}
@@ -30,7 +31,7 @@ use Rattle.bs_solve.specs.Budget.{HasFewLemmas}
 use Rattle.bs_solve.proofs.BudgetLemmas.{few_lemmas}
 use Rattle.bs_encode.specs.Tables.{lit}
 use Rattle.bs_encode.specs.Encoded.{Encoded}
-use Rattle.bs_encode.specs.Assuming.{signed}
+use Rattle.bs_encode.specs.Assuming.{signed_seen}
 use Rattle.bs_reach_unrolled.specs.Unrolled.{next_at, length_assumes}
 use Rattle.bs_reach.specs.Search.{problem_over, IsTried, IsBetween, HasShown, HasSpent}
 
@@ -81,7 +82,7 @@ retired_step ids id h = (deleted_same ids (Retire id ∷ h)).step
 abbrev pub begun : SolverState → SolverState
 begun s = record { proof = s.proof; vars = s.vars + 1; stage = Begun; failed = false }
 
-module _ (cs : List Clause) (e : Encoded) (k : ℕ) (p : List Bool) (limit c : ℕ) (old : SolverState) (between : IsBetween cs e k p limit c old) where
+module _ (cs : List Clause) (e : Encoded) (k : ℕ) (p : Seen) (limit c : ℕ) (old : SolverState) (between : IsBetween cs e k p limit c old) where
   abbrev n : ℕ
   n = k * e.variables
 
@@ -95,10 +96,10 @@ module _ (cs : List Clause) (e : Encoded) (k : ℕ) (p : List Bool) (limit c : �
   activation_is activation is =
       is ∙ (ap (λ (v : ℕ). lit (v + step_of old.proof.history) true) vars_are ∙ ap (λ (m : ℕ). lit (n + m) true) between.number)
 
-  pub due_is : (activation : Literal) (a : Clause) → activation ≡ activation_of old.proof.problem (step_of old.proof.history) → a ≡ activation ∷ signed (next_at e c) p → a ≡ due
+  pub due_is : (activation : Literal) (a : Clause) → activation ≡ activation_of old.proof.problem (step_of old.proof.history) → a ≡ activation ∷ signed_seen (next_at e c) p → a ≡ due
   due_is activation a is are =
       let back : c ≡ (c + 1) - 1 = omega arith in
-      are ∙ (ap (λ (l : Literal). l ∷ signed (next_at e c) p) (activation_is activation is) ∙ ap (λ (m : ℕ). lit (n + (c + 1)) true ∷ signed (next_at e m) p) back)
+      are ∙ (ap (λ (l : Literal). l ∷ signed_seen (next_at e c) p) (activation_is activation is) ∙ ap (λ (m : ℕ). lit (n + (c + 1)) true ∷ signed_seen (next_at e m) p) back)
 
   -- what the log is about stands, and the activation literals of the lengths before are retired
   stands : NoneRefused old.proof.problem old.proof.history → (d : Clause) → Contains cs d → Contains (standing old.proof) d
@@ -168,7 +169,7 @@ module _ (cs : List Clause) (e : Encoded) (k : ℕ) (p : List Bool) (limit c : �
       }
 
   shown : (s new : SolverState) (a : Clause) (activation : Literal) (values : List (Option Bool)) → NoneRefused old.proof.problem old.proof.history →
-      a ≡ due → a ≡ activation ∷ signed (next_at e c) p → HasSolved (begun old) s a limit (answers.Found values) → HasEnded s new None →
+      a ≡ due → a ≡ activation ∷ signed_seen (next_at e c) p → HasSolved (begun old) s a limit (answers.Found values) → HasEnded s new None →
       HasShown cs e k p limit c values new
   shown s new a activation values right is are solved ended =
       let found = solved.ends in
@@ -176,7 +177,7 @@ module _ (cs : List Clause) (e : Encoded) (k : ℕ) (p : List Bool) (limit c : �
       let got : Searched s lines = searched s a lines is found.lemmas.problem found.lemmas.history (open_are_lemmas _ lines found.lemmas.open_yet)
       (omega (arith, found.lemmas.length_is, found.under)) in
       let v : ℕ → Bool = value_of values in
-      let holds : All (λ l. literal_value v l ≡ true) (activation ∷ signed (next_at e c) p) =
+      let holds : All (λ l. literal_value v l ≡ true) (activation ∷ signed_seen (next_at e c) p) =
       subst (λ (d : Clause). All (λ l. literal_value v l ≡ true) d) (solved.step ∙ are) found.solution.assumptions_met in
       record {
         tried = tried_open s new lines got ended;
@@ -184,7 +185,7 @@ module _ (cs : List Clause) (e : Encoded) (k : ℕ) (p : List Bool) (limit c : �
         met = all_from (Satisfies v) cs
             (λ d there. All-contains (Satisfies v) (standing s.proof) d found.solution.clauses_met
             (solved_keeps (begun old) s a limit (answers.Found values) solved d (stands right d there)));
-        ends = All-tail (λ l. literal_value v l ≡ true) activation (signed (next_at e c) p) holds;
+        ends = All-tail (λ l. literal_value v l ≡ true) activation (signed_seen (next_at e c) p) holds;
       }
 
   spent : (s new : SolverState) (a : Clause) → NoneRefused old.proof.problem old.proof.history → a ≡ due →
@@ -258,24 +259,24 @@ module _ (cs : List Clause) (e : Encoded) (k : ℕ) (p : List Bool) (limit c : �
 
   pub shown_by : (s1 s new : SolverState) (a : Clause) (activation : Literal) (values : List (Option Bool)) →
       NoneRefused old.proof.problem old.proof.history → s1 ≡ begun old → activation ≡ activation_of old.proof.problem (step_of old.proof.history) →
-      a ≡ activation ∷ signed (next_at e c) p → HasSolved s1 s a limit (answers.Found values) → HasEnded s new None → HasShown cs e k p limit c values new
+      a ≡ activation ∷ signed_seen (next_at e c) p → HasSolved s1 s a limit (answers.Found values) → HasEnded s new None → HasShown cs e k p limit c values new
   shown_by s1 s new a activation values right start is are solved ended =
       shown s new a activation values right (due_is activation a is are) are
       (subst (λ (t : SolverState). HasSolved t s a limit (answers.Found values)) start solved) ended
 
   pub spent_by : (s1 s new : SolverState) (a : Clause) (activation : Literal) → NoneRefused old.proof.problem old.proof.history → s1 ≡ begun old →
       activation ≡ activation_of old.proof.problem (step_of old.proof.history) →
-      a ≡ activation ∷ signed (next_at e c) p → HasSolved s1 s a limit answers.Spent → HasEnded s new None → HasSpent cs e k p limit c new
+      a ≡ activation ∷ signed_seen (next_at e c) p → HasSolved s1 s a limit answers.Spent → HasEnded s new None → HasSpent cs e k p limit c new
   spent_by s1 s new a activation right start is are solved ended =
       spent s new a right (due_is activation a is are) (subst (λ (t : SolverState). HasSolved t s a limit answers.Spent) start solved) ended
 
   pub refuted_by : (s1 s new : SolverState) (a : Clause) (activation : Literal) (id : ℕ) → s1 ≡ begun old →
       activation ≡ activation_of old.proof.problem (step_of old.proof.history) →
-      a ≡ activation ∷ signed (next_at e c) p → HasSolved s1 s a limit (answers.Refuted id) → HasEnded s new (Some id) → IsBetween cs e k p limit (c + 1) new
+      a ≡ activation ∷ signed_seen (next_at e c) p → HasSolved s1 s a limit (answers.Refuted id) → HasEnded s new (Some id) → IsBetween cs e k p limit (c + 1) new
   refuted_by s1 s new a activation id start is are solved ended =
       refuted s new a id (due_is activation a is are) (subst (λ (t : SolverState). HasSolved t s a limit (answers.Refuted id)) start solved) ended
 
-pub begun_vars : (cs : List Clause) (e : Encoded) (k : ℕ) (p : List Bool) (b c : ℕ) (old s : SolverState) → IsBetween cs e k p b c old → s ≡ begun old →
+pub begun_vars : (cs : List Clause) (e : Encoded) (k : ℕ) (p : Seen) (b c : ℕ) (old s : SolverState) → IsBetween cs e k p b c old → s ≡ begun old →
     s.vars ≡ k * e.variables + (c + 1)
 begun_vars cs e k p b c old s between is = ap (λ (t : SolverState). t.vars) is ∙ omega (arith, between.activations)
 

@@ -7,6 +7,8 @@ use Rattle.std.proofs.lemmas.Bool.{cases_eq}
 use Rattle.std.proofs.lemmas.List.{reverse-append, append_assoc}
 use Rattle.std.proofs.lemmas.List.Elements.{All-nil, Contains-push_cases}
 use Rattle.std.proofs.lemmas.List.FromFn.{length-range_with_len, get_or-range_with_len}
+use Rattle.bs_seen.specs.declared.seen.Seen.{Seen}
+use Rattle.bs_seen.specs.Seen.{Shows}
 use Rattle.bs_clause.specs.Literal.{Literal, Clause, literal_value}
 use Rattle.bs_log.specs.declared.line.Line.{Line}
 use Rattle.bs_log.specs.declared.line.Line.TheVariants.{Solve, Lemma, Block, Finish, Retire, Delete}
@@ -21,7 +23,7 @@ use Rattle.bs_solve_recording.specs.Solver.{SolverState}
 use Rattle.bs_solve_recording.specs.Values.{value_of}
 use Rattle.bs_solve.specs.Budget.{HasFewLemmas}
 use Rattle.bs_encode.specs.Encoded.{Encoded, encoding_of}
-use Rattle.bs_encode.specs.Assuming.{signed}
+use Rattle.bs_encode.specs.Assuming.{signed_seen}
 use Rattle.bs_reach.specs.declared.reach.Reach.{Reach}
 use Rattle.bs_reach.specs.declared.reach.Outcome.{Outcome}
 use Rattle.bs_reach.specs.declared.reach.Outcome.TheVariants as outcomes
@@ -40,24 +42,24 @@ use Rattle.bs_log.proofs.Finishes.{no_block_reversed}
 
 -- ---- no cycle
 
-no_inputs : (c : Circuit) (p : List Bool) → ReachedIn c 0 p → reset_state c ≡ p
+no_inputs : (c : Circuit) (p : Seen) → ReachedIn c 0 p → Shows p (reset_state c)
 unfolding state_at
 no_inputs c p r = r.ends
 
-pub reset_is_reached : (c : Circuit) (p : List Bool) → reset_state c ≡ p → IsExecution c 0 p (p ∷ []) []
+pub reset_is_reached : (c : Circuit) (p : Seen) → Shows p (reset_state c) → IsExecution c 0 p (reset_state c ∷ []) []
 unfolding state_at
 reset_is_reached c p e =
     record {
       count = refl;
       widths = All-nil (λ (x : List Bool). length x ≡ length c.inputs);
-      states_are = ap (λ (s : List Bool). s ∷ []) (sym e);
+      states_are = refl;
       ends = e;
     }
 
-pub nothing_before : (c : Circuit) (p : List Bool) → NotBefore c 0 p
+pub nothing_before : (c : Circuit) (p : Seen) → NotBefore c 0 p
 nothing_before c p j lt r = omega (arith, lt)
 
-pub not_at_once : (c : Circuit) (p : List Bool) → reset_state c ≢ p → NotBefore c (0 + 1) p
+pub not_at_once : (c : Circuit) (p : Seen) → (Shows p (reset_state c) → ⊥) → NotBefore c (0 + 1) p
 not_at_once c p other j lt r = let none : j ≡ 0 = omega (arith, lt) in other (no_inputs c p (subst (λ (n : ℕ). ReachedIn c n p) none r))
 
 -- ---- the finish line of a length
@@ -93,7 +95,7 @@ in_range a n j low high =
     let back : a + (j - a) ≡ j = omega (arith, low) in
     (j - a, rw (length-range_with_len a n) (omega (arith, low, high)), get_or-range_with_len a n (j - a) j (omega (arith, low, high)) ∙ back)
 
-module _ (c : Circuit) (k : ℕ) (p : List Bool) (law : FinishedIsNotReached c (encoding_of c [])) (s : SolverState) (log : List Line)
+module _ (c : Circuit) (k : ℕ) (p : Seen) (law : FinishedIsNotReached c (encoding_of c [])) (s : SolverState) (log : List Line)
     (lines : history_of log ≡ s.proof.history) where
   abbrev e : Encoded
   e = encoding_of c []
@@ -121,7 +123,7 @@ module _ (c : Circuit) (k : ℕ) (p : List Bool) (law : FinishedIsNotReached c (
       law k tried p log before (reverse spot.newer) spot.id few ok (none_in b tried refuted t) parts
       (subst (λ (n : ℕ). ReachedIn c n p) (sym (ap step_of (twice spot.earlier) ∙ spot.step)) reached)
 
-  pub not_before : (b tried refuted n : ℕ) → IsTried cs e k p b tried refuted s → tried ≤ k → IsAccepted (problem_over cs e k p tried) log → reset_state c ≢ p →
+  pub not_before : (b tried refuted n : ℕ) → IsTried cs e k p b tried refuted s → tried ≤ k → IsAccepted (problem_over cs e k p tried) log → (Shows p (reset_state c) → ⊥) →
       n ≡ refuted + 1 → NotBefore c n p
   not_before b tried refuted n t few ok other is j lt reached = elim (cases_eq j 0) [
     | inl none ↦ other (no_inputs c p (subst (λ (m : ℕ). ReachedIn c m p) none reached))
@@ -148,7 +150,7 @@ module _ (c : Circuit) (k : ℕ) (p : List Bool) (law : FinishedIsNotReached c (
         few = subst (HasFewLemmas b) (sym lines) t.few;
       }
 
-  pub reach_is : (b : ℕ) (end : End) (told : Verdict) → SolutionsAreExecutions c e → length p ≡ length c.flops → reset_state c ≢ p → EndsAs cs e k p b s end →
+  pub reach_is : (b : ℕ) (end : End) (told : Verdict) → SolutionsAreExecutions c e → length p.bits ≡ length c.flops → (Shows p (reset_state c) → ⊥) → EndsAs cs e k p b s end →
       Tells e end told →
       (s.failed ≡ false → IsLean s.proof.problem (history_of log)) → All HasText log → (s.failed ≡ false → s.stage ≡ Idle → IsAccepted s.proof.problem log) →
       IsReach c p k b (record { asked = k; conflicts = b; outcome = told.outcome; states = told.states; inputs = told.inputs; log = log })
@@ -156,8 +158,8 @@ module _ (c : Circuit) (k : ℕ) (p : List Bool) (law : FinishedIsNotReached c (
       let l : Logged b (i + 1) i = logged b (i + 1) i h.tried lean ok in
       let v : ℕ → Bool = value_of values in
       let back : i ≡ (i + 1) - 1 = omega arith in
-      let ends : All (λ (q : Literal). literal_value v q ≡ true) (signed (next_at e ((i + 1) - 1)) p) =
-      subst (λ (m : ℕ). All (λ (q : Literal). literal_value v q ≡ true) (signed (next_at e m) p)) back h.ends in
+      let ends : All (λ (q : Literal). literal_value v q ≡ true) (signed_seen (next_at e ((i + 1) - 1)) p) =
+      subst (λ (m : ℕ). All (λ (q : Literal). literal_value v q ≡ true) (signed_seen (next_at e m) p)) back h.ends in
       let run = sound k (i + 1) v p (omega arith) (omega (arith, lt)) h.met ends wide in
       let first : IsExecution c (i + 1) p told.states told.inputs =
       subst (λ (xs : List (List Bool)). IsExecution c (i + 1) p told.states xs) (sym tells.inputs_are)
@@ -238,8 +240,8 @@ told_as k b outcome states inputs log =
       log = log;
     }
 
-pub at_reset_is : (c : Circuit) (p : List Bool) (k b : ℕ) (states inputs : List (List Bool)) (log : List Line) → reset_state c ≡ p →
-    states ≡ p ∷ [] → inputs ≡ [] → log ≡ [] → IsReach c p k b (told_as k b (outcomes.Reached 0) states inputs log)
+pub at_reset_is : (c : Circuit) (p : Seen) (k b : ℕ) (states inputs : List (List Bool)) (log : List Line) → Shows p (reset_state c) →
+    states ≡ reset_state c ∷ [] → inputs ≡ [] → log ≡ [] → IsReach c p k b (told_as k b (outcomes.Reached 0) states inputs log)
 at_reset_is c p k b states inputs log e s x l =
     subst (λ (log : List Line). IsReach c p k b (told_as k b (outcomes.Reached 0) states inputs log)) (sym l)
     (subst (λ (inputs : List (List Bool)). IsReach c p k b (told_as k b (outcomes.Reached 0) states inputs [])) (sym x)
@@ -256,7 +258,7 @@ at_reset_is c p k b states inputs log e s x l =
       few = tt;
     })))
 
-pub never_is : (c : Circuit) (p : List Bool) (b : ℕ) (states inputs : List (List Bool)) (log : List Line) → reset_state c ≢ p → log ≡ [] →
+pub never_is : (c : Circuit) (p : Seen) (b : ℕ) (states inputs : List (List Bool)) (log : List Line) → (Shows p (reset_state c) → ⊥) → log ≡ [] →
     IsReach c p 0 b (told_as 0 b outcomes.Unreached states inputs log)
 never_is c p b states inputs log other l =
     subst (λ (log : List Line). IsReach c p 0 b (told_as 0 b outcomes.Unreached states inputs log)) (sym l)
@@ -274,7 +276,7 @@ never_is c p b states inputs log other l =
 
 -- ---- the start of a search
 
-pub starts_between : (cs : List Clause) (e : Encoded) (k : ℕ) (p : List Bool) (b : ℕ) (s : SolverState) → s ≡ fresh_over cs e k →
+pub starts_between : (cs : List Clause) (e : Encoded) (k : ℕ) (p : Seen) (b : ℕ) (s : SolverState) → s ≡ fresh_over cs e k →
     IsBetween s.proof.problem.clauses e k p b 0 s
 starts_between cs e k p b s is =
     subst (λ (t : SolverState). IsBetween t.proof.problem.clauses e k p b 0 t) (sym is)
@@ -284,18 +286,18 @@ starts_between cs e k p b s is =
       number = refl;
     })
 
-pub ends_over : (cs : List Clause) (e : Encoded) (k : ℕ) (p : List Bool) (b : ℕ) (s1 s : SolverState) (end : End) → s1 ≡ fresh_over cs e k →
+pub ends_over : (cs : List Clause) (e : Encoded) (k : ℕ) (p : Seen) (b : ℕ) (s1 s : SolverState) (end : End) → s1 ≡ fresh_over cs e k →
     EndsAs s1.proof.problem.clauses e k p b s end → EndsAs cs e k p b s end
 ends_over ds e k p b s1 s end is h = subst (λ (t : SolverState). EndsAs t.proof.problem.clauses e k p b s end) is h
 
-pub end_fits : (cs : List Clause) (e : Encoded) (k : ℕ) (p : List Bool) (b : ℕ) (s : SolverState) (end : End) → EndsAs cs e k p b s end → EndFits e k end
+pub end_fits : (cs : List Clause) (e : Encoded) (k : ℕ) (p : Seen) (b : ℕ) (s : SolverState) (end : End) → EndsAs cs e k p b s end → EndFits e k end
 end_fits ds e k p b s (Reached c values) h = (h.0, h.1.wide)
 end_fits ds e k p b s Unreached h = tt
 end_fits ds e k p b s (Unknown c) h = h.0
 
-pub look_is : (c : Circuit) (k b : ℕ) (p reset : List Bool) (enc : Encoded) (s1 s : SolverState) (log : List Line) (end : End) (told : Verdict) →
+pub look_is : (c : Circuit) (k b : ℕ) (p : Seen) (reset : List Bool) (enc : Encoded) (s1 s : SolverState) (log : List Line) (end : End) (told : Verdict) →
     enc ≡ encoding_of c [] → reset ≡ reset_state c →
-    FinishedIsNotReached c (encoding_of c []) → SolutionsAreExecutions c (encoding_of c []) → length p ≡ length c.flops → reset_state c ≢ p →
+    FinishedIsNotReached c (encoding_of c []) → SolutionsAreExecutions c (encoding_of c []) → length p.bits ≡ length c.flops → (Shows p (reset_state c) → ⊥) →
     s1 ≡ fresh_over (unrolled enc reset k) enc k →
     EndsAs s1.proof.problem.clauses enc k p b s end → Tells enc end told → history_of log ≡ s.proof.history →
     (s.failed ≡ false → IsLean s.proof.problem (history_of log)) → All HasText log →

@@ -6,6 +6,7 @@ use Rattle.std.specs.List.{AllByRecursion, range_with_len, filter, cons_option}
 use Rattle.std.proofs.lemmas.Bool.{or_right, and_from, false≢true, le-leb, le-ltb}
 use Rattle.std.proofs.lemmas.List.{reverse-append, length-map, map-append}
 use Rattle.std.proofs.lemmas.List.Elements.{All-contains, recursion_from_All}
+use Rattle.bs_seen.specs.declared.seen.Seen.{Seen}
 use Rattle.bs_bits.proofs.RangeLemmas.{range_more}
 use Rattle.bs_clause.specs.Literal.{Clause, negation}
 use Rattle.bs_clause.specs.Range.{IsWithin, HasVariables}
@@ -104,7 +105,7 @@ module _ (q : Problem) where
           (filter (λ x. not (is_kept q step entries x)) (filter is_lemma_or_block es))) (all.0 is step entries) ∙ rest
       by false is rest = rest
 
-module _ (e : Encoded) (reset p : List Bool) (k b : ℕ) (u : IsUnrollable e k) (limit : 1 ≤ b) where
+module _ (e : Encoded) (reset : List Bool) (p : Seen) (k b : ℕ) (u : IsUnrollable e k) (limit : 1 ≤ b) where
   -- with a step for each of so many lengths
   abbrev q : ℕ → Problem
   q n = problem_over (unrolled e reset k) e k p n
@@ -301,6 +302,6 @@ pub more_trial : (log : List Line) (id : ℕ) → reverse (log ++ trial_lines id
 more_trial log id = reverse-append log (trial_lines id)
 
 -- a log of refuted lengths
-pub logs_all : (e : Encoded) (reset p : List Bool) (k b c last : ℕ) (log : List Line) → AreRefuted e reset p k b c last (reverse log) →
+pub logs_all : (e : Encoded) (reset : List Bool) (p : Seen) (k b c last : ℕ) (log : List Line) → AreRefuted e reset p k b c last (reverse log) →
     IsLogOfLengths e reset p k b c c log
 logs_all e reset p k b c last log r = record { last = last; tried = r.tried }

@@ -1,6 +1,8 @@
 -- An execution of a length, and a log that refutes each shorter one, are an answer.
 use Rattle.std.proofs.Common.{◌≡◌, ◌≢◌, ℕ, ◌+◌, ◌-◌, ◌<◌, arith, Bool, List, [], refl, sym, ap, subst, ◌∙◌}
 use Rattle.std.specs.List.{range_with_len}
+use Rattle.bs_seen.specs.declared.seen.Seen.{Seen}
+use Rattle.bs_seen.specs.Seen.{Shows}
 use Rattle.bs_net.specs.Circuit.{Circuit, reset_state}
 use Rattle.bs_log.specs.declared.line.Line.{Line}
 use Rattle.bs_encode.specs.Encoded.{Encoded, encoding_of}
@@ -13,8 +15,8 @@ use Rattle.bs_reach.specs.Refuted.{IsLogOfLengths}
 use Rattle.bs_reach.proofs.ReachLemmas.{none_in, not_before, told_as}
 use Rattle.bs_reach.proofs.SoughtLemmas.{state_behind, Behind, behind}
 
-shown_here : (c : Circuit) (p : List Bool) (k b i : ℕ) (states inputs : List (List Bool)) (log : List Line) → FinishedIsNotReached c (encoding_of c []) →
-    reset_state c ≢ p → i < k → IsLogOfLengths (encoding_of c []) (reset_state c) p k b (i + 1) i log → IsExecution c (i + 1) p states inputs →
+shown_here : (c : Circuit) (p : Seen) (k b i : ℕ) (states inputs : List (List Bool)) (log : List Line) → FinishedIsNotReached c (encoding_of c []) →
+    (Shows p (reset_state c) → ⊥) → i < k → IsLogOfLengths (encoding_of c []) (reset_state c) p k b (i + 1) i log → IsExecution c (i + 1) p states inputs →
     IsReach c p k b (told_as k b (Reached (i + 1)) states inputs log)
 shown_here c p k b i states inputs log law other low l run =
     let e : Encoded = encoding_of c [] in
@@ -38,8 +40,8 @@ shown_here c p k b i states inputs log law other low l run =
     }
 
 -- an answer by the clauses of an encoding
-pub shown_is : (c : Circuit) (k b i : ℕ) (p reset : List Bool) (enc : Encoded) (states inputs : List (List Bool)) (log : List Line) (r : Reach) →
-    enc ≡ encoding_of c [] → reset ≡ reset_state c → FinishedIsNotReached c (encoding_of c []) → reset_state c ≢ p → i < k →
+pub shown_is : (c : Circuit) (k b i : ℕ) (p : Seen) (reset : List Bool) (enc : Encoded) (states inputs : List (List Bool)) (log : List Line) (r : Reach) →
+    enc ≡ encoding_of c [] → reset ≡ reset_state c → FinishedIsNotReached c (encoding_of c []) → (Shows p (reset_state c) → ⊥) → i < k →
     IsLogOfLengths enc reset p k b (i + 1) i log → IsExecution c (i + 1) p states inputs → r ≡ told_as k b (Reached (i + 1)) states inputs log →
     IsReach c p k b r
 shown_is c k b i p reset enc states inputs log r is starts law other low l run same =

@@ -4,6 +4,8 @@ use Rattle.std.specs.Prelude.{All, IfSome, ◌==◌}
 use Rattle.std.specs.List.{range_with_len}
 use Rattle.std.proofs.lemmas.Bool.{and_from, eq-eqb}
 use Rattle.std.proofs.lemmas.List.{length-map}
+use Rattle.bs_seen.specs.declared.seen.Seen.{Seen}
+use Rattle.bs_seen.specs.Seen.{Shows}
 use Rattle.bs_net.specs.Circuit.{Circuit, reset_state}
 use Rattle.bs_log.specs.declared.line.Line.{Line}
 use Rattle.bs_log.specs.History.{phase_of, step_of}
@@ -28,7 +30,7 @@ use Rattle.bs_reach.proofs.ReachLemmas.{look_is}
 use Rattle.bs_reach.proofs.RefutedLemmas.{length_range}
 
 -- the state that a solver would be in behind a log of so many lengths
-abbrev pub state_behind : Encoded → List Bool → List Bool → ℕ → ℕ → List Line → SolverState
+abbrev pub state_behind : Encoded → List Bool → Seen → ℕ → ℕ → List Line → SolverState
 state_behind e reset p k count log = record {
   proof = record { problem = problem_over (unrolled e reset k) e k p count; history = reverse log };
   vars = k * e.variables + count;
@@ -37,13 +39,13 @@ state_behind e reset p k count log = record {
 }
 
 -- what such a log gives
-pub record Behind (e : Encoded) (reset p : List Bool) (k b count refuted : ℕ) (log : List Line) : Type 0 where
+pub record Behind (e : Encoded) (reset : List Bool) (p : Seen) (k b count refuted : ℕ) (log : List Line) : Type 0 where
   pub tried : IsTried (unrolled e reset k) e k p b count refuted (state_behind e reset p k count log)
   pub lean : IsLean (problem_over (unrolled e reset k) e k p count) (reverse log)
   pub texts : All HasText log
   pub accepted : IsAccepted (problem_over (unrolled e reset k) e k p count) log
 
-pub behind : (e : Encoded) (reset p : List Bool) (k b count refuted : ℕ) (log : List Line) → IsLogOfLengths e reset p k b count refuted log →
+pub behind : (e : Encoded) (reset : List Bool) (p : Seen) (k b count refuted : ℕ) (log : List Line) → IsLogOfLengths e reset p k b count refuted log →
     Behind e reset p k b count refuted log
 behind e reset p k b count refuted log l =
     let h = l.tried in
@@ -60,7 +62,7 @@ behind e reset p k b count refuted log l =
       };
     }
 
-pub refuted_sought : (e : Encoded) (reset p : List Bool) (k b : ℕ) (log : List Line) (told : Verdict) (r : Reach) → told.outcome ≡ Unreached →
+pub refuted_sought : (e : Encoded) (reset : List Bool) (p : Seen) (k b : ℕ) (log : List Line) (told : Verdict) (r : Reach) → told.outcome ≡ Unreached →
     r ≡ record { asked = k; conflicts = b; outcome = told.outcome; states = told.states; inputs = told.inputs; log = log } →
     IsLogOfLengths e reset p k b k k log → HasSought e reset p k b r
 refuted_sought e reset p k b log told r unreached is l =
@@ -82,8 +84,8 @@ refuted_sought e reset p k b log told r unreached is l =
       accepted = λ well idle. known.accepted;
     })
 
-pub some_reach : (c : Circuit) (k b : ℕ) (p reset : List Bool) (e : Encoded) (o : Option Reach) → e ≡ encoding_of c [] → reset ≡ reset_state c →
-    FinishedIsNotReached c (encoding_of c []) → SolutionsAreExecutions c (encoding_of c []) → length p ≡ length c.flops → reset_state c ≢ p →
+pub some_reach : (c : Circuit) (k b : ℕ) (p : Seen) (reset : List Bool) (e : Encoded) (o : Option Reach) → e ≡ encoding_of c [] → reset ≡ reset_state c →
+    FinishedIsNotReached c (encoding_of c []) → SolutionsAreExecutions c (encoding_of c []) → length p.bits ≡ length c.flops → (Shows p (reset_state c) → ⊥) →
     IfSome o (HasSought e reset p k b) → IfSome o (IsReach c p k b)
 some_reach c k b p reset e None encoded starts refuted solutions width other found = tt
 some_reach c k b p reset e (Some r) encoded starts refuted solutions width other h =

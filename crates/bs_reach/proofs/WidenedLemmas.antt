@@ -7,15 +7,16 @@ use Rattle.std.proofs.lemmas.List.Concat.{flat_map-append}
 use Rattle.std.proofs.lemmas.List.Elements.{recursion_from_All, All-contains, All-from_recursion, All-head, Contains-append_cases, Contains-append_left}
 use Rattle.std.proofs.lemmas.Nat.{mul-le}
 use Rattle.std.proofs.Math.Nat.{suc-mul, add-mul}
+use Rattle.bs_seen.specs.declared.seen.Seen.{Seen}
 use Rattle.bs_clause.specs.Literal.{Literal, Clause}
 use Rattle.bs_clause.specs.Range.{IsWithin, HasVariables}
 use Rattle.bs_log.specs.History.{Problem}
 use Rattle.bs_encode.specs.Tables.{lit}
 use Rattle.bs_encode.specs.Encoded.{Encoded}
-use Rattle.bs_encode.specs.Assuming.{signed}
+use Rattle.bs_encode.specs.Assuming.{signed, signed_seen}
 use Rattle.bs_encode.specs.Frame.{raised, raised_all, links}
 use Rattle.bs_encode.proofs.FrameLemmas.{raised_within, length-raised_all}
-use Rattle.bs_encode.proofs.DistinctLemmas.{signed_all}
+use Rattle.bs_encode.proofs.SeenSigns.{seen_all}
 use Rattle.bs_encode.proofs.RangeLemmas.{InRange}
 use Rattle.bs_solve_analysis.proofs.Clauses.{nothing_in, contains_first, cons_contains, contains_cases, all_from, map_cases, map_contains, any_first, any_later}
 use Rattle.bs_reach_unrolled.specs.Unrolled.{base_of, frame_of, states_at, next_at, links_of, reset_units, unrolled, length_assumes, reach_problem}
@@ -114,7 +115,7 @@ links_cases (n ∷ ns) (s ∷ ss) c there =
 
 -- ---- the list of more cycles
 
-module _ (e : Encoded) (reset : List Bool) (p : List Bool) (j k count : ℕ) (u : IsUnrollable e k) (some : 1 ≤ j) (fewer : j ≤ k) (tried : count ≤ j)
+module _ (e : Encoded) (reset : List Bool) (p : Seen) (j k count : ℕ) (u : IsUnrollable e k) (some : 1 ≤ j) (fewer : j ≤ k) (tried : count ≤ j)
     (width : length e.states ≡ length reset) where
   abbrev s : Shift
   s = shift_between e j k
@@ -180,10 +181,10 @@ module _ (e : Encoded) (reset : List Bool) (p : List Bool) (j k count : ℕ) (u 
         next_distinct = u.next_distinct;
       }
 
-  shown_stays : (c : ℕ) → c < j → new_clause s (signed (next_at e c) p) ≡ signed (next_at e c) p
+  shown_stays : (c : ℕ) → c < j → new_clause s (signed_seen (next_at e c) p) ≡ signed_seen (next_at e c) p
   shown_stays c lt =
-      clause_stays_by_recursion (signed (next_at e c) p)
-      (signed_all (InRange (j * e.variables)) (next_at e c) p
+      clause_stays_by_recursion (signed_seen (next_at e c) p)
+      (seen_all (InRange (j * e.variables)) (next_at e c) p
       (raised_within (base_of e c) e.variables (j * e.variables) e.next (recursion_from_All (IsWithin e.variables) e.next u.next)
       (frames_fit e.variables j c lt)))
     where
@@ -196,8 +197,8 @@ module _ (e : Encoded) (reset : List Bool) (p : List Bool) (j k count : ℕ) (u 
       let climbs : new_variable s (j * e.variables + i) ≡ j * e.variables + i + (k - j) * e.variables = variable_climbs s (j * e.variables + i) above in
       let activation : lit (k * e.variables + i) true ≡ new_literal s (lit (j * e.variables + i) true) =
       literal_from_parts (lit (k * e.variables + i) true) (new_literal s (lit (j * e.variables + i) true)) (omega (arith, climbs, more_variables)) refl in
-      let rest : signed (next_at e (i - 1)) p ≡ new_clause s (signed (next_at e (i - 1)) p) = sym (shown_stays (i - 1) (omega (arith, low, high))) in
-      ap (λ (g : Literal). g ∷ signed (next_at e (i - 1)) p) activation ∙ ap (λ (c : Clause). new_literal s (lit (j * e.variables + i) true) ∷ c) rest
+      let rest : signed_seen (next_at e (i - 1)) p ≡ new_clause s (signed_seen (next_at e (i - 1)) p) = sym (shown_stays (i - 1) (omega (arith, low, high))) in
+      ap (λ (g : Literal). g ∷ signed_seen (next_at e (i - 1)) p) activation ∙ ap (λ (c : Clause). new_literal s (lit (j * e.variables + i) true) ∷ c) rest
 
   steps_go : (a n : ℕ) → 1 ≤ a → a + n ≤ j + 1 →
       map (length_assumes e k p) (range_with_len a n) ≡ map (new_clause s) (map (length_assumes e j p) (range_with_len a n))

@@ -6,6 +6,7 @@ use Rattle.std.proofs.lemmas.Bool.{and_parts, leb-true, false≢true}
 use Rattle.std.proofs.lemmas.List.{length-map}
 use Rattle.std.proofs.lemmas.List.FromFn.{length-map-range_with_len}
 use Rattle.std.proofs.lemmas.Nat.{mul-le}
+use Rattle.bs_seen.specs.declared.seen.Seen.{Seen}
 use Rattle.bs_log.specs.declared.line.Line.{Line}
 use Rattle.bs_log.specs.declared.line.Line.TheVariants.{Solve, Lemma, Block, Finish, Retire, Delete}
 use Rattle.bs_log.specs.History.{Problem, History}
@@ -82,7 +83,7 @@ small_ids e log h =
       lines = leb-true (length log) ID_ROOM one.1;
     }
 
-module _ (c : Circuit) (p : List Bool) (j k b : ℕ) (r : Reach) (u : IsUnrollable (encoding_of c []) k) (some : 1 ≤ j) (fewer : j ≤ k)
+module _ (c : Circuit) (p : Seen) (j k b : ℕ) (r : Reach) (u : IsUnrollable (encoding_of c []) k) (some : 1 ≤ j) (fewer : j ≤ k)
     (small : HasSmallIds (encoding_of c []) r.log) (is : IsReach c p j b r) where
   abbrev e : Encoded
   e = encoding_of c []
@@ -177,7 +178,7 @@ module _ (c : Circuit) (p : List Bool) (j k b : ℕ) (r : Reach) (u : IsUnrollab
 
 -- ---- for a caller
 
-module _ (c : Circuit) (e : Encoded) (p : List Bool) (j k b : ℕ) (r : Reach) (t : Shift) (same : e ≡ encoding_of c []) (shift_is : t ≡ shift_between e j k)
+module _ (c : Circuit) (e : Encoded) (p : Seen) (j k b : ℕ) (r : Reach) (t : Shift) (same : e ≡ encoding_of c []) (shift_is : t ≡ shift_between e j k)
     (u : IsUnrollable (encoding_of c []) k) (some : 1 ≤ j) (fewer : j ≤ k) (small : has_small_ids e r.log ≡ true) (is : IsReach c p j b r)
     (reached : is_reached r.outcome ≡ true) where
   small_there : HasSmallIds (encoding_of c []) r.log

@@ -1,6 +1,7 @@
 -- When an answer is right (docs/DEFINITIONS.md, "Bounded reach").
 use Rattle.std.specs.Prelude.{◌≡◌, ℕ, ◌+◌, ◌-◌, ◌*◌, ◌^◌, ◌<◌, ◌≤◌, Bool, true, List, [], ◌∷◌, ◌++◌, length, All}
 use Rattle.std.specs.List.{AllByRecursion, range_with_len}
+use Rattle.bs_seen.specs.declared.seen.Seen.{Seen}
 use Rattle.bs_clause.specs.Literal.{Literal}
 use Rattle.bs_clause.specs.UnitRun.{IsUnitRun}
 use Rattle.bs_clause.specs.Range.{HasVariables}
@@ -24,7 +25,7 @@ use Rattle.bs_reach.specs.declared.reach.Reach.{Reach}
 
 -- The solve of length j logged b lemmas, of which none ends its step, and then the step ended. And b is less than the number of
 -- values of the variables that a unit run over the unrolled clauses and the step's assumptions leaves open.
-pub record SpendsAll (c : Circuit) (k : ℕ) (p : List Bool) (b j : ℕ) (log : List Line) : Type 0 where
+pub record SpendsAll (c : Circuit) (k : ℕ) (p : Seen) (b j : ℕ) (log : List Line) : Type 0 where
   pub earlier : History
   pub lemmas : List Line
   pub id : ℕ
@@ -38,7 +39,7 @@ pub record SpendsAll (c : Circuit) (k : ℕ) (p : List Bool) (b j : ℕ) (log : 
       b < 2 ^ (k * variables c [] - length run)
 
 -- within the bound, what the outcome says of executions holds, and of the last solve
-abbrev pub IsOutcome : Circuit → List Bool → ℕ → ℕ → Reach → Outcome → Type 0
+abbrev pub IsOutcome : Circuit → Seen → ℕ → ℕ → Reach → Outcome → Type 0
 IsOutcome c p k b r (Reached j) = (j ≤ k) × IsExecution c j p r.states r.inputs × NotBefore c j p
 IsOutcome c p k b r Unreached = NotBefore c (k + 1) p
 IsOutcome c p k b r (Unknown j) = (j ≤ k) × NotBefore c j p × SpendsAll c k p b j r.log
@@ -55,12 +56,12 @@ refuted_of k Unreached = k
 refuted_of k (Unknown j) = j - 1
 
 -- what the log is about: the unrolled clauses, and a step for each length that was tried
-abbrev pub problem_in : Circuit → List Bool → ℕ → Outcome → Problem
+abbrev pub problem_in : Circuit → Seen → ℕ → Outcome → Problem
 problem_in c p k outcome = reach_problem (encoding_of c []) (reset_state c) k p (tried_of k outcome)
 
 -- the outcome is right; the log is accepted on the unrolled clauses and lean, and has a finish line for each length that is said
 -- not to be reached, from 1 on, and for no other; no solve logged more than b lemmas
-pub record IsReach (c : Circuit) (p : List Bool) (k b : ℕ) (r : Reach) : Type 0 where
+pub record IsReach (c : Circuit) (p : Seen) (k b : ℕ) (r : Reach) : Type 0 where
   pub asked_is : r.asked ≡ k
   pub conflicts_is : r.conflicts ≡ b
   pub outcome_is : IsOutcome c p k b r r.outcome

@@ -1,6 +1,7 @@
 -- A log of lengths that lemmas refute, one after another, without a solver.
 use Rattle.std.specs.Prelude.{◌≡◌, ℕ, ◌+◌, true, Bool, List, [], ◌∷◌, reverse}
 use Rattle.std.specs.List.{AllByRecursion, range_with_len}
+use Rattle.bs_seen.specs.declared.seen.Seen.{Seen}
 use Rattle.bs_log.specs.declared.line.Line.{Line}
 use Rattle.bs_log.specs.declared.line.Line.TheVariants.{Solve, Lemma, Finish, Retire}
 use Rattle.bs_log.specs.History.{Problem, History, Entry, phase_of, step_of, live}
@@ -28,7 +29,7 @@ abbrev pub IsPlain : Problem → Entry → Type 0
 IsPlain q e = is_lemma_or_block e ≡ true → (step : ℕ) (entries : List Entry) → is_kept q step entries e ≡ true
 
 -- of the log over k cycles, the steps of the first `count` lengths, of which so many first ones are refuted; the last id that was given
-pub record AreTried (e : Encoded) (reset p : List Bool) (k b count refuted last : ℕ) (h : History) : Type 0 where
+pub record AreTried (e : Encoded) (reset : List Bool) (p : Seen) (k b count refuted last : ℕ) (h : History) : Type 0 where
   pub ids : List ℕ
   pub recorded : IsRecorded last ids (record { problem = problem_over (unrolled e reset k) e k p count; history = h })
   pub phase : is_between_steps (phase_of h) ≡ true
@@ -39,11 +40,11 @@ pub record AreTried (e : Encoded) (reset p : List Bool) (k b count refuted last 
   pub leaves : StepsLeaveKept (problem_over (unrolled e reset k) e k p count) h
 
 -- the same where each is refuted
-pub record AreRefuted (e : Encoded) (reset p : List Bool) (k b c last : ℕ) (h : History) : Type 0 where
+pub record AreRefuted (e : Encoded) (reset : List Bool) (p : Seen) (k b c last : ℕ) (h : History) : Type 0 where
   pub tried : AreTried e reset p k b c c last h
   pub plain : AllByRecursion (IsPlain (problem_over (unrolled e reset k) e k p c)) (live (problem_over (unrolled e reset k) e k p c) h)
 
 -- a log of the first `count` lengths, of which so many first ones are refuted
-pub record IsLogOfLengths (e : Encoded) (reset p : List Bool) (k b count refuted : ℕ) (log : List Line) : Type 0 where
+pub record IsLogOfLengths (e : Encoded) (reset : List Bool) (p : Seen) (k b count refuted : ℕ) (log : List Line) : Type 0 where
   pub last : ℕ
   pub tried : AreTried e reset p k b count refuted last (reverse log)

@@ -1,5 +1,6 @@
 -- What a search over the clauses of an encoding answers.
 use Rattle.std.specs.Prelude.{◌≡◌, ℕ, Bool, false, List, All}
+use Rattle.bs_seen.specs.declared.seen.Seen.{Seen}
 use Rattle.bs_clause.specs.Literal.{Clause}
 use Rattle.bs_log.specs.Refusal.{history_of, IsAccepted}
 use Rattle.bs_log.specs.Lean.{IsLean}
@@ -16,13 +17,13 @@ use Rattle.bs_reach.specs.Ends.{EndsAs}
 use Rattle.bs_reach.specs.Verdict.{Tells}
 
 -- it is told how the search by a solver ended
-pub record TellsEnd (clauses : List Clause) (e : Encoded) (k : ℕ) (p : List Bool) (b : ℕ) (s : SolverState) (t : Verdict) : Type 0 where
+pub record TellsEnd (clauses : List Clause) (e : Encoded) (k : ℕ) (p : Seen) (b : ℕ) (s : SolverState) (t : Verdict) : Type 0 where
   pub end : End
   pub ended : EndsAs clauses e k p b s end
   pub tells : Tells e end t
 
 -- the answer tells the end of a search by a solver that was made for it, and its log is the solver's
-pub record HasSought (e : Encoded) (reset p : List Bool) (k b : ℕ) (r : Reach) : Type 0 where
+pub record HasSought (e : Encoded) (reset : List Bool) (p : Seen) (k b : ℕ) (r : Reach) : Type 0 where
   pub start : SolverState
   pub solver : SolverState
   pub end : End

@@ -1,5 +1,6 @@
 -- How an answer that few time frames gave is one of more time frames.
 use Rattle.std.specs.Prelude.{ℕ, ◌+◌, ◌-◌, ◌*◌, nat_le, Bool, true, false, ◌&&◌, List, length}
+use Rattle.bs_seen.specs.declared.seen.Seen.{Seen}
 use Rattle.bs_log.specs.declared.line.Line.{Line}
 use Rattle.bs_net.specs.Circuit.{Circuit}
 use Rattle.bs_encode.specs.Encoded.{Encoded}
@@ -33,7 +34,7 @@ is_reached Unreached = false
 is_reached (Unknown j) = false
 
 -- what is told is a right answer
-abbrev pub LookFits : Circuit → List Bool → ℕ → ℕ → Look → Type 0
+abbrev pub LookFits : Circuit → Seen → ℕ → ℕ → Look → Type 0
 LookFits c p k b (Verdict r) = IsReach c p k b r
 LookFits c p k b More = Unit {0}
 LookFits c p k b Whole = Unit {0}

@@ -1,5 +1,6 @@
 //! Answers: of a search over so many time frames, and those that want no search.
 ghost use Rattle.std.specs.Prelude.{◌≡◌, ◌≢◌, ◌*◌, ◌≤◌, [], length, IfOk, IfSome};
+ghost use Rattle.bs_seen.specs.Seen.{Shows};
 ghost use Rattle.bs_net.specs.Circuit.{reset_state};
 ghost use Rattle.bs_net.specs.Netlist.{circuit};
 ghost use Rattle.bs_encode.specs.Transition.{variables};
@@ -25,6 +26,7 @@ use bs_log::Log;
 use bs_net::Netlist;
 use bs_reach_implied::Implied;
 use bs_reach_unrolled::{netlists_unroll, unroll, unrolled_clauses_are_executions};
+use bs_seen::Seen;
 use bs_solve::{FailedAssumption, Solver};
 use std::alloc::Global;
 use std::collections::VecDeque;
@@ -54,13 +56,13 @@ fn start_of(
     encoding: &Encoding,
     reset: &Bits,
     implied: &Implied,
-    state: &Bits,
+    state: &Seen,
     k: u32,
 ) -> Result<Start, NoMemory>
     requires some { 1 ≤ k }
     requires unrollable { IsUnrollable encoding.now k }
     requires starts { length encoding.now.states ≡ length reset.now }
-    requires width { length encoding.now.next ≡ length state.now }
+    requires width { length encoding.now.next ≡ length state.now.bits }
     ensures solver { IfOk result (λ s. s.solver ≡ fresh_over (unrolled encoding.now reset.now k) encoding.now k) }
     ensures failed_assumptions { IfOk result (λ s. AreFailedAssumptions s.solver.proof.problem.clauses encoding.now k state.now 0 s.failed_assumptions.items) }
 {
@@ -72,19 +74,19 @@ fn start_of(
     })
 }
 
-/// The answer where the state is the one at reset.
+/// The answer where the state at reset shows this one.
 pub(crate) fn at_reset(
     alloc: Global,
     net: &Netlist,
-    state: &Bits,
+    state: &Seen,
     k: u64,
     b: u64,
 ) -> Result<Reach, NoMemory>
-    requires { reset_state (circuit net.now) ≡ state.now }
+    requires { Shows state.now (reset_state (circuit net.now)) }
     ensures { IfOk result (IsReach (circuit net.now) state.now k b) }
 {
     let mut states = List::new(alloc);
-    states.push(state.copy()?)?;
+    states.push(net.reset().copy()?)?;
     Ok(Reach {
         asked: k,
         conflicts: b,
@@ -95,9 +97,9 @@ pub(crate) fn at_reset(
     })
 }
 
-/// The answer where no cycle is asked for and the state is another one than at reset.
-pub(crate) fn never(alloc: Global, net: &Netlist, state: &Bits, b: u64) -> Reach
-    requires { reset_state (circuit net.now) ≢ state.now }
+/// The answer where no cycle is asked for and the state at reset does not show this one.
+pub(crate) fn never(alloc: Global, net: &Netlist, state: &Seen, b: u64) -> Reach
+    requires { Shows state.now (reset_state (circuit net.now)) → ⊥ }
     ensures { IsReach (circuit net.now) state.now 0 b result }
 {
     Reach {
@@ -130,12 +132,12 @@ fn sought(
     encoding: &Encoding,
     solver: &mut Solver,
     failed_assumptions: &mut VecDeque<FailedAssumption>,
-    state: &Bits,
+    state: &Seen,
     k: u32,
     b: u64,
 ) -> Result<Verdict, NoMemory>
     requires unrollable { IsUnrollable encoding.now k }
-    requires width { length encoding.now.next ≡ length state.now }
+    requires width { length encoding.now.next ≡ length state.now.bits }
     requires limit { 1 ≤ b }
     requires start { IsBetween solver.old.proof.problem.clauses encoding.now k state.now b 0 solver.old }
     requires failed_assumptions { AreFailedAssumptions solver.old.proof.problem.clauses encoding.now k state.now 0 failed_assumptions.old.items }
@@ -152,14 +154,14 @@ fn seek(
     encoding: &Encoding,
     reset: &Bits,
     implied: &Implied,
-    state: &Bits,
+    state: &Seen,
     k: u32,
     b: u64,
 ) -> Result<Reach, NoMemory>
     requires some { 1 ≤ k }
     requires unrollable { IsUnrollable encoding.now k }
     requires starts { length encoding.now.states ≡ length reset.now }
-    requires width { length encoding.now.next ≡ length state.now }
+    requires width { length encoding.now.next ≡ length state.now.bits }
     requires limit { 1 ≤ b }
     ensures { IfOk result (HasSought encoding.now reset.now state.now k b) }
 {
@@ -181,7 +183,7 @@ fn as_refuted(
     alloc: Global,
     _encoding: &Encoding,
     _reset: &Bits,
-    _state: &Bits,
+    _state: &Seen,
     k: u32,
     b: u64,
     log: Log,
@@ -198,14 +200,14 @@ fn seek_refuted(
     encoding: &Encoding,
     reset: &Bits,
     implied: &Implied,
-    state: &Bits,
+    state: &Seen,
     k: u32,
     b: u64,
 ) -> Result<Option<Reach>, NoMemory>
     requires some { 1 ≤ k }
     requires unrollable { IsUnrollable encoding.now k }
     requires starts { length encoding.now.states ≡ length reset.now }
-    requires width { length encoding.now.next ≡ length state.now }
+    requires width { length encoding.now.next ≡ length state.now.bits }
     requires limit { 1 ≤ b }
     ensures { IfOk result (λ o. IfSome o (HasSought encoding.now reset.now state.now k b)) }
 {
@@ -222,17 +224,17 @@ pub(crate) fn look_refuted(
     net: &Netlist,
     encoding: &Encoding,
     implied: &Implied,
-    state: &Bits,
+    state: &Seen,
     k: u32,
     b: u64,
 ) -> Result<Option<Reach>, NoMemory>
     requires encoded { encoding.now ≡ encoding_of (circuit net.now) [] }
-    requires width { length state.now ≡ length (circuit net.now).flops }
+    requires width { length state.now.bits ≡ length (circuit net.now).flops }
     requires some { 1 ≤ k }
     requires cycles { k ≤ MAX_FRAMES }
     requires room { k * variables (circuit net.now) [] ≤ MAX_FRAME_VARIABLES }
     requires limit { 1 ≤ b }
-    requires other { reset_state (circuit net.now) ≢ state.now }
+    requires other { Shows state.now (reset_state (circuit net.now)) → ⊥ }
     ensures { IfOk result (λ o. IfSome o (IsReach (circuit net.now) state.now k b)) }
 {
     unrolled_clauses_are_executions(net);
@@ -247,17 +249,17 @@ pub(crate) fn look_over(
     net: &Netlist,
     encoding: &Encoding,
     implied: &Implied,
-    state: &Bits,
+    state: &Seen,
     k: u32,
     b: u64,
 ) -> Result<Reach, NoMemory>
     requires encoded { encoding.now ≡ encoding_of (circuit net.now) [] }
-    requires width { length state.now ≡ length (circuit net.now).flops }
+    requires width { length state.now.bits ≡ length (circuit net.now).flops }
     requires some { 1 ≤ k }
     requires cycles { k ≤ MAX_FRAMES }
     requires room { k * variables (circuit net.now) [] ≤ MAX_FRAME_VARIABLES }
     requires limit { 1 ≤ b }
-    requires other { reset_state (circuit net.now) ≢ state.now }
+    requires other { Shows state.now (reset_state (circuit net.now)) → ⊥ }
     ensures { IfOk result (IsReach (circuit net.now) state.now k b) }
 {
     unrolled_clauses_are_executions(net);

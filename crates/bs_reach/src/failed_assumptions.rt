@@ -1,7 +1,7 @@
 //! The first lengths, where what follows from the values at reset denies the state: lemmas without a search.
 ghost use Rattle.std.specs.Prelude.{◌≡◌, ◌+◌, ◌*◌, ◌<◌, length, true, IfOk, IfSome};
 ghost use Rattle.bs_reach_unrolled.specs.Room.{IsUnrollable};
-ghost use Rattle.bs_encode.specs.Assuming.{signed};
+ghost use Rattle.bs_encode.specs.Assuming.{signed_seen};
 ghost use Rattle.bs_reach_unrolled.specs.Unrolled.{length_assumes, next_at, unrolled};
 ghost use Rattle.bs_reach_implied.specs.Rows.{Refutes};
 ghost use Rattle.bs_solve.specs.Failure.{FailsBy};
@@ -11,6 +11,7 @@ use bs_bits::Bits;
 use bs_clause::NoMemory;
 use bs_encode::Encoding;
 use bs_reach_implied::{Implied, Lemma, Places, failed_assumption};
+use bs_seen::Seen;
 use bs_solve::FailedAssumption;
 use std::alloc::Global;
 use std::collections::VecDeque;
@@ -19,12 +20,12 @@ use std::collections::VecDeque;
 fn as_failed_assumption(
     _encoding: &Encoding,
     _reset: &Bits,
-    _state: &Bits,
+    _state: &Seen,
     _c: u32,
     _k: u32,
     lemma: Lemma,
 ) -> FailedAssumption
-    requires { Refutes (unrolled _encoding.now _reset.now _k) (signed (next_at _encoding.now _c) _state.now) lemma }
+    requires { Refutes (unrolled _encoding.now _reset.now _k) (signed_seen (next_at _encoding.now _c) _state.now) lemma }
     ensures { FailsBy (unrolled _encoding.now _reset.now _k) (length_assumes _encoding.now _k _state.now (_c + 1)) result }
 {
     FailedAssumption {
@@ -40,14 +41,14 @@ pub(crate) fn failed_assumption_at(
     reset: &Bits,
     implied: &Implied,
     places: &mut Places,
-    state: &Bits,
+    state: &Seen,
     c: u32,
     k: u32,
 ) -> Result<Option<FailedAssumption>, NoMemory>
     requires unrollable { IsUnrollable encoding.now k }
     requires within { c < k }
     requires starts { length encoding.now.states ≡ length reset.now }
-    requires width { length encoding.now.next ≡ length state.now }
+    requires width { length encoding.now.next ≡ length state.now.bits }
     ensures { IfOk result (λ d. IfSome d (FailsBy (unrolled encoding.now reset.now k) (length_assumes encoding.now k state.now (c + 1)))) }
 {
     let found = failed_assumption(alloc, encoding, reset, implied, places, state, c, k)?;
@@ -64,12 +65,12 @@ fn failed_assumptions_by(
     reset: &Bits,
     implied: &Implied,
     places: &mut Places,
-    state: &Bits,
+    state: &Seen,
     k: u32,
 ) -> Result<VecDeque<FailedAssumption>, NoMemory>
     requires unrollable { IsUnrollable encoding.now k }
     requires starts { length encoding.now.states ≡ length reset.now }
-    requires width { length encoding.now.next ≡ length state.now }
+    requires width { length encoding.now.next ≡ length state.now.bits }
     ensures { IfOk result (λ found. AreFailedAssumptions (unrolled encoding.now reset.now k) encoding.now k state.now 0 found.items) }
 {
     let mut found = VecDeque::new(alloc);
@@ -91,12 +92,12 @@ pub(crate) fn first_failed_assumptions(
     encoding: &Encoding,
     reset: &Bits,
     implied: &Implied,
-    state: &Bits,
+    state: &Seen,
     k: u32,
 ) -> Result<VecDeque<FailedAssumption>, NoMemory>
     requires unrollable { IsUnrollable encoding.now k }
     requires starts { length encoding.now.states ≡ length reset.now }
-    requires width { length encoding.now.next ≡ length state.now }
+    requires width { length encoding.now.next ≡ length state.now.bits }
     ensures { IfOk result (λ found. AreFailedAssumptions (unrolled encoding.now reset.now k) encoding.now k state.now 0 found.items) }
 {
     let mut places = Places::new(alloc, implied)?;

@@ -1,5 +1,6 @@
 //! The answer whether a state is reached from reset in a bounded number of cycles.
 ghost use Rattle.std.specs.Prelude.{◌≡◌, ◌≢◌, ◌*◌, ◌≤◌, [], length, IfOk, IfSome};
+ghost use Rattle.bs_seen.specs.Seen.{Shows};
 ghost use Rattle.bs_net.specs.Circuit.{reset_state};
 ghost use Rattle.bs_net.specs.Netlist.{circuit};
 ghost use Rattle.bs_encode.specs.Transition.{variables};
@@ -11,11 +12,11 @@ use crate::answer::{at_reset, look_refuted, never};
 use crate::reach::Reach;
 use crate::shown::look_shown;
 use crate::wider::look_wider;
-use bs_bits::Bits;
 use bs_clause::NoMemory;
 use bs_encode::Encoding;
 use bs_net::Netlist;
 use bs_reach_implied::{Implied, implied_from};
+use bs_seen::Seen;
 use std::alloc::Global;
 
 /// Lets the clauses of a cycle go.
@@ -27,17 +28,17 @@ fn look_denied(
     net: &Netlist,
     encoding: &Encoding,
     implied: &Implied,
-    state: &Bits,
+    state: &Seen,
     k: u32,
     b: u64,
 ) -> Result<Option<Reach>, NoMemory>
     requires encoded { encoding.now ≡ encoding_of (circuit net.now) [] }
-    requires width { length state.now ≡ length (circuit net.now).flops }
+    requires width { length state.now.bits ≡ length (circuit net.now).flops }
     requires some { 1 ≤ k }
     requires cycles { k ≤ MAX_FRAMES }
     requires room { k * variables (circuit net.now) [] ≤ MAX_FRAME_VARIABLES }
     requires limit { 1 ≤ b }
-    requires other { reset_state (circuit net.now) ≢ state.now }
+    requires other { Shows state.now (reset_state (circuit net.now)) → ⊥ }
     ensures { IfOk result (λ o. IfSome o (IsReach (circuit net.now) state.now k b)) }
 {
     let denied = implied.len();
@@ -53,17 +54,17 @@ fn look_implied(
     net: &Netlist,
     encoding: &Encoding,
     implied: &Implied,
-    state: &Bits,
+    state: &Seen,
     k: u32,
     b: u64,
 ) -> Result<Reach, NoMemory>
     requires encoded { encoding.now ≡ encoding_of (circuit net.now) [] }
-    requires width { length state.now ≡ length (circuit net.now).flops }
+    requires width { length state.now.bits ≡ length (circuit net.now).flops }
     requires some { 1 ≤ k }
     requires cycles { k ≤ MAX_FRAMES }
     requires room { k * variables (circuit net.now) [] ≤ MAX_FRAME_VARIABLES }
     requires limit { 1 ≤ b }
-    requires other { reset_state (circuit net.now) ≢ state.now }
+    requires other { Shows state.now (reset_state (circuit net.now)) → ⊥ }
     ensures { IfOk result (IsReach (circuit net.now) state.now k b) }
 {
     match look_denied(alloc, net, encoding, implied, state, k, b)? {
@@ -77,17 +78,17 @@ fn look_by(
     alloc: Global,
     net: &Netlist,
     encoding: &Encoding,
-    state: &Bits,
+    state: &Seen,
     k: u32,
     b: u64,
 ) -> Result<Reach, NoMemory>
     requires encoded { encoding.now ≡ encoding_of (circuit net.now) [] }
-    requires width { length state.now ≡ length (circuit net.now).flops }
+    requires width { length state.now.bits ≡ length (circuit net.now).flops }
     requires some { 1 ≤ k }
     requires cycles { k ≤ MAX_FRAMES }
     requires room { k * variables (circuit net.now) [] ≤ MAX_FRAME_VARIABLES }
     requires limit { 1 ≤ b }
-    requires other { reset_state (circuit net.now) ≢ state.now }
+    requires other { Shows state.now (reset_state (circuit net.now)) → ⊥ }
     ensures { IfOk result (IsReach (circuit net.now) state.now k b) }
 {
     let found = implied_from(alloc, encoding, net.reset(), state, k)?;
@@ -95,14 +96,14 @@ fn look_by(
     Ok(reach)
 }
 
-/// The answer for a bound of one cycle or more, where the state is another one than at reset.
-fn look(alloc: Global, net: &Netlist, state: &Bits, k: u32, b: u64) -> Result<Reach, NoMemory>
-    requires width { length state.now ≡ length (circuit net.now).flops }
+/// The answer for a bound of one cycle or more, where the state at reset does not show this one.
+fn look(alloc: Global, net: &Netlist, state: &Seen, k: u32, b: u64) -> Result<Reach, NoMemory>
+    requires width { length state.now.bits ≡ length (circuit net.now).flops }
     requires some { 1 ≤ k }
     requires cycles { k ≤ MAX_FRAMES }
     requires room { k * variables (circuit net.now) [] ≤ MAX_FRAME_VARIABLES }
     requires limit { 1 ≤ b }
-    requires other { reset_state (circuit net.now) ≢ state.now }
+    requires other { Shows state.now (reset_state (circuit net.now)) → ⊥ }
     ensures { IfOk result (IsReach (circuit net.now) state.now k b) }
 {
     let encoding = Encoding::plain(alloc, net)?;
@@ -111,23 +112,24 @@ fn look(alloc: Global, net: &Netlist, state: &Bits, k: u32, b: u64) -> Result<Re
     reach
 }
 
-/// Whether the state is reached from reset in at most `k` cycles, under any inputs: an execution of as few cycles as there
+/// Whether a state that shows this is reached from reset in at most `k` cycles, under any inputs: an execution of as few cycles as there
 /// are, a log that refutes each length up to `k`, or the length whose solve logged `b` lemmas without an end. The state has a
 /// bit for each flip-flop, and `k` times `size` is at most `MAX_FRAME_VARIABLES`.
 pub fn bounded(
     alloc: Global,
     net: &Netlist,
-    state: &Bits,
+    state: &Seen,
     k: u64,
     b: u64,
 ) -> Result<Reach, NoMemory>
-    requires width { length state.now ≡ length (circuit net.now).flops }
+    requires width { length state.now.bits ≡ length (circuit net.now).flops }
     requires cycles { k ≤ MAX_FRAMES }
     requires room { k * variables (circuit net.now) [] ≤ MAX_FRAME_VARIABLES }
     requires limit { 1 ≤ b }
     ensures { IfOk result (IsReach (circuit net.now) state.now k b) }
 {
-    if net.reset().equals(state) {
+    let shown = state.is_shown(alloc, net.reset())?;
+    if shown {
         return at_reset(alloc, net, state, k, b);
     }
     if k == 0 {

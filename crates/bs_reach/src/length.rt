@@ -6,10 +6,10 @@ ghost use Rattle.bs_solve.specs.Failure.{FailsBy};
 ghost use Rattle.bs_reach.specs.Search.{IsBetween, TriesTo};
 ghost use Rattle.bs_reach.specs.FailedAssumptions.{AreFailedAssumptions};
 
-use bs_bits::Bits;
 use bs_clause::NoMemory;
 use bs_encode::Encoding;
 use bs_reach_unrolled::assume_length;
+use bs_seen::Seen;
 use bs_solve::{FailedAssumption, Solver};
 use bs_solve_recording::{Answer, Solution};
 use std::alloc::Global;
@@ -31,14 +31,14 @@ fn try_length(
     alloc: Global,
     encoding: &Encoding,
     solver: &mut Solver,
-    state: &Bits,
+    state: &Seen,
     c: u32,
     k: u32,
     b: u64,
 ) -> Result<Trial, NoMemory>
     requires unrollable { IsUnrollable encoding.now k }
     requires within { c < k }
-    requires width { length encoding.now.next ≡ length state.now }
+    requires width { length encoding.now.next ≡ length state.now.bits }
     requires limit { 1 ≤ b }
     requires between { IsBetween solver.old.proof.problem.clauses encoding.now k state.now b c solver.old }
     ensures { IfOk result (TriesTo solver.old.proof.problem.clauses encoding.now k state.now b c solver.new) }
@@ -68,14 +68,14 @@ fn deny_length(
     encoding: &Encoding,
     solver: &mut Solver,
     failed_assumption: FailedAssumption,
-    state: &Bits,
+    state: &Seen,
     c: u32,
     k: u32,
     _b: u64,
 ) -> Result<(), NoMemory>
     requires unrollable { IsUnrollable encoding.now k }
     requires within { c < k }
-    requires width { length encoding.now.next ≡ length state.now }
+    requires width { length encoding.now.next ≡ length state.now.bits }
     requires limit { 1 ≤ _b }
     requires between { IsBetween solver.old.proof.problem.clauses encoding.now k state.now _b c solver.old }
     requires failed_assumption { FailsBy solver.old.proof.problem.clauses (length_assumes encoding.now k state.now (c + 1)) failed_assumption }
@@ -94,14 +94,14 @@ pub(crate) fn next_length(
     encoding: &Encoding,
     solver: &mut Solver,
     failed_assumptions: &mut VecDeque<FailedAssumption>,
-    state: &Bits,
+    state: &Seen,
     c: u32,
     k: u32,
     b: u64,
 ) -> Result<Trial, NoMemory>
     requires unrollable { IsUnrollable encoding.now k }
     requires within { c < k }
-    requires width { length encoding.now.next ≡ length state.now }
+    requires width { length encoding.now.next ≡ length state.now.bits }
     requires limit { 1 ≤ b }
     requires between { IsBetween solver.old.proof.problem.clauses encoding.now k state.now b c solver.old }
     requires failed_assumptions { AreFailedAssumptions solver.old.proof.problem.clauses encoding.now k state.now c failed_assumptions.old.items }

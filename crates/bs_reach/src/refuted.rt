@@ -14,6 +14,7 @@ use bs_clause::NoMemory;
 use bs_encode::Encoding;
 use bs_log::{Line, Log};
 use bs_reach_implied::{Implied, Places};
+use bs_seen::Seen;
 use bs_solve::FailedAssumption;
 use std::alloc::Global;
 
@@ -95,7 +96,7 @@ fn log_denied(
     failed_assumption: FailedAssumption,
     _encoding: &Encoding,
     _reset: &Bits,
-    _state: &Bits,
+    _state: &Seen,
     _c: u32,
     _k: u32,
     _b: u64,
@@ -119,7 +120,7 @@ fn add_length(
     reset: &Bits,
     implied: &Implied,
     places: &mut Places,
-    state: &Bits,
+    state: &Seen,
     c: u32,
     k: u32,
     b: u64,
@@ -127,7 +128,7 @@ fn add_length(
     requires unrollable { IsUnrollable encoding.now k }
     requires within { c < k }
     requires starts { length encoding.now.states ≡ length reset.now }
-    requires width { length encoding.now.next ≡ length state.now }
+    requires width { length encoding.now.next ≡ length state.now.bits }
     requires limit { 1 ≤ b }
     requires so_far { AreRefuted encoding.now reset.now state.now k b c last (reverse log.old) }
     ensures { IfOk result (λ o. IfSome o (λ id. AreRefuted encoding.now reset.now state.now k b (c + 1) id (reverse log.new))) }
@@ -161,7 +162,7 @@ fn add_lengths(
     reset: &Bits,
     implied: &Implied,
     places: &mut Places,
-    state: &Bits,
+    state: &Seen,
     denied: u32,
     k: u32,
     b: u64,
@@ -169,7 +170,7 @@ fn add_lengths(
     requires unrollable { IsUnrollable encoding.now k }
     requires within { denied ≤ k }
     requires starts { length encoding.now.states ≡ length reset.now }
-    requires width { length encoding.now.next ≡ length state.now }
+    requires width { length encoding.now.next ≡ length state.now.bits }
     requires limit { 1 ≤ b }
     requires start { AreRefuted encoding.now reset.now state.now k b 0 first (reverse log.old) }
     ensures { IfOk result (λ o. IfSome o (λ id. AreRefuted encoding.now reset.now state.now k b denied id (reverse log.new))) }
@@ -194,7 +195,7 @@ pub(crate) fn fill(
     encoding: &Encoding,
     reset: &Bits,
     implied: &Implied,
-    state: &Bits,
+    state: &Seen,
     denied: u32,
     k: u32,
     b: u64,
@@ -203,7 +204,7 @@ pub(crate) fn fill(
     requires unrollable { IsUnrollable encoding.now k }
     requires within { denied ≤ k }
     requires starts { length encoding.now.states ≡ length reset.now }
-    requires width { length encoding.now.next ≡ length state.now }
+    requires width { length encoding.now.next ≡ length state.now.bits }
     requires limit { 1 ≤ b }
     requires empty { log.old ≡ [] }
     ensures { IfOk result (λ o. IfSome o (λ id. AreRefuted encoding.now reset.now state.now k b denied id (reverse log.new))) }
@@ -235,14 +236,14 @@ pub(crate) fn log_of(
     encoding: &Encoding,
     reset: &Bits,
     implied: &Implied,
-    state: &Bits,
+    state: &Seen,
     k: u32,
     b: u64,
 ) -> Result<Option<Log>, NoMemory>
     requires some { 1 ≤ k }
     requires unrollable { IsUnrollable encoding.now k }
     requires starts { length encoding.now.states ≡ length reset.now }
-    requires width { length encoding.now.next ≡ length state.now }
+    requires width { length encoding.now.next ≡ length state.now.bits }
     requires limit { 1 ≤ b }
     ensures { IfOk result (λ o. IfSome o (IsLogOfLengths encoding.now reset.now state.now k b k k)) }
 {

@@ -6,9 +6,9 @@ ghost use Rattle.bs_reach.specs.Ends.{EndsAs};
 ghost use Rattle.bs_reach.specs.FailedAssumptions.{AreFailedAssumptions};
 
 use crate::length::{Trial, next_length};
-use bs_bits::Bits;
 use bs_clause::NoMemory;
 use bs_encode::Encoding;
+use bs_seen::Seen;
 use bs_solve::{FailedAssumption, Solver};
 use bs_solve_recording::Solution;
 use std::alloc::Global;
@@ -31,12 +31,12 @@ pub(crate) fn search(
     encoding: &Encoding,
     solver: &mut Solver,
     failed_assumptions: &mut VecDeque<FailedAssumption>,
-    state: &Bits,
+    state: &Seen,
     k: u32,
     b: u64,
 ) -> Result<End, NoMemory>
     requires unrollable { IsUnrollable encoding.now k }
-    requires width { length encoding.now.next ≡ length state.now }
+    requires width { length encoding.now.next ≡ length state.now.bits }
     requires limit { 1 ≤ b }
     requires start { IsBetween solver.old.proof.problem.clauses encoding.now k state.now b 0 solver.old }
     requires failed_assumptions { AreFailedAssumptions solver.old.proof.problem.clauses encoding.now k state.now 0 failed_assumptions.old.items }

@@ -1,5 +1,6 @@
 //! The first length that what follows from reset does not deny, where an execution of it is found: no clause is unrolled.
 ghost use Rattle.std.specs.Prelude.{◌≡◌, ◌≢◌, ◌+◌, ◌*◌, ◌<◌, ◌≤◌, ◌++◌, [], length, reverse, IfOk, IfSome};
+ghost use Rattle.bs_seen.specs.Seen.{Shows};
 ghost use Rattle.bs_net.specs.Circuit.{reset_state};
 ghost use Rattle.bs_net.specs.Netlist.{circuit};
 ghost use Rattle.bs_encode.specs.Transition.{variables};
@@ -21,6 +22,7 @@ use bs_net::Netlist;
 use bs_reach_execution::{Execution, execution_of};
 use bs_reach_implied::Implied;
 use bs_reach_unrolled::{netlists_unroll, unrolled_clauses_are_executions};
+use bs_seen::Seen;
 use std::alloc::Global;
 
 /// A search for an execution that is not logged has at most so many lemmas.
@@ -43,7 +45,7 @@ fn log_tried(
     last: u64,
     _encoding: &Encoding,
     _reset: &Bits,
-    _state: &Bits,
+    _state: &Seen,
     _c: u32,
     _k: u32,
     _b: u64,
@@ -64,7 +66,7 @@ fn fill_shown(
     encoding: &Encoding,
     reset: &Bits,
     implied: &Implied,
-    state: &Bits,
+    state: &Seen,
     c: u32,
     k: u32,
     b: u64,
@@ -72,7 +74,7 @@ fn fill_shown(
     requires within { c < k }
     requires unrollable { IsUnrollable encoding.now k }
     requires starts { length encoding.now.states ≡ length reset.now }
-    requires width { length encoding.now.next ≡ length state.now }
+    requires width { length encoding.now.next ≡ length state.now.bits }
     requires limit { 1 ≤ b }
     requires empty { log.old ≡ [] }
     ensures { IfOk result (λ o. IfSome o (λ id. AreTried encoding.now reset.now state.now k b (c + 1) c id (reverse log.new))) }
@@ -93,7 +95,7 @@ fn log_shown(
     encoding: &Encoding,
     reset: &Bits,
     implied: &Implied,
-    state: &Bits,
+    state: &Seen,
     c: u32,
     k: u32,
     b: u64,
@@ -101,7 +103,7 @@ fn log_shown(
     requires within { c < k }
     requires unrollable { IsUnrollable encoding.now k }
     requires starts { length encoding.now.states ≡ length reset.now }
-    requires width { length encoding.now.next ≡ length state.now }
+    requires width { length encoding.now.next ≡ length state.now.bits }
     requires limit { 1 ≤ b }
     ensures { IfOk result (λ o. IfSome o (IsLogOfLengths encoding.now reset.now state.now k b (c + 1) c)) }
 {
@@ -131,7 +133,7 @@ fn with_execution(c: u32, k: u32, b: u64, execution: Execution, log: Log) -> Rea
 fn as_shown(
     net: &Netlist,
     _encoding: &Encoding,
-    _state: &Bits,
+    _state: &Seen,
     execution: Execution,
     c: u32,
     k: u32,
@@ -140,7 +142,7 @@ fn as_shown(
 ) -> Reach
     requires encoded { _encoding.now ≡ encoding_of (circuit net.now) [] }
     requires within { c < k }
-    requires other { reset_state (circuit net.now) ≢ _state.now }
+    requires other { Shows _state.now (reset_state (circuit net.now)) → ⊥ }
     requires run { IsExecution (circuit net.now) (c + 1) _state.now execution.states execution.inputs }
     requires log { IsLogOfLengths _encoding.now (reset_state (circuit net.now)) _state.now k b (c + 1) c log }
     ensures { IsReach (circuit net.now) _state.now k b result }
@@ -155,19 +157,19 @@ fn tell_shown(
     net: &Netlist,
     encoding: &Encoding,
     implied: &Implied,
-    state: &Bits,
+    state: &Seen,
     execution: Execution,
     c: u32,
     k: u32,
     b: u64,
 ) -> Result<Option<Reach>, NoMemory>
     requires encoded { encoding.now ≡ encoding_of (circuit net.now) [] }
-    requires width { length state.now ≡ length (circuit net.now).flops }
+    requires width { length state.now.bits ≡ length (circuit net.now).flops }
     requires within { c < k }
     requires cycles { k ≤ MAX_FRAMES }
     requires room { k * variables (circuit net.now) [] ≤ MAX_FRAME_VARIABLES }
     requires limit { 1 ≤ b }
-    requires other { reset_state (circuit net.now) ≢ state.now }
+    requires other { Shows state.now (reset_state (circuit net.now)) → ⊥ }
     requires run { IsExecution (circuit net.now) (c + 1) state.now execution.states execution.inputs }
     ensures { IfOk result (λ o. IfSome o (IsReach (circuit net.now) state.now k b)) }
 {
@@ -185,18 +187,18 @@ pub(crate) fn look_shown(
     net: &Netlist,
     encoding: &Encoding,
     implied: &Implied,
-    state: &Bits,
+    state: &Seen,
     c: u32,
     k: u32,
     b: u64,
 ) -> Result<Option<Reach>, NoMemory>
     requires encoded { encoding.now ≡ encoding_of (circuit net.now) [] }
-    requires width { length state.now ≡ length (circuit net.now).flops }
+    requires width { length state.now.bits ≡ length (circuit net.now).flops }
     requires within { c < k }
     requires cycles { k ≤ MAX_FRAMES }
     requires room { k * variables (circuit net.now) [] ≤ MAX_FRAME_VARIABLES }
     requires limit { 1 ≤ b }
-    requires other { reset_state (circuit net.now) ≢ state.now }
+    requires other { Shows state.now (reset_state (circuit net.now)) → ⊥ }
     ensures { IfOk result (λ o. IfSome o (IsReach (circuit net.now) state.now k b)) }
 {
     let limit = if b < MAX_LEMMAS { b } else { MAX_LEMMAS };

@@ -1,5 +1,6 @@
 //! Fewer time frames first: where they reach the state, their answer is told of all that are asked for.
 ghost use Rattle.std.specs.Prelude.{◌≡◌, ◌≢◌, ◌*◌, ◌≤◌, true, [], length, map, All, IfOk};
+ghost use Rattle.bs_seen.specs.Seen.{Shows};
 ghost use Rattle.bs_net.specs.Circuit.{reset_state};
 ghost use Rattle.bs_net.specs.Netlist.{circuit};
 ghost use Rattle.bs_encode.specs.Transition.{variables};
@@ -16,13 +17,13 @@ use crate::reach::{Outcome, Reach};
 use crate::renaming::renamed;
 use crate::renaming_law::renamed_logs_stay_right;
 use crate::shift::Shift;
-use bs_bits::Bits;
 use bs_clause::NoMemory;
 use bs_encode::Encoding;
 use bs_log::Log;
 use bs_net::Netlist;
 use bs_reach_implied::Implied;
 use bs_reach_unrolled::netlists_unroll;
+use bs_seen::Seen;
 use std::alloc::Global;
 
 /// The clauses and flip-flops of a time frame and the lines of a log are at most so many where the log is renamed.
@@ -124,7 +125,7 @@ fn widened(
     alloc: Global,
     net: &Netlist,
     encoding: &Encoding,
-    state: &Bits,
+    state: &Seen,
     reach: Reach,
     j: u32,
     k: u32,
@@ -151,7 +152,7 @@ fn told_of(
     alloc: Global,
     net: &Netlist,
     encoding: &Encoding,
-    state: &Bits,
+    state: &Seen,
     reach: Reach,
     j: u32,
     k: u32,
@@ -180,19 +181,19 @@ fn look_within(
     net: &Netlist,
     encoding: &Encoding,
     implied: &Implied,
-    state: &Bits,
+    state: &Seen,
     j: u32,
     k: u32,
     b: u64,
 ) -> Result<Look, NoMemory>
     requires encoded { encoding.now ≡ encoding_of (circuit net.now) [] }
-    requires width { length state.now ≡ length (circuit net.now).flops }
+    requires width { length state.now.bits ≡ length (circuit net.now).flops }
     requires some { 1 ≤ j }
     requires fewer { j ≤ k }
     requires cycles { k ≤ MAX_FRAMES }
     requires room { k * variables (circuit net.now) [] ≤ MAX_FRAME_VARIABLES }
     requires limit { 1 ≤ b }
-    requires other { reset_state (circuit net.now) ≢ state.now }
+    requires other { Shows state.now (reset_state (circuit net.now)) → ⊥ }
     ensures { IfOk result (LookFits (circuit net.now) state.now k b) }
 {
     let reach = look_over(alloc, net, encoding, implied, state, j, b)?;
@@ -222,17 +223,17 @@ pub(crate) fn look_wider(
     net: &Netlist,
     encoding: &Encoding,
     implied: &Implied,
-    state: &Bits,
+    state: &Seen,
     k: u32,
     b: u64,
 ) -> Result<Reach, NoMemory>
     requires encoded { encoding.now ≡ encoding_of (circuit net.now) [] }
-    requires width { length state.now ≡ length (circuit net.now).flops }
+    requires width { length state.now.bits ≡ length (circuit net.now).flops }
     requires some { 1 ≤ k }
     requires cycles { k ≤ MAX_FRAMES }
     requires room { k * variables (circuit net.now) [] ≤ MAX_FRAME_VARIABLES }
     requires limit { 1 ≤ b }
-    requires other { reset_state (circuit net.now) ≢ state.now }
+    requires other { Shows state.now (reset_state (circuit net.now)) → ⊥ }
     ensures { IfOk result (IsReach (circuit net.now) state.now k b) }
 {
     let mut j = first_frames(implied, k);

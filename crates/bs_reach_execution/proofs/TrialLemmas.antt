@@ -1,11 +1,14 @@
 -- The states under some inputs.
-use Rattle.std.proofs.Common.{◌≡◌, ◌<◌, ◌+◌, ℕ, zero, suc, [], arith, ap, sym, ◌∙◌, List, Bool, Option, Some, map, length, get_or, unwrap_or, zero-add}
+use Rattle.std.proofs.Common.{◌≡◌, ◌<◌, ◌+◌, ℕ, zero, suc, [], arith, ap, sym, subst, ◌∙◌, List, Bool, Option, Some, map, length, get_or, unwrap_or, zero-add}
 use Rattle.std.specs.Prelude.{slice_get, All}
 use Rattle.std.specs.List.{range_with_len}
 use Rattle.bs_watch.proofs.Gets.{get_map}
+use Rattle.bs_seen.specs.declared.seen.Seen.{Seen}
+use Rattle.bs_seen.specs.Seen.{Shows}
 use Rattle.bs_net.specs.Circuit.{Circuit, reset_state, next}
 use Rattle.bs_scan.specs.Moments.{Run, state_at}
 use Rattle.bs_reach_unrolled.specs.Execution.{IsExecution}
+use Rattle.bs_reach_execution.specs.Trial.{EndsIn}
 
 pub state_more : (c : Circuit) (run : Run) (k : ℕ) (s x : List Bool) → s ≡ state_at c run k → x ≡ get_or run k [] → next c s x ≡ state_at c run (k + 1)
 unfolding state_at
@@ -24,9 +27,9 @@ range_get a (suc n) (suc i) low = range_get (a + 1) n i (omega (arith, low)) ∙
 same_some : (x y : List Bool) → Some x ≡ Some y → x ≡ y
 same_some x y e = ap (λ (o : Option (List Bool)). unwrap_or o x) e
 
-pub is_execution : (c : Circuit) (n : ℕ) (p : List Bool) (states inputs : List (List Bool)) → length inputs ≡ n →
+pub is_execution : (c : Circuit) (n : ℕ) (p : Seen) (states inputs : List (List Bool)) → length inputs ≡ n →
     All (λ x. length x ≡ length c.inputs) inputs → states ≡ map (state_at c inputs) (range_with_len 0 (length inputs + 1)) →
-    slice_get states n ≡ Some p → IsExecution c n p states inputs
+    EndsIn states n p → IsExecution c n p states inputs
 is_execution c n p states inputs count widths are last =
     let are_n : states ≡ map (state_at c inputs) (range_with_len 0 (n + 1)) =
     are ∙ ap (λ (m : ℕ). map (state_at c inputs) (range_with_len 0 (m + 1))) count in
@@ -38,5 +41,5 @@ is_execution c n p states inputs count widths are last =
       count = count;
       widths = widths;
       states_are = are_n;
-      ends = same_some (state_at c inputs n) p (sym at ∙ last);
+      ends = subst (Shows p) (same_some last.last (state_at c inputs n) (sym last.there ∙ at)) last.shown;
     }

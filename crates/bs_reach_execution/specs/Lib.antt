@@ -1,2 +1,3 @@
 -- what inner functions promise each other
 pub mod Search
+pub mod Trial

@@ -9,6 +9,7 @@ use crate::trial::tried;
 use bs_bits::{Bits, List, NoMemory};
 use bs_encode::Encoding;
 use bs_net::Netlist;
+use bs_seen::Seen;
 use std::alloc::Global;
 
 /// The states from reset on, one more than inputs, and the inputs between.
@@ -23,7 +24,7 @@ fn inputs_to(
     alloc: Global,
     net: &Netlist,
     encoding: &Encoding,
-    state: &Bits,
+    state: &Seen,
     cycles: u32,
     conflicts: u64,
 ) -> Result<Option<List<Bits>>, NoMemory> {
@@ -36,17 +37,17 @@ fn inputs_to(
     Ok(inputs)
 }
 
-/// An execution of so many cycles from reset to the state, by the clauses of one cycle of the netlist, if one is found with fewer
+/// An execution of so many cycles from reset to a state that shows this, by the clauses of one cycle of the netlist, if one is found with fewer
 /// lemmas than `conflicts`.
 pub fn execution_of(
     alloc: Global,
     net: &Netlist,
     encoding: &Encoding,
-    state: &Bits,
+    state: &Seen,
     cycles: u32,
     conflicts: u64,
 ) -> Result<Option<Execution>, NoMemory>
-    requires width { length state.now ≡ length (circuit net.now).flops }
+    requires width { length state.now.bits ≡ length (circuit net.now).flops }
     ensures { IfOk result (λ o. IfSome o (λ x. IsExecution (circuit net.now) cycles state.now x.states x.inputs)) }
 {
     match inputs_to(alloc, net, encoding, state, cycles, conflicts)? {

@@ -6,6 +6,7 @@ use crate::template::{Template, template_of};
 use bs_bits::Bits;
 use bs_clause::{Clauses, Lit, Lits, NoMemory};
 use bs_encode::Encoding;
+use bs_seen::Seen;
 use std::alloc::Global;
 
 /// A clause has at most so many literals where clauses are folded.
@@ -184,11 +185,13 @@ fn wanted(code: u32, bit: bool) -> u32 {
     if bit { code } else { code ^ 1 }
 }
 
-/// The flip-flops are to have these bits.
-fn add_goal(into: &mut Folded, scene: &Scene, state: &Bits) -> Result<(), NoMemory> {
-    for f in 0..state.len() {
-        let term = number_or(scene.present.as_slice(), f, FALSE);
-        add_unit(into, wanted(term, state.get(f)))?;
+/// The flip-flops are to have these bits, as far as they are known.
+fn add_goal(into: &mut Folded, scene: &Scene, state: &Seen) -> Result<(), NoMemory> {
+    for f in 0..state.bits.len() {
+        if !state.is_free(f) {
+            let term = number_or(scene.present.as_slice(), f, FALSE);
+            add_unit(into, wanted(term, state.bits.get(f)))?;
+        }
     }
     Ok(())
 }
@@ -199,7 +202,7 @@ fn fold_by(
     parts: &Parts<'_>,
     encoding: &Encoding,
     reset: &Bits,
-    state: &Bits,
+    state: &Seen,
     cycles: u32,
 ) -> Result<Folded, NoMemory> {
     let mut scene = Scene::new(alloc, encoding.vars(), encoding.states().len())?;
@@ -231,7 +234,7 @@ pub(crate) fn folded_of(
     alloc: Global,
     encoding: &Encoding,
     reset: &Bits,
-    state: &Bits,
+    state: &Seen,
     cycles: u32,
 ) -> Result<Folded, NoMemory> {
     let clauses = encoding.clauses().slice();

@@ -1,14 +1,16 @@
 //! Inputs from reset on, simulated.
-ghost use Rattle.std.specs.Prelude.{◌≡◌, ◌+◌, Some, slice_get, length, map, All, IfOk, IfSome};
+ghost use Rattle.std.specs.Prelude.{◌≡◌, ◌+◌, true, length, map, All, IfOk, IfSome};
 ghost use Rattle.std.specs.Bool.{OnTrue};
 ghost use Rattle.std.specs.List.{range_with_len};
 ghost use Rattle.bs_net.specs.Netlist.{circuit};
 ghost use Rattle.bs_scan.specs.Moments.{state_at};
 ghost use Rattle.bs_reach_unrolled.specs.Execution.{IsExecution};
+ghost use Rattle.bs_reach_execution.specs.Trial.{EndsIn};
 
 use crate::execution::Execution;
 use bs_bits::{Bits, List, NoMemory};
 use bs_net::Netlist;
+use bs_seen::Seen;
 use bs_sim::Sim;
 use std::alloc::Global;
 
@@ -40,22 +42,28 @@ fn states_under(alloc: Global, net: &Netlist, inputs: &List<Bits>) -> Result<Lis
     Ok(states)
 }
 
-/// Whether the last of the states, so many cycles behind the first, is this one.
-fn ends_in(states: &List<Bits>, cycles: usize, state: &Bits) -> bool
-    ensures { OnTrue result (slice_get states.now cycles ≡ Some state.now) }
+/// Whether the last of the states, so many cycles behind the first, shows this one.
+fn ends_in(
+    alloc: Global,
+    states: &List<Bits>,
+    cycles: usize,
+    state: &Seen,
+) -> Result<bool, NoMemory>
+    ensures { IfOk result (λ there. there ≡ true → EndsIn states.now cycles state.now) }
 {
     if cycles >= states.len() {
-        return false;
+        return Ok(false);
     }
-    states.get(cycles).equals(state)
+    let shown = state.is_shown(alloc, states.get(cycles))?;
+    Ok(shown)
 }
 
-/// The execution of so many cycles under these inputs, where they lead to the state.
+/// The execution of so many cycles under these inputs, where they lead to a state that shows this.
 pub(crate) fn tried(
     alloc: Global,
     net: &Netlist,
     inputs: List<Bits>,
-    state: &Bits,
+    state: &Seen,
     cycles: u32,
 ) -> Result<Option<Execution>, NoMemory>
     ensures { IfOk result (λ o. IfSome o (λ x. IsExecution (circuit net.now) cycles state.now x.states x.inputs)) }
@@ -64,7 +72,8 @@ pub(crate) fn tried(
         return Ok(None);
     }
     let states = states_under(alloc, net, &inputs)?;
-    if !ends_in(&states, cycles as usize, state) {
+    let there = ends_in(alloc, &states, cycles as usize, state)?;
+    if !there {
         return Ok(None);
     }
     Ok(Some(Execution { states, inputs }))

@@ -1,7 +1,7 @@
 //! A lemma that denies an assumption by what follows from reset alone.
 ghost use Rattle.std.specs.Prelude.{◌≡◌, ◌<◌, ◌≤◌, ◌∷◌, [], length, Some, slice_get, IfOk, IfSome};
 ghost use Rattle.std.specs.Bool.{OnTrue};
-ghost use Rattle.bs_encode.specs.Assuming.{signed};
+ghost use Rattle.bs_encode.specs.Assuming.{signed, signed_seen};
 ghost use Rattle.bs_reach_unrolled.specs.Room.{IsUnrollable};
 ghost use Rattle.bs_reach_unrolled.specs.Unrolled.{next_at, unrolled};
 ghost use Rattle.bs_reach_implied.specs.declared.rows.TheConstants.{ROW_ROOM};
@@ -15,6 +15,7 @@ use crate::template::{number_at, zeros};
 use bs_bits::{Bits, List};
 use bs_clause::{Lit, Lits, NoMemory, Var, is_same};
 use bs_encode::Encoding;
+use bs_seen::Seen;
 use std::alloc::Global;
 
 /// A lemma of one literal, and the ids of the clauses that it follows from.
@@ -154,21 +155,24 @@ pub fn failed_assumption(
     reset: &Bits,
     implied: &Implied,
     places: &mut Places,
-    state: &Bits,
+    state: &Seen,
     c: u32,
     k: u32,
 ) -> Result<Option<Lemma>, NoMemory>
     requires unrollable { IsUnrollable encoding.now k }
     requires within { c < k }
     requires width { length encoding.now.states ≡ length reset.now }
-    requires state { length encoding.now.next ≡ length state.now }
-    ensures { IfOk result (λ d. IfSome d (Refutes (unrolled encoding.now reset.now k) (signed (next_at encoding.now c) state.now))) }
+    requires state { length encoding.now.next ≡ length state.now.bits }
+    ensures { IfOk result (λ d. IfSome d (Refutes (unrolled encoding.now reset.now k) (signed_seen (next_at encoding.now c) state.now))) }
 {
     let f = number_at(implied.denied.as_slice(), c as usize) as usize;
-    if c as usize >= implied.denied.len() || f >= state.len() || !has_small_rows(encoding) {
+    if c as usize >= implied.denied.len() || f >= state.bits.len() || !has_small_rows(encoding) {
         return Ok(None);
     }
-    let wanted = wanted_of(encoding, state, f, c, k);
+    if state.is_free(f) {
+        return Ok(None);
+    }
+    let wanted = wanted_of(encoding, &state.bits, f, c, k);
     let lemma = failed_assumption_of(alloc, encoding, reset, implied, places, wanted, c, k)?;
     Ok(lemma)
 }

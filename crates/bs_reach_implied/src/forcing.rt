@@ -5,6 +5,7 @@ use crate::template::{Template, number_at, template_of, write, zeros};
 use bs_bits::Bits;
 use bs_clause::{Lit, Lits, NoMemory};
 use bs_encode::Encoding;
+use bs_seen::Seen;
 use std::alloc::Global;
 
 /// What follows from reset in the first time frames: for each variable of the unrolled clauses what implies it, and for each of the
@@ -297,13 +298,13 @@ fn is_denied(present: &[u32], state: &Bits, f: usize) -> bool
     value != 0 && value != number_of(state.get(f))
 }
 
-/// The flip-flop that has another value than its bit of the state and follows from the fewest clauses, the last of these.
-fn best_denied(present: &[u32], sizes: &[u32], state: &Bits) -> Option<u32> {
+/// The flip-flop whose bit of the state is known, that has another value and follows from the fewest clauses, the last of these.
+fn best_denied(present: &[u32], sizes: &[u32], state: &Seen) -> Option<u32> {
     let mut found = None;
     let mut least = MOST_ROWS;
-    for f in 0..state.len() {
+    for f in 0..state.bits.len() {
         let size = number_at(sizes, f);
-        if size <= least && is_denied(present, state, f) {
+        if size <= least && !state.is_free(f) && is_denied(present, &state.bits, f) {
             least = size;
             found = Some((f % 0x1_0000_0000) as u32);
         }
@@ -343,7 +344,7 @@ fn add_frames(
     into: &mut Implied,
     encoding: &Encoding,
     template: &Template,
-    state: &Bits,
+    state: &Seen,
     k: u32,
 ) -> Result<(), NoMemory> {
     for c in 0..k {
@@ -367,7 +368,7 @@ fn implied_by(
     encoding: &Encoding,
     template: &Template,
     reset: &Bits,
-    state: &Bits,
+    state: &Seen,
     k: u32,
 ) -> Result<Implied, NoMemory> {
     let mut scene = scene_at(alloc, encoding, reset)?;
@@ -384,7 +385,7 @@ pub fn implied_from(
     alloc: Global,
     encoding: &Encoding,
     reset: &Bits,
-    state: &Bits,
+    state: &Seen,
     k: u32,
 ) -> Result<Implied, NoMemory> {
     let template = template_of(alloc, encoding.clauses().slice(), encoding.vars())?;

@@ -1,6 +1,7 @@
 -- A right answer is read as it was written.
 use Rattle.std.proofs.Common.{◌≡◌, ℕ, ◌+◌, Bool, List, ◌++◌, length, refl, ap, sym, subst, ◌∙◌, arith}
 use Rattle.std.proofs.lemmas.List.FromFn.{length-map-range_with_len}
+use Rattle.bs_seen.specs.declared.seen.Seen.{Seen}
 use Rattle.bs_net.specs.Circuit.{Circuit}
 use Rattle.bs_scan.specs.Moments.{state_at}
 use Rattle.bs_reach.specs.declared.reach.Outcome.{Outcome}
@@ -25,12 +26,12 @@ same_text : (r : Reach) → reach_text (written r) ≡ reach_text r
 unfolding head_text log_text
 same_text r = ap (λ (t : List ℕ). head_text r ++ (t ++ log_text r)) (same_execution r.outcome r)
 
-right_outcome : (c : Circuit) (p : List Bool) (k b : ℕ) (r : Reach) (o : Outcome) → IsOutcome c p k b r o → IsOutcome c p k b (shown_at o r) o
+right_outcome : (c : Circuit) (p : Seen) (k b : ℕ) (r : Reach) (o : Outcome) → IsOutcome c p k b r o → IsOutcome c p k b (shown_at o r) o
 right_outcome c p k b r (Reached j) h = h
 right_outcome c p k b r Unreached h = h
 right_outcome c p k b r (Unknown j) h = h
 
-execution_of : (c : Circuit) (p : List Bool) (k b : ℕ) (r : Reach) (o : Outcome) → IsOutcome c p k b r o →
+execution_of : (c : Circuit) (p : Seen) (k b : ℕ) (r : Reach) (o : Outcome) → IsOutcome c p k b r o →
     HasExecution k o (where_reached o r.states) (where_reached o r.inputs)
 execution_of c p k b r (Reached j) h =
     let e = h.1 in (

@@ -1,5 +1,6 @@
 -- An answer and its text.
 use Rattle.std.specs.Prelude.{◌≡◌, ℕ, ◌+◌, ◌<◌, ◌≤◌, ◌^◌, Bool, List, [], length, All, Ok}
+use Rattle.bs_seen.specs.declared.seen.Seen.{Seen}
 use Rattle.bs_log.specs.LineForms.{HasText}
 use Rattle.bs_log.specs.Steps.{HasNoBlock}
 use Rattle.bs_net.specs.Circuit.{Circuit}
@@ -57,12 +58,12 @@ written r = record {
 }
 
 -- what is read of the answer's text is the answer as it is written, and is right
-pub record IsReadBack (c : Circuit) (p : List Bool) (k b : ℕ) (r : Reach) : Type 0 where
+pub record IsReadBack (c : Circuit) (p : Seen) (k b : ℕ) (r : Reach) : Type 0 where
   pub reads : answer_in (reach_text r) ≡ Ok (written r)
   pub right : IsReach c p k b (written r)
 
 -- So is each right answer within the limits.
 abbrev pub RightAnswersAreRead : Type 0
 RightAnswersAreRead =
-    (c : Circuit) (p : List Bool) (k b : ℕ) (r : Reach) → IsReach c p k b r → k ≤ MAX_FRAMES → 1 ≤ b → b ≤ MAX_CONFLICTS → length r.log < 2 ^ 64 →
+    (c : Circuit) (p : Seen) (k b : ℕ) (r : Reach) → IsReach c p k b r → k ≤ MAX_FRAMES → 1 ≤ b → b ≤ MAX_CONFLICTS → length r.log < 2 ^ 64 →
     IsReadBack c p k b r

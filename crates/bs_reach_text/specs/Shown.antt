@@ -20,6 +20,7 @@ report_in r = record {
   stop = stops.Reset;
   states = r.states;
   inputs = r.inputs;
+  free = [];
   log = [];
 }
 

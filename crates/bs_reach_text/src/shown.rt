@@ -3,7 +3,7 @@ ghost use Rattle.std.specs.Prelude.{◌≡◌, IfSome};
 ghost use Rattle.bs_reach_text.specs.ReadingLaw.{HasAnswerText};
 ghost use Rattle.bs_reach_text.specs.Shown.{HasTrace, execution_report, is_reached, report_in};
 
-use bs_bits::List;
+use bs_bits::{Bits, List};
 use bs_log::Log;
 use bs_reach::{Outcome, Reach};
 use bs_report::{Budgets, Report, Stop};
@@ -33,6 +33,7 @@ fn report_in(alloc: Global, answer: Reach) -> Report
         stop: Stop::Reset,
         states,
         inputs,
+        free: Bits::new(alloc),
         log: Log::new(alloc),
     }
 }

@@ -10,13 +10,16 @@ use Rattle.std.proofs.lemmas.Nat.{mul-add-lt}
 use Rattle.std.proofs.Math.Nat.{suc-mul, mul_comm}
 use Rattle.bs_clause.specs.Literal.{literal_value, Satisfies}
 use Rattle.bs_clause.specs.Range.{IsWithin, HasVariables}
+use Rattle.bs_seen.specs.declared.seen.Seen.{Seen}
+use Rattle.bs_seen.specs.Seen.{Shows}
 use Rattle.bs_net.specs.Circuit.{Circuit, next, reset_state}
 use Rattle.bs_scan.specs.Moments.{Run, state_at}
 use Rattle.bs_net.proofs.CallerLemmas.{length_next}
 use Rattle.bs_encode.specs.Encoded.{Encoded}
-use Rattle.bs_encode.specs.Assuming.{signed}
+use Rattle.bs_encode.specs.Assuming.{signed, signed_seen}
 use Rattle.bs_encode.specs.Cycle.{bits_on, ShowsCycle, IsTransition}
 use Rattle.bs_encode.proofs.LiteralLemmas.{signs_true}
+use Rattle.bs_encode.proofs.SeenSigns.{seen_true}
 use Rattle.bs_encode.proofs.RangeLemmas.{join}
 use Rattle.bs_reach_unrolled.specs.Unrolled.{base_of, frame_of, states_at, next_at, links_of, reset_units, unrolled}
 use Rattle.bs_reach_unrolled.specs.Laws.{ReachedIsShown}
@@ -149,13 +152,13 @@ module _ (c : Circuit) (e : Encoded) (t : IsTransition c [] e) (x : ℕ → List
       (reset_is_met k (omega arith))
       (flat_of (Satisfies value) (links_of e) (k - 1) (λ i lt. links_are_met i (omega (arith, lt)))))
 
-  pub shows_run : (j : ℕ) (p : List Bool) → j < k → run c x (suc j) ≡ p →
-      (a : ℕ → Bool) × All (Satisfies a) (unrolled e (reset_state c) k) × All (λ l. literal_value a l ≡ true) (signed (next_at e j) p) × ((v : ℕ) → k * n < v →
+  pub shows_run : (j : ℕ) (p : Seen) → j < k → Shows p (run c x (suc j)) →
+      (a : ℕ → Bool) × All (Satisfies a) (unrolled e (reset_state c) k) × All (λ l. literal_value a l ≡ true) (signed_seen (next_at e j) p) × ((v : ℕ) → k * n < v →
       a v ≡ others v)
   shows_run j p lt is = (
     value,
     All-from_recursion (Satisfies value) (unrolled e (reset_state c) k) all_met,
-    All-from_recursion (λ l. literal_value value l ≡ true) (signed (next_at e j) p) (signs_true value (next_at e j) p (next_is j lt ∙ is)),
+    All-from_recursion (λ l. literal_value value l ≡ true) (signed_seen (next_at e j) p) (seen_true value (next_at e j) p (run c x (suc j)) (next_is j lt) is),
     above,
   )
 
@@ -163,12 +166,12 @@ pub reached_is_shown : (c : Circuit) (e : Encoded) → IsTransition c [] e → R
 reached_is_shown c e t k zero p others one few r = absurd (omega (arith, one))
 reached_is_shown c e t k (suc j) p others one few r =
     let x : ℕ → List Bool = input_at c r.inputs in
-    let ends : run c x (suc j) ≡ p = sym (as_run c r.inputs (suc j) (omega (arith, r.count))) ∙ r.ends in
+    let ends : Shows p (run c x (suc j)) = subst (Shows p) (as_run c r.inputs (suc j) (omega (arith, r.count))) r.ends in
     let back : j ≡ suc j - 1 = omega arith in
     let shown = shows_run c e t x (input_width c r.inputs r.widths) others k j p few ends in
     record {
       value = shown.0;
       clauses = shown.1;
-      next = subst (λ (m : ℕ). All (λ l. IsTrue (literal_value shown.0 l)) (signed (next_at e m) p)) back shown.2;
+      next = subst (λ (m : ℕ). All (λ l. IsTrue (literal_value shown.0 l)) (signed_seen (next_at e m) p)) back shown.2;
       above = shown.3;
     }

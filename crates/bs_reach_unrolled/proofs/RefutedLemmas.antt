@@ -15,10 +15,11 @@ use Rattle.bs_log.specs.Refutation.{Suits, blocks_of}
 use Rattle.bs_log.specs.Steps.{HasNoBlock}
 use Rattle.bs_log.proofs.Finishes.{no_blocks, no_block_before, no_block_reversed, finish_is_inside}
 use Rattle.bs_log.proofs.Laws.{finished_steps_are_refuted, step_of-positive}
+use Rattle.bs_seen.specs.declared.seen.Seen.{Seen}
 use Rattle.bs_net.specs.Circuit.{Circuit, reset_state}
 use Rattle.bs_encode.specs.Tables.{lit}
 use Rattle.bs_encode.specs.Encoded.{Encoded}
-use Rattle.bs_encode.specs.Assuming.{signed}
+use Rattle.bs_encode.specs.Assuming.{signed_seen}
 use Rattle.bs_reach_unrolled.specs.Unrolled.{next_at, length_assumes, reach_problem}
 use Rattle.bs_encode.specs.Cycle.{IsTransition}
 use Rattle.bs_reach_unrolled.specs.Laws.{ShowsReached, FinishedIsNotReached}
@@ -31,7 +32,7 @@ got [] i d = refl
 got (x ∷ xs) zero d = refl
 got (x ∷ xs) (suc i) d = got xs i d
 
-assumed_at : (e : Encoded) (reset : List Bool) (k : ℕ) (p : List Bool) (count j : ℕ) → 1 ≤ j → j ≤ count →
+assumed_at : (e : Encoded) (reset : List Bool) (k : ℕ) (p : Seen) (count j : ℕ) → 1 ≤ j → j ≤ count →
     assumptions_of (reach_problem e reset k p count) j ≡ length_assumes e k p j
 assumed_at e reset k p count j one few =
     got (map (length_assumes e k p) (range_with_len 1 count)) (j - 1) []
@@ -66,6 +67,6 @@ finished_is_not_reached c e t k count p log before after id few ok none parts re
           shown.above (base + other) (omega (arith, from)) ∙ ne_eqb (base + other) (base + j) (λ same. differ (omega (arith, same)));
     } in
     let true_ones : All (λ l. IsTrue (literal_value v l)) (length_assumes e k p j) =
-    All-cons (λ l. IsTrue (literal_value v l)) (lit (base + j) true) (signed (next_at e (j - 1)) p) (ap (λ b. beq b true) activation_is) shown.next in
+    All-cons (λ l. IsTrue (literal_value v l)) (lit (base + j) true) (signed_seen (next_at e (j - 1)) p) (ap (λ b. beq b true) activation_is) shown.next in
     finished_steps_are_refuted q log before after id v ok parts suits
     (subst (λ (a : Clause). All (λ l. IsTrue (literal_value v l)) a) (sym (assumed_at e (reset_state c) k p count j one low)) true_ones)

@@ -5,13 +5,16 @@ use Rattle.std.specs.List.{AllByRecursion, range_with_len, flat_map}
 use Rattle.std.proofs.lemmas.List.Elements.{recursion_from_All, All-from_recursion}
 use Rattle.std.proofs.lemmas.List.FromFn.{length-map-range_with_len, get_or-map-range_with_len, map-range_with_len_more}
 use Rattle.bs_clause.specs.Literal.{Literal, Clause, literal_value, Satisfies}
+use Rattle.bs_seen.specs.declared.seen.Seen.{Seen}
+use Rattle.bs_seen.specs.Seen.{Shows}
 use Rattle.bs_net.specs.Circuit.{Circuit, next, reset_state}
 use Rattle.bs_scan.specs.Moments.{Run, state_at}
 use Rattle.bs_encode.specs.Encoded.{Encoded}
-use Rattle.bs_encode.specs.Assuming.{signed}
+use Rattle.bs_encode.specs.Assuming.{signed, signed_seen}
 use Rattle.bs_encode.specs.Cycle.{bits_on, IsTransition}
 use Rattle.bs_encode.proofs.DistinctLemmas.{left_all, right_all}
 use Rattle.bs_encode.proofs.LiteralLemmas.{AllTrue, bits_shown}
+use Rattle.bs_encode.proofs.SeenSigns.{seen_shown}
 use Rattle.bs_reach_unrolled.specs.Execution.{IsExecution}
 use Rattle.bs_reach_unrolled.specs.Unrolled.{base_of, frame_of, states_at, inputs_at, next_at, links_of, reset_units, unrolled}
 use Rattle.bs_reach_unrolled.specs.Laws.{inputs_shown, SolutionsAreExecutions}
@@ -96,8 +99,8 @@ module _ (c : Circuit) (e : Encoded) (t : IsTransition c [] e) (a : ℕ → Bool
       raised_bits a (base_of e 0) e.states ∙ (zero_base a e.variables e.states
       ∙ bits_shown a e.states (reset_state c) (sym wide) (units_say a (signed e.states (reset_state c)) met))
 
-  shown_execution : (k j : ℕ) (p : List Bool) → suc j ≤ suc k → AllByRecursion (Satisfies a) (unrolled e (reset_state c) (suc k)) →
-      AllTrue a (signed (next_at e j) p) → length p ≡ length c.flops → length (reset_state c) ≡ length c.flops →
+  shown_execution : (k j : ℕ) (p : Seen) → suc j ≤ suc k → AllByRecursion (Satisfies a) (unrolled e (reset_state c) (suc k)) →
+      AllTrue a (signed_seen (next_at e j) p) → length p.bits ≡ length c.flops → length (reset_state c) ≡ length c.flops →
       IsExecution c (suc j) p (map S (range_with_len 0 (suc j)) ++ N j ∷ []) (map X (range_with_len 0 (suc j)))
   shown_execution k j p few met ends wide reset_wide =
       let n : ℕ = suc k in
@@ -112,7 +115,7 @@ module _ (c : Circuit) (e : Encoded) (t : IsTransition c [] e) (a : ℕ → Bool
       λ i to. frames_join i (part_of_flat (Satisfies a) (links_of e) (n - 1) (right_all (Satisfies a) us ks others) i (omega (arith, to, few))) in
       let start : S 0 ≡ reset_state c = starts k (left_all (Satisfies a) us ks others) (t.states_width ∙ sym reset_wide) in
       let xs : Run = map X (range_with_len 0 (suc j)) in
-      let end : N j ≡ p = bits_shown a (next_at e j) p (wide ∙ (sym t.next_width ∙ sym (length-raised_all (base_of e j) e.next))) ends in
+      let end : Shows p (N j) = seen_shown a (next_at e j) p (wide ∙ (sym t.next_width ∙ sym (length-raised_all (base_of e j) e.next))) ends in
       record {
         count = length-map-range_with_len X 0 (suc j);
         widths =
@@ -120,7 +123,7 @@ module _ (c : Circuit) (e : Encoded) (t : IsTransition c [] e) (a : ℕ → Bool
             (widths_of X (length c.inputs) (λ i. length-bits_on a (inputs_at e i) ∙ (length-raised_all (base_of e i) e.inputs ∙ t.inputs_width))
             (range_with_len 0 (suc j)));
         states_are = run_states c S X N j start steps joins;
-        ends = run_ends c S X N j start steps joins ∙ end;
+        ends = subst (Shows p) (sym (run_ends c S X N j start steps joins)) end;
       }
 
 pub solutions_are_executions : (c : Circuit) (e : Encoded) → IsTransition c [] e → length (reset_state c) ≡ length c.flops → SolutionsAreExecutions c e
@@ -128,9 +131,9 @@ solutions_are_executions c e t reset_wide k zero a p one few met ends wide = abs
 solutions_are_executions c e t reset_wide zero (suc j) a p one few met ends wide = absurd (omega (arith, few))
 solutions_are_executions c e t reset_wide (suc k) (suc j) a p one few met ends wide =
     let back : suc j - 1 ≡ j = omega arith in
-    let last : AllTrue a (signed (next_at e j) p) =
-    subst (λ (m : ℕ). AllTrue a (signed (next_at e m) p)) back
-    (recursion_from_All (λ l. literal_value a l ≡ true) (signed (next_at e (suc j - 1)) p) ends) in
+    let last : AllTrue a (signed_seen (next_at e j) p) =
+    subst (λ (m : ℕ). AllTrue a (signed_seen (next_at e m) p)) back
+    (recursion_from_All (λ l. literal_value a l ≡ true) (signed_seen (next_at e (suc j - 1)) p) ends) in
     let found = shown_execution c e t a k j p few (recursion_from_All (Satisfies a) (unrolled e (reset_state c) (suc k)) met) last wide reset_wide in
     subst
     (λ (m : ℕ). IsExecution c (suc j) p (map (λ i. bits_on a (states_at e i)) (range_with_len 0 (suc j)) ++ bits_on a (next_at e m) ∷ [])

@@ -4,9 +4,10 @@ use Rattle.std.specs.Prelude.{ℕ, zero, suc, ◌+◌, ◌-◌, ◌*◌, Bool, t
 use Rattle.std.specs.List.{range_with_len, flat_map}
 use Rattle.bs_clause.specs.Literal.{Literal, Clause}
 use Rattle.bs_log.specs.History.{Problem}
+use Rattle.bs_seen.specs.declared.seen.Seen.{Seen}
 use Rattle.bs_encode.specs.Tables.{lit}
 use Rattle.bs_encode.specs.Encoded.{Encoded}
-use Rattle.bs_encode.specs.Assuming.{signed}
+use Rattle.bs_encode.specs.Assuming.{signed, signed_seen}
 use Rattle.bs_encode.specs.Frame.{raised_all, links}
 
 -- how much higher the variables of time frame number c are, from 0
@@ -43,12 +44,12 @@ unrolled e reset k =
     ++ (reset_units e reset k
     ++ flat_map (links_of e) (range_with_len 0 (k - 1)))
 
--- what step number j, from 1, assumes: its activation literal, and that time frame j - 1 leads to p
-abbrev pub length_assumes : Encoded → ℕ → List Bool → ℕ → Clause
-length_assumes e k p j = lit (k * e.variables + j) true ∷ signed (next_at e (j - 1)) p
+-- what step number j, from 1, assumes: its activation literal, and that time frame j - 1 leads to a state that shows p
+abbrev pub length_assumes : Encoded → ℕ → Seen → ℕ → Clause
+length_assumes e k p j = lit (k * e.variables + j) true ∷ signed_seen (next_at e (j - 1)) p
 
 -- what a log with a step for each length from 1 to `count` is about
-abbrev pub reach_problem : Encoded → List Bool → ℕ → List Bool → ℕ → Problem
+abbrev pub reach_problem : Encoded → List Bool → ℕ → Seen → ℕ → Problem
 reach_problem e reset k p count =
     record {
       vars = k * e.variables;

@@ -1,6 +1,6 @@
 //! The unrolled clauses, and what the step of a length assumes over them.
 ghost use Rattle.std.specs.Prelude.{◌≡◌, ◌<◌, ◌≤◌, ◌++◌, [], ◌∷◌, map, length, IfOk, OnOk};
-ghost use Rattle.bs_encode.specs.Assuming.{signed};
+ghost use Rattle.bs_encode.specs.Assuming.{signed, signed_seen};
 ghost use Rattle.bs_reach_unrolled.specs.Unrolled.{next_at, unrolled};
 ghost use Rattle.bs_reach_unrolled.specs.Room.{IsUnrollable};
 
@@ -8,7 +8,8 @@ use crate::frames::add_frames;
 use crate::links::add_all_links;
 use bs_bits::Bits;
 use bs_clause::{Clauses, Lit, Lits, NoMemory};
-use bs_encode::{Encoding, push_signed, raise_all};
+use bs_encode::{Encoding, push_seen, push_signed, raise_all};
+use bs_seen::Seen;
 use std::alloc::Global;
 
 /// Puts a unit of each literal at the end.
@@ -50,30 +51,31 @@ pub fn unroll(alloc: Global, encoding: &Encoding, reset: &Bits, k: u32) -> Resul
     Ok(all)
 }
 
-/// An activation literal, and literals with the signs of a state.
-fn guarded(alloc: Global, activation: Lit, next: &[Lit], state: &Bits) -> Result<Lits, NoMemory>
-    requires { length next.now ≡ length state.now }
-    ensures { IfOk result (λ all. all ≡ activation ∷ signed next.now state.now) }
+/// An activation literal, and literals with the signs of a state where it is known.
+fn guarded(alloc: Global, activation: Lit, next: &[Lit], state: &Seen) -> Result<Lits, NoMemory>
+    requires { length next.now ≡ length state.now.bits }
+    ensures { IfOk result (λ all. all ≡ activation ∷ signed_seen next.now state.now) }
 {
     let mut all = Lits::new(alloc);
     all.push(activation)?;
-    push_signed(&mut all, next, state)?;
+    push_seen(&mut all, next, state)?;
     Ok(all)
 }
 
-/// What the step of a length assumes: its activation literal, and that time frame number `c` of the `k` time frames, from 0, leads to the state.
+/// What the step of a length assumes: its activation literal, and that time frame number `c` of the `k` time frames, from 0, leads to a state that
+/// shows this.
 pub fn assume_length(
     alloc: Global,
     encoding: &Encoding,
     activation: Lit,
-    state: &Bits,
+    state: &Seen,
     c: u32,
     k: u32,
 ) -> Result<Lits, NoMemory>
     requires unrollable { IsUnrollable encoding.now k }
     requires within { c < k }
-    requires width { length encoding.now.next ≡ length state.now }
-    ensures { IfOk result (λ all. all ≡ activation ∷ signed (next_at encoding.now c) state.now) }
+    requires width { length encoding.now.next ≡ length state.now.bits }
+    ensures { IfOk result (λ all. all ≡ activation ∷ signed_seen (next_at encoding.now c) state.now) }
 {
     let next = raise_all(alloc, encoding.next(), c * encoding.vars())?;
     let all = guarded(alloc, activation, next.slice(), state)?;

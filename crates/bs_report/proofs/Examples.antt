@@ -1,12 +1,14 @@
 -- The text of a report, computed.
-use Rattle.std.proofs.Common.{◌≡◌, ℕ, true, false, [], ◌∷◌, ◌++◌, refl, Some, None}
+use Rattle.std.proofs.Common.{◌≡◌, ℕ, true, false, [], ◌∷◌, ◌++◌, refl, Some, None, Ok}
 use Rattle.std.specs.Prelude.{codes}
 use Rattle.std.specs.Fmt.{digits}
+use Rattle.bs_seen.specs.Seen.{whole}
 use Rattle.bs_clause.specs.Literal.{Literal}
 use Rattle.bs_log.specs.declared.line.Line.TheVariants as lines
 use Rattle.bs_report.specs.declared.report.ListEnd.TheVariants as ends
 use Rattle.bs_report.specs.declared.report.Stop.TheVariants as stops
 use Rattle.bs_report.specs.declared.report.Report.{Report}
+use Rattle.bs_report.specs.Reading.{report_in}
 use Rattle.bs_report.specs.Text.{report_text, head_text, tail_text}
 
 abbrev pub yes : ℕ → Literal
@@ -21,7 +23,7 @@ report =
       depth = 1;
       budgets = record { steps = 64; candidates = 256; conflicts = 100000 };
       steps = record {
-        present = true ∷ [];
+        present = whole (true ∷ []);
         stored = [];
         older = None;
         cands = record { state = false ∷ []; input = []; before = None } ∷ [];
@@ -31,6 +33,7 @@ report =
       stop = stops.Reset;
       states = (false ∷ []) ∷ (true ∷ []) ∷ [];
       inputs = [] ∷ [];
+      free = [];
       log = lines.Solve ∷ lines.Block 6 (not_ 5 ∷ yes 3 ∷ []) ∷ lines.Solve ∷ lines.Lemma 7 (not_ 5 ∷ not_ 4 ∷ []) (4 ∷ 1 ∷ 6 ∷ []) ∷ lines.Finish 7
           ∷ lines.Retire 8 ∷ lines.Delete (6 ∷ 7 ∷ []) ∷ [];
     }
@@ -50,7 +53,7 @@ deeper =
       depth = 2;
       budgets = record { steps = 64; candidates = 256; conflicts = 100000 };
       steps = record {
-        present = true ∷ true ∷ [];
+        present = whole (true ∷ true ∷ []);
         stored = true ∷ [];
         older = Some (false ∷ []);
         cands =
@@ -62,7 +65,7 @@ deeper =
         end = ends.Finished 30;
         hit = Some (record { run = 1; cycle = 1; state = true ∷ true ∷ [] });
       } ∷ record {
-        present = true ∷ true ∷ [];
+        present = whole (true ∷ true ∷ []);
         stored = false ∷ [];
         older = None;
         cands = record { state = false ∷ false ∷ []; input = true ∷ []; before = None } ∷ [];
@@ -72,6 +75,7 @@ deeper =
       stop = stops.Nohit;
       states = (true ∷ true ∷ []) ∷ [];
       inputs = [];
+      free = [];
       log = [];
     }
 
@@ -82,3 +86,39 @@ spells_deeper : report_text deeper ≡
     ++ codes "trace 0\nstate 11\nlog 0\nend\n"))
 unfolding head_text tail_text digits
 spells_deeper = refl
+
+-- a dump of which the second flip-flop is not known, and a list without a hit
+abbrev pub partial : Report
+partial =
+    record {
+      depth = 1;
+      budgets = record { steps = 64; candidates = 256; conflicts = 100000 };
+      steps = record {
+        present = record { bits = true ∷ false ∷ []; free = false ∷ true ∷ [] };
+        stored = true ∷ [];
+        older = None;
+        cands = record { state = false ∷ true ∷ []; input = true ∷ []; before = None } ∷ record {
+          state = true ∷ true ∷ [];
+          input = true ∷ [];
+          before = None;
+        } ∷ [];
+        end = ends.Finished 30;
+        hit = None;
+      } ∷ [];
+      stop = stops.Nohit;
+      states = (true ∷ false ∷ []) ∷ [];
+      inputs = [];
+      free = false ∷ true ∷ [];
+      log = [];
+    }
+
+spells_partial : report_text partial ≡
+    codes "backspace 1\nasked 64 candidates 256 conflicts 100000\n"
+    ++ (codes "step 1\npresent 1-\nstored 1\ncand 01 input 1\ncand 11 input 1\nlist finished 30\nnohit\nstop nohit\n"
+    ++ codes "trace 0\nstate 1-\nlog 0\nend\n")
+unfolding head_text tail_text digits
+spells_partial = refl
+
+reads_partial : report_in (report_text partial) ≡ Ok partial
+unfolding head_text tail_text digits report_in
+reads_partial = refl

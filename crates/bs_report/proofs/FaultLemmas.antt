@@ -13,6 +13,8 @@ use Rattle.bs_bits.specs.Reading.{◌>>=◌}
 use Rattle.bs_bits.proofs.LineLemmas.{nothing_left}
 use Rattle.bs_bits.proofs.LineTextLemmas.{Lacks, piece_first}
 use Rattle.bs_log.specs.declared.line.Line.TheVariants as lines
+use Rattle.bs_seen.specs.declared.seen.Seen.{Seen}
+use Rattle.bs_seen.specs.Seen.{whole}
 use Rattle.bs_report.specs.declared.fault.ReportFault.{ReportFault}
 use Rattle.bs_report.specs.declared.fault.ReportFault.TheVariants as faults
 use Rattle.bs_report.specs.declared.place.PartialStep.{PartialStep}
@@ -222,7 +224,7 @@ from_log : (r : Report) → Completes places.Log r
 from_log r = by_line places.Log r (codes "log 0") (log_place 0, r) refl (from_lines 0 r)
 
 abbrev with_state : Report → Report
-with_state r = record r { states = r.states ++ [] ∷ [] }
+with_state r = record r { states = r.states ++ [] ∷ []; free = [] }
 
 abbrev with_input : Report → Report
 with_input r = record r { inputs = r.inputs ++ [] ∷ [] }
@@ -259,10 +261,10 @@ from_listing : (b : PartialStep) (cands : List Cand) (r : Report) → Completes 
 from_listing b cands r =
     by_line (places.Listing b cands) r (codes "list candidates") (places.Hit b cands ends.Candidates, r) refl (from_hit b cands ends.Candidates r)
 
-from_older : (p s : List Bool) (r : Report) → Completes (places.Older p s) r
+from_older : (p : Seen) (s : List Bool) (r : Report) → Completes (places.Older p s) r
 from_older p s r = by_line (places.Older p s) r (codes "older none") (places.Listing (begun p s None) [], r) refl (from_listing (begun p s None) [] r)
 
-from_stored : (p : List Bool) (r : Report) → Completes (places.Stored p) r
+from_stored : (p : Seen) (r : Report) → Completes (places.Stored p) r
 from_stored p r = by_line (places.Stored p) r (codes "stored .") (behind_stored r.depth p [], r) refl (by (r.depth == 1))
   where
     by : (one : Bool) → Completes (cond one (places.Listing (begun p [] None) []) (places.Older p [])) r
@@ -270,7 +272,7 @@ from_stored p r = by_line (places.Stored p) r (codes "stored .") (behind_stored 
     by false = from_older p [] r
 
 from_present : (r : Report) → Completes places.Present r
-from_present r = by_line places.Present r (codes "present .") (places.Stored [], r) refl (from_stored [] r)
+from_present r = by_line places.Present r (codes "present .") (places.Stored (whole []), r) refl (from_stored (whole []) r)
 
 abbrev with_least : Report → Report
 with_least r = record r { budgets = record { steps = 1; candidates = 1; conflicts = 1 } }

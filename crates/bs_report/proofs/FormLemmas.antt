@@ -9,6 +9,10 @@ use Rattle.std.proofs.lemmas.List.{append-nil}
 use Rattle.bs_bits.specs.Text.{bits_text, bits_of}
 use Rattle.bs_bits.specs.Lines.{words_of, number_in, digits_in}
 use Rattle.bs_bits.proofs.TextLemmas.{bits_again}
+use Rattle.bs_seen.specs.declared.seen.Seen.{Seen}
+use Rattle.bs_seen.specs.Seen.{IsSeen}
+use Rattle.bs_seen.specs.SeenText.{seen_of, seen_text}
+use Rattle.bs_seen.proofs.TextLemmas.{seen_again, seen_lacks}
 use Rattle.bs_bits.proofs.LineTextLemmas.{Lacks, lacks_append, bits_lack, number_lacks}
 use Rattle.bs_bits.proofs.NumberLemmas.{decimal_canonical, number_of_decimal}
 use Rattle.bs_clause.specs.Literal.{Literal}
@@ -30,7 +34,7 @@ use Rattle.bs_report.specs.declared.report.ListEnd.{ListEnd}
 use Rattle.bs_report.specs.declared.report.ListEnd.TheVariants.{Finished, Candidates as ByCandidates, Conflicts as ByConflicts}
 use Rattle.bs_report.specs.declared.report.Stop.{Stop}
 use Rattle.bs_report.specs.declared.report.Stop.TheVariants.{Reset, Length, Nohit, Empty, Candidates, Conflicts}
-use Rattle.bs_report.specs.Forms.{◌>>=◌, next_in, behind, at_end, within, number_within, number_behind, bits_behind, bits_next, count_in, bits_in}
+use Rattle.bs_report.specs.Forms.{◌>>=◌, next_in, behind, at_end, within, number_within, number_behind, bits_behind, bits_next, seen_behind, seen_in, count_in, bits_in}
 use Rattle.bs_report.specs.Forms.{budgets_in, depth_in, older_in, source_in, before_in, cand_in, end_of, end_in, moment_in, hit_in, stop_in}
 use Rattle.bs_report.specs.Text.{title, before_text, cand_words, end_word, stop_word, IsOfDepth, HasEndText}
 
@@ -45,6 +49,9 @@ number_word n h = is_word (decimal n) (number_lacks 32 n (omega arith) h)
 
 pub bits_word : (bs : List Bool) → IsWord (bits_text bs)
 bits_word bs = is_word (bits_text bs) (bits_lack 32 bs (omega arith))
+
+pub seen_word : (s : Seen) → IsWord (seen_text s)
+seen_word s = is_word (seen_text s) (seen_lacks 32 s (omega arith))
 
 -- ---- numbers
 
@@ -94,6 +101,18 @@ pub bits_line_again : (tag text : List ℕ) (bs : List Bool) → words_of text �
 bits_line_again tag text bs w t =
     ap (λ (ws : List (List ℕ)). bits_behind tag ws >>= λ found. at_end found.1 found.0) w
     ∙ given (bits_behind tag (tag ∷ bits_text bs ∷ [])) (bs, []) (λ found. at_end found.1 found.0) (bits_behind_again tag bs [] t)
+
+seen_behind_again : (tag : List ℕ) (s : Seen) (ws : List (List ℕ)) → IsSeen s → bytes_eq tag tag ≡ true →
+    seen_behind tag (tag ∷ seen_text s ∷ ws) ≡ Some (s, ws)
+seen_behind_again tag s ws sound t =
+    given (behind tag (tag ∷ seen_text s ∷ ws)) (seen_text s, ws) (λ found. seen_of found.0 >>= λ seen. Some (seen, found.1))
+    (behind_again tag (seen_text s) ws t)
+    ∙ given (seen_of (seen_text s)) s (λ seen. Some (seen, ws)) (seen_again s sound)
+
+pub seen_line_again : (tag text : List ℕ) (s : Seen) → IsSeen s → words_of text ≡ tag ∷ seen_text s ∷ [] → bytes_eq tag tag ≡ true → seen_in tag text ≡ Some s
+seen_line_again tag text s sound w t =
+    ap (λ (ws : List (List ℕ)). seen_behind tag ws >>= λ found. at_end found.1 found.0) w
+    ∙ given (seen_behind tag (tag ∷ seen_text s ∷ [])) (s, []) (λ found. at_end found.1 found.0) (seen_behind_again tag s [] sound t)
 
 pub budgets_again : (b : Budgets) → 1 ≤ b.steps → b.steps ≤ MAX_STEPS → 1 ≤ b.candidates → b.candidates ≤ MAX_CANDIDATES → 1 ≤ b.conflicts →
     b.conflicts ≤ MAX_CONFLICTS →
@@ -287,6 +306,9 @@ words_of_count tag n w h = words_joined tag (decimal n ∷ []) (w, (number_word 
 
 pub words_of_bits : (tag : List ℕ) (bs : List Bool) → IsWord tag → words_of (tag ++ 32 ∷ bits_text bs) ≡ tag ∷ bits_text bs ∷ []
 words_of_bits tag bs w = words_joined tag (bits_text bs ∷ []) (w, (bits_word bs, tt))
+
+pub words_of_seen : (tag : List ℕ) (s : Seen) → IsWord tag → words_of (tag ++ 32 ∷ seen_text s) ≡ tag ∷ seen_text s ∷ []
+words_of_seen tag s w = words_joined tag (seen_text s ∷ []) (w, (seen_word s, tt))
 
 -- ---- log lines
 

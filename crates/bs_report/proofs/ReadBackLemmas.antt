@@ -1,5 +1,5 @@
 -- A report that has a text is read back from it.
-use Rattle.std.proofs.Common.{◌≡◌, ℕ, suc, ◌<◌, ◌+◌, ◌-◌, ◌^◌, Bool, true, false, cond, List, [], ◌∷◌, ◌++◌, length, get_or, refl, arith, ap, sym, subst}
+use Rattle.std.proofs.Common.{◌≡◌, ℕ, suc, ◌<◌, ◌+◌, ◌-◌, ◌^◌, Bool, true, false, cond, List, [], ◌∷◌, ◌++◌, map, length, get_or, refl, arith, ap, sym, subst}
 use Rattle.std.proofs.Common.{◌∙◌, Option, Some, None, append_assoc}
 use Rattle.std.specs.Prelude.{◌==◌, codes, decimal, option_map, Err}
 use Rattle.std.specs.List.{AllByRecursion as Each, flat_map, range_with_len}
@@ -10,6 +10,10 @@ use Rattle.bs_bits.specs.Text.{bits_text}
 use Rattle.bs_bits.specs.Lines.{line, pieces_of}
 use Rattle.bs_bits.specs.Reading.{◌>>=◌}
 use Rattle.bs_bits.proofs.LineTextLemmas.{Lacks, lacks_append, piece_first, bits_lack, number_lacks}
+use Rattle.bs_seen.specs.declared.seen.Seen.{Seen}
+use Rattle.bs_seen.specs.Seen.{whole, IsSeen}
+use Rattle.bs_seen.specs.SeenText.{seen_text}
+use Rattle.bs_seen.proofs.TextLemmas.{seen_lacks}
 use Rattle.bs_log.specs.declared.line.Line.{Line}
 use Rattle.bs_log.specs.LineForms.{HasText}
 use Rattle.bs_log.specs.LineText.{line_text}
@@ -28,11 +32,14 @@ use Rattle.bs_report.specs.declared.report.Stop.{Stop}
 use Rattle.bs_report.specs.declared.report.Stop.TheVariants as stops
 use Rattle.bs_report.specs.declared.report.Step.{Step}
 use Rattle.bs_report.specs.declared.report.Report.{Report}
-use Rattle.bs_report.specs.Reading.{Reached, begins, turned, begun, behind_stored, more_listed, with_step, behind_state, log_place, taken, is_done}
+use Rattle.bs_report.specs.Reading.{Reached, begins, turned, begun, behind_stored, more_listed, with_step, may_stand, standing, with_state}
+use Rattle.bs_report.specs.Reading.{behind_state, log_place, taken, is_done}
 use Rattle.bs_report.specs.Reading.{line_or_fault, ended, report_from, nothing_read, report_in}
-use Rattle.bs_report.specs.Text.{title, cand_words, cand_text, older_text, end_word, hit_text, step_text, steps_text, stop_word, state_text, move_text}
+use Rattle.bs_report.specs.Text.{title, cand_words, cand_text, older_text, end_word, hit_text, step_text, steps_text, stop_word, state_text, state_at, move_text}
 use Rattle.bs_report.specs.Text.{trace_text, budgets_text, head_text, tail_text, IsOfDepth, HasEndText, HasHitText, HasStepText, HasReportText}
 use Rattle.bs_report.specs.ReadingLaw.{ReportsReadBack}
+use Rattle.bs_report.proofs.TraceLemmas.{seens, seens_bits, seens_free, free_of, AreStates, are_states, FirstSeen, first_seen}
+use Rattle.bs_report.proofs.FormLemmas.{seen_line_again, words_of_seen}
 use Rattle.bs_report.proofs.FormLemmas.{count_again, bits_line_again, budgets_again, title_again, title_lacks, older_again, older_lacks, cand_again}
 use Rattle.bs_report.proofs.FormLemmas.{cand_lacks, end_again, hit_again, stop_again, words_of_count, words_of_bits, log_line_lacks}
 use Rattle.bs_report.proofs.ReadingLemmas.{line_from}
@@ -78,7 +85,7 @@ one_of place next r after a b rest lacks undone t =
 -- ---- a step
 
 -- behind the stored signature
-older_goes : (r : Report) (p s : List Bool) (older : Option (List Bool)) (b rest : List ℕ) → IsOfDepth r.depth older →
+older_goes : (r : Report) (p : Seen) (s : List Bool) (older : Option (List Bool)) (b rest : List ℕ) → IsOfDepth r.depth older →
     Goes (behind_stored r.depth p s) r ((older_text r.depth older ++ b) ++ rest) (places.Listing (begun p s older) []) r (b ++ rest)
 older_goes r p s older b rest h = by (r.depth == 1) refl
   where
@@ -146,11 +153,12 @@ step_goes r number step rest h e small =
     (one_of places.Turn places.Present r r (codes "step " ++ decimal number) rest1 rest
     (lacks_append 10 (codes "step ") (decimal number) (refl, (refl, (refl, (refl, (refl, tt))))) (number_lacks 10 number (omega arith) small)) refl begins_it)
     (on
-    (one_of places.Present (places.Stored step.present) r r (codes "present " ++ bits_text step.present) rest2 rest
-    (lacks_append 10 (codes "present ") (bits_text step.present) (refl, (refl, (refl, (refl, (refl, (refl, (refl, (refl, tt))))))))
-    (bits_lack 10 step.present (omega arith))) refl
-    (ap (λ (o : Option (List Bool)). option_map (λ (place : Place). (place, r)) (option_map (λ (s : List Bool). places.Stored s) o))
-    (bits_line_again (codes "present") (codes "present " ++ bits_text step.present) step.present (words_of_bits (codes "present") step.present refl) refl)))
+    (one_of places.Present (places.Stored step.present) r r (codes "present " ++ seen_text step.present) rest2 rest
+    (lacks_append 10 (codes "present ") (seen_text step.present) (refl, (refl, (refl, (refl, (refl, (refl, (refl, (refl, tt))))))))
+    (seen_lacks 10 step.present (omega arith))) refl
+    (ap (λ (o : Option Seen). option_map (λ (place : Place). (place, r)) (option_map (λ (s : Seen). places.Stored s) o))
+    (seen_line_again (codes "present") (codes "present " ++ seen_text step.present) step.present h.present
+    (words_of_seen (codes "present") step.present refl) refl)))
     (on
     (one_of (places.Stored step.present) (behind_stored r.depth step.present step.stored) r r (codes "stored " ++ bits_text step.stored) rest3 rest
     (lacks_append 10 (codes "stored ") (bits_text step.stored) (refl, (refl, (refl, (refl, (refl, (refl, (refl, tt)))))))
@@ -182,7 +190,7 @@ step_goes r number step rest h e small =
     rest2 = line (codes "stored " ++ bits_text step.stored) ++ rest3
 
     rest1 : List ℕ
-    rest1 = line (codes "present " ++ bits_text step.present) ++ rest2
+    rest1 = line (codes "present " ++ seen_text step.present) ++ rest2
 
     begins_it : taken places.Turn r (codes "step " ++ decimal number) ≡ Some (places.Present, r)
     begins_it =
@@ -207,29 +215,30 @@ steps_go r number (s ∷ ss) rest h e few =
 
 -- ---- the trace
 
-abbrev with_trace : Report → List (List Bool) → List (List Bool) → Report
-with_trace r states inputs = record r { states = states; inputs = inputs }
+abbrev with_trace : Report → List (List Bool) → List (List Bool) → List Bool → Report
+with_trace r states inputs free = record r { states = states; inputs = inputs; free = free }
 
-state_goes : (r : Report) (s : List Bool) (left : ℕ) (next : Place) (rest : List ℕ) → behind_state left ≡ next →
-    Goes (places.State left) r (state_text s ++ rest) next (with_trace r (r.states ++ s ∷ []) r.inputs) rest
-state_goes r s left next rest e =
-    one (places.State left) next r (with_trace r (r.states ++ s ∷ []) r.inputs) (codes "state " ++ bits_text s) rest
-    (lacks_append 10 (codes "state ") (bits_text s) (refl, (refl, (refl, (refl, (refl, (refl, tt)))))) (bits_lack 10 s (omega arith))) refl
-    (ap (option_map (λ (s : List Bool). (behind_state left, record r { states = r.states ++ s ∷ [] })))
-    (bits_line_again (codes "state") (codes "state " ++ bits_text s) s (words_of_bits (codes "state") s refl) refl)
-    ∙ ap (λ (place : Place). Some (place, with_trace r (r.states ++ s ∷ []) r.inputs)) e)
+state_goes : (r : Report) (s : Seen) (left : ℕ) (next : Place) (rest : List ℕ) → IsSeen s → may_stand left s ≡ true → behind_state left ≡ next →
+    Goes (places.State left) r (state_text s ++ rest) next (with_state r s) rest
+state_goes r s left next rest sound may e =
+    one (places.State left) next r (with_state r s) (codes "state " ++ seen_text s) rest
+    (lacks_append 10 (codes "state ") (seen_text s) (refl, (refl, (refl, (refl, (refl, (refl, tt)))))) (seen_lacks 10 s (omega arith))) refl
+    (ap (λ (o : Option Seen). option_map (λ (s : Seen). (behind_state left, with_state r s)) (standing left o))
+    (seen_line_again (codes "state") (codes "state " ++ seen_text s) s sound (words_of_seen (codes "state") s refl) refl)
+    ∙ (ap (λ (b : Bool). option_map (λ (s : Seen). (behind_state left, with_state r s)) (cond {A = Option Seen} b (Some s) None)) may
+    ∙ ap (λ (place : Place). Some (place, with_state r s)) e))
 
 input_goes : (r : Report) (x : List Bool) (left : ℕ) (b rest : List ℕ) →
-    Goes (places.Input left) r ((line (codes "input " ++ bits_text x) ++ b) ++ rest) (places.State (left - 1)) (with_trace r r.states (r.inputs ++ x ∷ []))
-    (b ++ rest)
+    Goes (places.Input left) r ((line (codes "input " ++ bits_text x) ++ b) ++ rest) (places.State (left - 1))
+    (with_trace r r.states (r.inputs ++ x ∷ []) r.free) (b ++ rest)
 input_goes r x left b rest =
-    one_of (places.Input left) (places.State (left - 1)) r (with_trace r r.states (r.inputs ++ x ∷ [])) (codes "input " ++ bits_text x) b rest
+    one_of (places.Input left) (places.State (left - 1)) r (with_trace r r.states (r.inputs ++ x ∷ []) r.free) (codes "input " ++ bits_text x) b rest
     (lacks_append 10 (codes "input ") (bits_text x) (refl, (refl, (refl, (refl, (refl, (refl, tt)))))) (bits_lack 10 x (omega arith))) refl
     (ap (option_map (λ (x : List Bool). (places.State (left - 1), record r { inputs = r.inputs ++ x ∷ [] })))
     (bits_line_again (codes "input") (codes "input " ++ bits_text x) x (words_of_bits (codes "input") x refl) refl))
 
 -- the moves of a trace, over its inputs and the states behind them
-abbrev pub moves_text : List (List Bool) → List (List Bool) → List ℕ
+abbrev pub moves_text : List (List Bool) → List Seen → List ℕ
 moves_text [] ss = []
 moves_text (x ∷ xs) [] = []
 moves_text (x ∷ xs) (s ∷ ss) = (line (codes "input " ++ bits_text x) ++ state_text s) ++ moves_text xs ss
@@ -237,51 +246,75 @@ moves_text (x ∷ xs) (s ∷ ss) = (line (codes "input " ++ bits_text x) ++ stat
 behind_move : (left : ℕ) → behind_state (suc left) ≡ places.Input (suc left)
 behind_move left = ap (λ (b : Bool). cond b places.Log (places.Input (suc left))) (ne_eqb (suc left) 0 (λ e. omega (arith, e)))
 
+abbrev bits_in : List Seen → List (List Bool)
+bits_in ss = map (λ (s : Seen). s.bits) ss
+
 -- from a state that is behind, with these inputs and states to come
-moves_go : (r : Report) (xs ss : List (List Bool)) (rest : List ℕ) → length ss ≡ length xs →
-    Goes (behind_state (length xs)) r (moves_text xs ss ++ rest) places.Log (with_trace r (r.states ++ ss) (r.inputs ++ xs)) rest
-moves_go r [] [] rest e =
-    subst (λ (states : List (List Bool)). Goes places.Log r rest places.Log (with_trace r states (r.inputs ++ [])) rest) (sym (append-nil r.states))
-    (subst (λ (inputs : List (List Bool)). Goes places.Log r rest places.Log (with_trace r r.states inputs) rest) (sym (append-nil r.inputs))
+moves_go : (r : Report) (xs : List (List Bool)) (ss : List Seen) (rest : List ℕ) → length ss ≡ length xs → AreStates ss →
+    Goes (behind_state (length xs)) r (moves_text xs ss ++ rest) places.Log (with_trace r (r.states ++ bits_in ss) (r.inputs ++ xs) (free_of r.free ss)) rest
+moves_go r [] [] rest e h =
+    subst (λ (states : List (List Bool)). Goes places.Log r rest places.Log (with_trace r states (r.inputs ++ []) r.free) rest) (sym (append-nil r.states))
+    (subst (λ (inputs : List (List Bool)). Goes places.Log r rest places.Log (with_trace r r.states inputs r.free) rest) (sym (append-nil r.inputs))
     (stays places.Log r rest))
-moves_go r [] (s ∷ ss) rest e = absurd (omega (arith, e))
-moves_go r (x ∷ xs) [] rest e = absurd (omega (arith, e))
-moves_go r (x ∷ xs) (s ∷ ss) rest e =
-    subst (λ (place : Place). Goes place r (moves_text (x ∷ xs) (s ∷ ss) ++ rest) places.Log (with_trace r (r.states ++ s ∷ ss) (r.inputs ++ x ∷ xs)) rest)
+moves_go r [] (s ∷ ss) rest e h = absurd (omega (arith, e))
+moves_go r (x ∷ xs) [] rest e h = absurd (omega (arith, e))
+moves_go r (x ∷ xs) (s ∷ ss) rest e h =
+    subst (λ (place : Place). Goes place r (moves_text (x ∷ xs) (s ∷ ss) ++ rest) places.Log end rest)
     (sym (behind_move (length xs)))
-    (subst (λ (text : List ℕ). Goes (places.Input (suc (length xs))) r text places.Log (with_trace r (r.states ++ s ∷ ss) (r.inputs ++ x ∷ xs)) rest)
+    (subst (λ (text : List ℕ). Goes (places.Input (suc (length xs))) r text places.Log end rest)
     (sym (append_assoc (line (codes "input " ++ bits_text x) ++ state_text s) (moves_text xs ss) rest))
     (on (input_goes r x (suc (length xs)) (state_text s) (moves_text xs ss ++ rest))
-    (subst (λ (left : ℕ). Goes (places.State left) (with_trace r r.states (r.inputs ++ x ∷ [])) (state_text s ++ (moves_text xs ss ++ rest)) places.Log
-    (with_trace r (r.states ++ s ∷ ss) (r.inputs ++ x ∷ xs)) rest) fewer
-    (on (state_goes (with_trace r r.states (r.inputs ++ x ∷ [])) s (length xs) (behind_state (length xs)) (moves_text xs ss ++ rest) refl)
-    (subst (λ (states : List (List Bool)). Goes (behind_state (length xs)) (with_trace r (r.states ++ s ∷ []) (r.inputs ++ x ∷ []))
-    (moves_text xs ss ++ rest) places.Log (with_trace r states (r.inputs ++ x ∷ xs)) rest) (append_assoc r.states (s ∷ []) ss)
-    (subst (λ (inputs : List (List Bool)). Goes (behind_state (length xs)) (with_trace r (r.states ++ s ∷ []) (r.inputs ++ x ∷ []))
-    (moves_text xs ss ++ rest) places.Log (with_trace r ((r.states ++ s ∷ []) ++ ss) inputs) rest) (append_assoc r.inputs (x ∷ []) xs)
-    (moves_go (with_trace r (r.states ++ s ∷ []) (r.inputs ++ x ∷ [])) xs ss rest (omega (arith, e)))))))))
+    (subst (λ (left : ℕ). Goes (places.State left) moved (state_text s ++ (moves_text xs ss ++ rest)) places.Log end rest) fewer
+    (on (state_goes moved s (length xs) (behind_state (length xs)) (moves_text xs ss ++ rest) h.0 (ap (λ (n : ℕ). may_stand n s) (sym long) ∙ h.1.0) refl)
+    (subst (λ (states : List (List Bool)). Goes (behind_state (length xs)) (with_state moved s)
+    (moves_text xs ss ++ rest) places.Log (with_trace r states (r.inputs ++ x ∷ xs) (free_of s.free ss)) rest) (append_assoc r.states (s.bits ∷ []) (bits_in ss))
+    (subst (λ (inputs : List (List Bool)). Goes (behind_state (length xs)) (with_state moved s)
+    (moves_text xs ss ++ rest) places.Log (with_trace r ((r.states ++ s.bits ∷ []) ++ bits_in ss) inputs (free_of s.free ss)) rest)
+    (append_assoc r.inputs (x ∷ []) xs)
+    (moves_go (with_state moved s) xs ss rest (omega (arith, e)) h.1.1)))))))
   where
     fewer : length xs ≡ suc (length xs) - 1
     fewer = omega arith
 
+    long : length ss ≡ length xs
+    long = omega (arith, e)
+
+    moved : Report
+    moved = with_trace r r.states (r.inputs ++ x ∷ []) r.free
+
+    end : Report
+    end = with_trace r (r.states ++ s.bits ∷ bits_in ss) (r.inputs ++ x ∷ xs) (free_of s.free ss)
+
 -- the same by places
-pub range_moves : (r : Report) (xs ss : List (List Bool)) (a : ℕ) → ((i : ℕ) → get_or r.inputs (a + i) [] ≡ get_or xs i []) →
-    ((i : ℕ) → get_or r.states (a + i + 1) [] ≡ get_or ss i []) → length ss ≡ length xs →
+pub range_moves : (r : Report) (xs : List (List Bool)) (ss : List Seen) (a : ℕ) → ((i : ℕ) → get_or r.inputs (a + i) [] ≡ get_or xs i []) →
+    ((i : ℕ) → i < length ss → state_at r (a + i + 1) ≡ get_or ss i (whole [])) → length ss ≡ length xs →
     flat_map (move_text r) (range_with_len a (length xs)) ≡ moves_text xs ss
-range_moves r [] ss a hx hs e = refl
+range_moves r [] [] a hx hs e = refl
+range_moves r [] (s ∷ ss) a hx hs e = absurd (omega (arith, e))
 range_moves r (x ∷ xs) [] a hx hs e = absurd (omega (arith, e))
 range_moves r (x ∷ xs) (s ∷ ss) a hx hs e =
     let at_a : a ≡ a + 0 = omega arith in
     let input : get_or r.inputs a [] ≡ x = ap (λ (i : ℕ). get_or r.inputs i []) at_a ∙ hx 0 in
-    let state : get_or r.states (a + 1) [] ≡ s = ap (λ (i : ℕ). get_or r.states (i + 1) []) at_a ∙ hs 0 in
-    ap (λ (t : List Bool). (line (codes "input " ++ bits_text t) ++ state_text (get_or r.states (a + 1) []))
+    let state : state_at r (a + 1) ≡ s = ap (λ (i : ℕ). state_at r (i + 1)) at_a ∙ hs 0 (omega arith) in
+    ap (λ (t : List Bool). (line (codes "input " ++ bits_text t) ++ state_text (state_at r (a + 1)))
     ++ flat_map (move_text r) (range_with_len (a + 1) (length xs))) input
-    ∙ (ap (λ (t : List Bool). (line (codes "input " ++ bits_text x) ++ state_text t) ++ flat_map (move_text r) (range_with_len (a + 1) (length xs))) state
+    ∙ (ap (λ (t : Seen). (line (codes "input " ++ bits_text x) ++ state_text t) ++ flat_map (move_text r) (range_with_len (a + 1) (length xs))) state
     ∙ ap (λ (t : List ℕ). (line (codes "input " ++ bits_text x) ++ state_text s) ++ t)
     (range_moves r xs ss (a + 1)
     (λ i. let place : a + 1 + i ≡ a + suc i = omega arith in ap (λ (k : ℕ). get_or r.inputs k []) place ∙ hx (suc i))
-    (λ i. let place : a + 1 + i + 1 ≡ a + suc i + 1 = omega arith in ap (λ (k : ℕ). get_or r.states k []) place ∙ hs (suc i))
+    (λ i lt. let place : a + 1 + i + 1 ≡ a + suc i + 1 = omega arith in ap (λ (k : ℕ). state_at r k) place ∙ hs (suc i) (omega (arith, lt)))
     (omega (arith, e))))
+
+-- the trace by its moves
+pub trace_is_moves : (r : Report) (f : FirstSeen r) →
+    trace_text r ≡ line (codes "trace " ++ decimal (length r.inputs)) ++ (state_text f.first ++ moves_text r.inputs f.others)
+trace_is_moves r f =
+    let n : ℕ = length r.inputs in
+    let moves : flat_map (move_text r) (range_with_len 0 n) ≡ moves_text r.inputs f.others =
+    range_moves r r.inputs f.others 0 (λ i. let same : 0 + i ≡ i = omega arith in ap (λ (k : ℕ). get_or r.inputs k []) same)
+    (λ i lt. let same : 0 + i + 1 ≡ i + 1 = omega arith in ap (λ (k : ℕ). state_at r k) same ∙ f.at_others i lt) f.long in
+    ap (λ (s : Seen). line (codes "trace " ++ decimal n) ++ (state_text s ++ flat_map (move_text r) (range_with_len 0 n))) f.at_first
+    ∙ ap (λ (t : List ℕ). line (codes "trace " ++ decimal n) ++ (state_text f.first ++ t)) moves
 
 -- ---- the log
 
@@ -376,74 +409,55 @@ head_goes r rest h =
     stop_lacks stops.Candidates = (refl, (refl, (refl, (refl, (refl, (refl, (refl, (refl, (refl, (refl, (refl, (refl, (refl, (refl, (refl, tt)))))))))))))))
     stop_lacks stops.Conflicts = (refl, (refl, (refl, (refl, (refl, (refl, (refl, (refl, (refl, (refl, (refl, (refl, (refl, (refl, tt))))))))))))))
 
-pub record FirstState (r : Report) : Type 0 where
-  pub first : List Bool
-  pub others : List (List Bool)
-  pub states : r.states ≡ first ∷ others
-
-pub first_state : (r : Report) → length r.states ≡ length r.inputs + 1 → FirstState r
-first_state r e = by r.states refl e
-  where
-    by : (states : List (List Bool)) → r.states ≡ states → length states ≡ length r.inputs + 1 → FirstState r
-    by [] same e = absurd (omega (arith, e))
-    by (s ∷ ss) same e = record { first = s; others = ss; states = same }
-
-trace_goes : (q r : Report) (rest : List ℕ) → q.states ≡ [] → q.inputs ≡ [] → length r.states ≡ length r.inputs + 1 → length r.inputs < 2 ^ 64 →
-    Goes places.Trace q (trace_text r ++ rest) places.Log (with_trace q r.states r.inputs) rest
-trace_goes q r rest no_states no_inputs e few =
-    let f = first_state r e in
-    let long : length f.others ≡ length r.inputs = omega (arith, e, ap length f.states) in
+trace_goes : (q r : Report) (rest : List ℕ) → q.states ≡ [] → q.inputs ≡ [] → length r.states ≡ length r.inputs + 1 →
+    IsSeen (state_at r (length r.inputs)) → length r.inputs < 2 ^ 64 →
+    Goes places.Trace q (trace_text r ++ rest) places.Log (with_trace q r.states r.inputs r.free) rest
+trace_goes q r rest no_states no_inputs e last few =
+    let f = first_seen r e in
     let n : ℕ = length r.inputs in
-    let begin : get_or r.states 0 [] ≡ f.first = ap (λ (ss : List (List Bool)). get_or ss 0 []) f.states in
-    let moves : flat_map (move_text r) (range_with_len 0 n) ≡ moves_text r.inputs f.others =
-    range_moves r r.inputs f.others 0 (λ i. let same : 0 + i ≡ i = omega arith in ap (λ (k : ℕ). get_or r.inputs k []) same)
-    (λ i. let same : 0 + i + 1 ≡ suc i = omega arith in
-    ap (λ (k : ℕ). get_or r.states k []) same ∙ ap (λ (ss : List (List Bool)). get_or ss (suc i) []) f.states) long in
-    let text : trace_text r ≡ line (codes "trace " ++ decimal n) ++ (state_text f.first ++ moves_text r.inputs f.others) =
-    ap (λ (s : List Bool). line (codes "trace " ++ decimal n) ++ (state_text s ++ flat_map (move_text r) (range_with_len 0 n))) begin
-    ∙ ap (λ (t : List ℕ). line (codes "trace " ++ decimal n) ++ (state_text f.first ++ t)) moves in
-    let all_states : f.first ∷ f.others ≡ r.states = sym f.states in
-    let start : q.states ++ f.first ∷ [] ≡ f.first ∷ [] = ap (λ (ss : List (List Bool)). ss ++ f.first ∷ []) no_states in
-    let go : Goes (behind_state n) (with_trace q (f.first ∷ []) q.inputs) (moves_text r.inputs f.others ++ rest) places.Log
-    (with_trace q (f.first ∷ f.others) (q.inputs ++ r.inputs)) rest =
-    moves_go (with_trace q (f.first ∷ []) q.inputs) r.inputs f.others rest long in
-    subst (λ (t : List ℕ). Goes places.Trace q (t ++ rest) places.Log (with_trace q r.states r.inputs) rest) (sym text)
+    let states : AreStates (f.first ∷ f.others) = subst AreStates f.are (are_states r e last) in
+    let start : q.states ++ f.first.bits ∷ [] ≡ f.first.bits ∷ [] = ap (λ (ss : List (List Bool)). ss ++ f.first.bits ∷ []) no_states in
+    let all_states : f.first.bits ∷ bits_in f.others ≡ r.states = ap (λ (ss : List Seen). bits_in ss) (sym f.are) ∙ seens_bits r.states r.free in
+    let all_free : free_of f.first.free f.others ≡ r.free = ap (λ (ss : List Seen). free_of q.free ss) (sym f.are) ∙ seens_free r.states r.free q.free (length r.inputs) e in
+    let go : Goes (behind_state n) (with_state q f.first) (moves_text r.inputs f.others ++ rest) places.Log
+    (with_trace q ((q.states ++ f.first.bits ∷ []) ++ bits_in f.others) (q.inputs ++ r.inputs) (free_of f.first.free f.others)) rest =
+    moves_go (with_state q f.first) r.inputs f.others rest f.long states.1.1 in
+    let whole_end : with_trace q ((q.states ++ f.first.bits ∷ []) ++ bits_in f.others) (q.inputs ++ r.inputs) (free_of f.first.free f.others)
+    ≡ with_trace q r.states r.inputs r.free =
+    let p : (q.states ++ f.first.bits ∷ []) ++ bits_in f.others ≡ r.states = ap (λ (ss : List (List Bool)). ss ++ bits_in f.others) start ∙ all_states in
+    let x : q.inputs ++ r.inputs ≡ r.inputs = ap (λ (xs : List (List Bool)). xs ++ r.inputs) no_inputs in
+    λ i. with_trace q (p i) (x i) (all_free i) in
+    subst (λ (t : List ℕ). Goes places.Trace q (t ++ rest) places.Log (with_trace q r.states r.inputs r.free) rest) (sym (trace_is_moves r f))
     (on
     (one_of places.Trace (places.State n) q q (codes "trace " ++ decimal n) (state_text f.first ++ moves_text r.inputs f.others) rest
     (lacks_append 10 (codes "trace ") (decimal n) (refl, (refl, (refl, (refl, (refl, (refl, tt)))))) (number_lacks 10 n (omega arith) few)) refl
     (ap (λ (o : Option ℕ). option_map (λ (place : Place). (place, q)) (option_map (λ (n : ℕ). places.State n) o))
     (count_again (codes "trace") (codes "trace " ++ decimal n) n (words_of_count (codes "trace") n refl few) refl few)))
-    (subst (λ (t : List ℕ). Goes (places.State n) q t places.Log (with_trace q r.states r.inputs) rest)
+    (subst (λ (t : List ℕ). Goes (places.State n) q t places.Log (with_trace q r.states r.inputs r.free) rest)
     (sym (append_assoc (state_text f.first) (moves_text r.inputs f.others) rest))
     (on
-    (subst (λ (ss : List (List Bool)). Goes (places.State n) q (state_text f.first ++ (moves_text r.inputs f.others ++ rest)) (behind_state n)
-    (with_trace q ss q.inputs) (moves_text r.inputs f.others ++ rest)) start
-    (state_goes q f.first n (behind_state n) (moves_text r.inputs f.others ++ rest) refl))
-    (subst (λ (ss : List (List Bool)). Goes (behind_state n) (with_trace q (f.first ∷ []) q.inputs) (moves_text r.inputs f.others ++ rest) places.Log
-    (with_trace q ss r.inputs) rest) all_states
-    (subst (λ (xs : List (List Bool)). Goes (behind_state n) (with_trace q (f.first ∷ []) q.inputs) (moves_text r.inputs f.others ++ rest) places.Log
-    (with_trace q (f.first ∷ f.others) xs) rest)
-    (ap (λ (xs : List (List Bool)). xs ++ r.inputs) no_inputs) go)))))
+    (state_goes q f.first n (behind_state n) (moves_text r.inputs f.others ++ rest) states.0 (ap (λ (k : ℕ). may_stand k f.first) (sym f.long) ∙ states.1.0) refl)
+    (subst (λ (end : Report). Goes (behind_state n) (with_state q f.first) (moves_text r.inputs f.others ++ rest) places.Log end rest) whole_end go))))
 
 tail_goes : (q r : Report) → HasReportText r → q.states ≡ [] → q.inputs ≡ [] → q.log ≡ [] →
-    Goes places.Trace q (tail_text r) places.Done (with_log (with_trace q r.states r.inputs) r.log) []
+    Goes places.Trace q (tail_text r) places.Done (with_log (with_trace q r.states r.inputs r.free) r.log) []
 unfolding tail_text
 tail_goes q r h no_states no_inputs no_log =
     let n : ℕ = length r.log in
     on (trace_goes q r (line (codes "log " ++ decimal n) ++ (flat_map (λ l. line (line_text l)) r.log ++ line (codes "end")))
-    no_states no_inputs h.one_state_more h.few_inputs)
+    no_states no_inputs h.one_state_more h.last h.few_inputs)
     (on
-    (one places.Log (log_place n) (with_trace q r.states r.inputs) (with_trace q r.states r.inputs) (codes "log " ++ decimal n)
+    (one places.Log (log_place n) (with_trace q r.states r.inputs r.free) (with_trace q r.states r.inputs r.free) (codes "log " ++ decimal n)
     (flat_map (λ l. line (line_text l)) r.log ++ line (codes "end"))
     (lacks_append 10 (codes "log ") (decimal n) (refl, (refl, (refl, (refl, tt)))) (number_lacks 10 n (omega arith) h.few_lines)) undone
-    (ap (λ (o : Option ℕ). option_map (λ (place : Place). (place, with_trace q r.states r.inputs)) (option_map (λ (n : ℕ). log_place n) o))
+    (ap (λ (o : Option ℕ). option_map (λ (place : Place). (place, with_trace q r.states r.inputs r.free)) (option_map (λ (n : ℕ). log_place n) o))
     (count_again (codes "log") (codes "log " ++ decimal n) n (words_of_count (codes "log") n refl h.few_lines) refl h.few_lines)))
     (on
-    (subst (λ (log : List Line). Goes (log_place n) (with_trace q r.states r.inputs)
-    (flat_map (λ l. line (line_text l)) r.log ++ line (codes "end")) places.End (with_log (with_trace q r.states r.inputs) log) (line (codes "end")))
+    (subst (λ (log : List Line). Goes (log_place n) (with_trace q r.states r.inputs r.free)
+    (flat_map (λ l. line (line_text l)) r.log ++ line (codes "end")) places.End (with_log (with_trace q r.states r.inputs r.free) log) (line (codes "end")))
     (ap (λ (log : List Line). log ++ r.log) no_log)
-    (log_goes (with_trace q r.states r.inputs) r.log (line (codes "end")) (recursion_from_All HasText r.log h.each_line)))
-    (one places.End places.Done (with_log (with_trace q r.states r.inputs) r.log) (with_log (with_trace q r.states r.inputs) r.log) (codes "end") []
+    (log_goes (with_trace q r.states r.inputs r.free) r.log (line (codes "end")) (recursion_from_All HasText r.log h.each_line)))
+    (one places.End places.Done (with_log (with_trace q r.states r.inputs r.free) r.log) (with_log (with_trace q r.states r.inputs r.free) r.log) (codes "end") []
     (refl, (refl, (refl, tt))) refl refl)))
   where
     undone : is_done places.Log ≡ false

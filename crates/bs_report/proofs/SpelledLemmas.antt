@@ -1,16 +1,19 @@
 -- What is read of a text has that text.
-use Rattle.std.proofs.Common.{◌≡◌, ℕ, suc, ◌<◌, ◌≤◌, ◌+◌, ◌-◌, ◌^◌, Bool, true, false, cond, List, [], ◌∷◌, ◌++◌, length, get_or, refl, arith, ap}
+use Rattle.std.proofs.Common.{◌≡◌, ℕ, suc, ◌<◌, ◌≤◌, ◌+◌, ◌-◌, ◌^◌, Bool, true, false, cond, List, [], ◌∷◌, ◌++◌, map, length, get_or, refl, arith, ap}
 use Rattle.std.proofs.Common.{sym, subst, ◌∙◌, Option, Some, None, append_assoc}
-use Rattle.std.specs.Prelude.{◌==◌, codes, decimal, option_map, Result, Ok, Err}
-use Rattle.std.specs.List.{AllByRecursion as Each, flat_map, range_with_len}
+use Rattle.std.specs.Prelude.{◌==◌, ◌||◌, codes, decimal, option_map, Result, Ok, Err}
+use Rattle.std.specs.List.{AllByRecursion as Each, flat_map}
 use Rattle.std.specs.Str.{bytes_eq}
 use Rattle.std.proofs.lemmas.Bool.{false≢true, eqb-true, eqb-false}
-use Rattle.std.proofs.lemmas.List.{append-nil, length-append}
+use Rattle.std.proofs.lemmas.List.{append-nil, length-append, get_or_at, nil_from_length}
 use Rattle.std.proofs.lemmas.List.Elements.{All-from_recursion}
 use Rattle.bs_bits.specs.Text.{bits_text}
 use Rattle.bs_bits.specs.Lines.{line, onto_first, pieces_of}
 use Rattle.bs_bits.specs.Reading.{◌>>=◌}
 use Rattle.bs_bits.proofs.LineLemmas.{nothing_left}
+use Rattle.bs_seen.specs.declared.seen.Seen.{Seen}
+use Rattle.bs_seen.specs.Seen.{whole, IsSeen}
+use Rattle.bs_seen.specs.SeenText.{seen_text}
 use Rattle.bs_log.specs.declared.line.Line.{Line}
 use Rattle.bs_log.specs.LineForms.{HasText}
 use Rattle.bs_log.specs.LineReading.{line_in}
@@ -29,17 +32,19 @@ use Rattle.bs_report.specs.declared.report.ListEnd.{ListEnd}
 use Rattle.bs_report.specs.declared.report.Stop.{Stop}
 use Rattle.bs_report.specs.declared.report.Step.{Step}
 use Rattle.bs_report.specs.declared.report.Report.{Report}
-use Rattle.bs_report.specs.Forms.{depth_in, count_in, bits_in, older_in, cand_in, end_in, hit_in, stop_in, budgets_in}
+use Rattle.bs_report.specs.Forms.{depth_in, count_in, bits_in, seen_in, older_in, cand_in, end_in, hit_in, stop_in, budgets_in}
 use Rattle.bs_report.specs.Reading.{Reached, begins, turned, begun, behind_stored, more_listed, step_of, with_step, behind_state, log_place, taken}
+use Rattle.bs_report.specs.Reading.{may_stand, standing, state_in, with_state}
 use Rattle.bs_report.specs.Reading.{is_done, line_or_fault, ended, report_from, nothing_read, report_in}
-use Rattle.bs_report.specs.Text.{title, cand_text, older_text, end_word, step_text, steps_text, stop_word, state_text, move_text, trace_text}
+use Rattle.bs_report.specs.Text.{title, cand_text, older_text, end_word, step_text, steps_text, stop_word, state_text, state_at, trace_text}
 use Rattle.bs_report.specs.Text.{budgets_text, head_text, tail_text, report_text, IsOfDepth, HasEndText, HasStepText, HasReportText}
 use Rattle.bs_report.specs.ReadingLaw.{TextsAreReports}
 use Rattle.bs_report.proofs.TextLemmas.{steps_text_append}
-use Rattle.bs_report.proofs.ReadBackLemmas.{moves_text, range_moves, first_state}
+use Rattle.bs_report.proofs.TraceLemmas.{seens, FirstSeen, first_seen, last_state, seens_push, wholes_push, length_wholes}
+use Rattle.bs_report.proofs.ReadBackLemmas.{moves_text, trace_is_moves}
 use Rattle.bs_report.proofs.ReadingLemmas.{some_piece}
 use Rattle.bs_report.proofs.SpellingLemmas.{unmap, same_text, count_is, bits_line_is, AreBudgets, budgets_are, depth_is, older_is, cand_is, end_is}
-use Rattle.bs_report.proofs.SpellingLemmas.{hit_is, stop_is, log_line_is}
+use Rattle.bs_report.proofs.SpellingLemmas.{hit_is, stop_is, log_line_is, seen_line_is}
 
 -- ---- the text so far
 
@@ -53,8 +58,8 @@ top r = title_line r.depth ++ (budgets_text r.budgets ++ steps_text r.depth 1 r.
 abbrev step_line : Report → List ℕ
 step_line r = line (codes "step " ++ decimal (length r.steps + 1))
 
-abbrev present_line : List Bool → List ℕ
-present_line s = line (codes "present " ++ bits_text s)
+abbrev present_line : Seen → List ℕ
+present_line s = line (codes "present " ++ seen_text s)
 
 abbrev stored_line : List Bool → List ℕ
 stored_line s = line (codes "stored " ++ bits_text s)
@@ -74,8 +79,12 @@ input_text x = line (codes "input " ++ bits_text x)
 abbrev lines_text : List Line → List ℕ
 lines_text log = flat_map (λ l. line (line_text l)) log
 
+-- states of which all is known
+abbrev wholes : List (List Bool) → List Seen
+wholes ss = map (λ (s : List Bool). whole s) ss
+
 -- states and inputs by turns
-abbrev woven : List (List Bool) → List (List Bool) → List ℕ
+abbrev woven : List Seen → List (List Bool) → List ℕ
 woven [] xs = []
 woven (s ∷ ss) [] = state_text s ++ woven ss []
 woven (s ∷ ss) (x ∷ xs) = state_text s ++ (input_text x ++ woven ss xs)
@@ -93,6 +102,7 @@ pub record HasHead (r : Report) : Type 0 where
 pub record NoTail (r : Report) : Type 0 where
   pub states : r.states ≡ []
   pub inputs : r.inputs ≡ []
+  pub free : r.free ≡ []
   pub log : r.log ≡ []
 
 pub record InStep (r : Report) : Type 0 where
@@ -102,6 +112,7 @@ pub record InStep (r : Report) : Type 0 where
 
 pub record InTrace (r : Report) (n : ℕ) : Type 0 where
   pub head : HasHead r
+  pub free : r.free ≡ []
   pub log : r.log ≡ []
   pub small : n < 2 ^ 64
 
@@ -109,6 +120,7 @@ pub record BehindTrace (r : Report) : Type 0 where
   pub head : HasHead r
   pub small : length r.inputs < 2 ^ 64
   pub more : length r.states ≡ length r.inputs + 1
+  pub last : IsSeen (state_at r (length r.inputs))
 
 -- nothing but the first line is read
 abbrev pub titled : ℕ → Report
@@ -116,6 +128,7 @@ titled depth = record nothing_read { depth = depth }
 
 -- the list of a step so far, in a report of this depth
 pub record InList (depth : ℕ) (h : PartialStep) (cands : List Cand) : Type 0 where
+  pub present : IsSeen h.present
   pub older : IsOfDepth depth h.older
   pub befores : Each (λ cand. IsOfDepth depth cand.before) cands
 
@@ -125,8 +138,8 @@ Fits places.Title r text = (r ≡ nothing_read) × (text ≡ [])
 Fits places.Asked r text = (r ≡ titled r.depth) × IsDepth r.depth × (text ≡ title_line r.depth)
 Fits places.Turn r text = HasHead r × NoTail r × (text ≡ top r)
 Fits places.Present r text = InStep r × (text ≡ top r ++ step_line r)
-Fits (places.Stored p) r text = InStep r × (text ≡ top r ++ (step_line r ++ present_line p))
-Fits (places.Older p s) r text = InStep r × ((r.depth == 1) ≡ false) × (text ≡ top r ++ (step_line r ++ (present_line p ++ stored_line s)))
+Fits (places.Stored p) r text = InStep r × IsSeen p × (text ≡ top r ++ (step_line r ++ present_line p))
+Fits (places.Older p s) r text = InStep r × IsSeen p × ((r.depth == 1) ≡ false) × (text ≡ top r ++ (step_line r ++ (present_line p ++ stored_line s)))
 Fits (places.Listing h cands) r text =
     InStep r × InList r.depth h cands
     × (text ≡ top r ++ (step_line r ++ (present_line h.present ++ (stored_line h.stored ++ (older_text r.depth h.older ++ flat_map cand_text cands)))))
@@ -137,21 +150,21 @@ Fits (places.Hit h cands e) r text =
 Fits places.Trace r text = HasHead r × NoTail r × (text ≡ head_text r)
 Fits (places.State left) r text =
     InTrace r (length r.inputs + left) × (length r.states ≡ length r.inputs)
-    × (text ≡ head_text r ++ (trace_line (length r.inputs + left) ++ woven r.states r.inputs))
+    × (text ≡ head_text r ++ (trace_line (length r.inputs + left) ++ woven (wholes r.states) r.inputs))
 Fits (places.Input left) r text =
     InTrace r (length r.inputs + left) × (length r.states ≡ length r.inputs + 1) × (1 ≤ left)
-    × (text ≡ head_text r ++ (trace_line (length r.inputs + left) ++ woven r.states r.inputs))
-Fits places.Log r text = BehindTrace r × (r.log ≡ []) × (text ≡ head_text r ++ (trace_line (length r.inputs) ++ woven r.states r.inputs))
+    × (text ≡ head_text r ++ (trace_line (length r.inputs + left) ++ woven (wholes r.states) r.inputs))
+Fits places.Log r text = BehindTrace r × (r.log ≡ []) × (text ≡ head_text r ++ (trace_line (length r.inputs) ++ woven (seens r.states r.free) r.inputs))
 Fits (places.Lines left) r text =
     BehindTrace r × Each HasText r.log × (length r.log + left < 2 ^ 64) × (1 ≤ left)
-    × (text ≡ head_text r ++ (trace_line (length r.inputs) ++ (woven r.states r.inputs ++ (log_line (length r.log + left) ++ lines_text r.log))))
+    × (text ≡ head_text r ++ (trace_line (length r.inputs) ++ (woven (seens r.states r.free) r.inputs ++ (log_line (length r.log + left) ++ lines_text r.log))))
 Fits places.End r text =
     BehindTrace r × Each HasText r.log × (length r.log < 2 ^ 64)
-    × (text ≡ head_text r ++ (trace_line (length r.inputs) ++ (woven r.states r.inputs ++ (log_line (length r.log) ++ lines_text r.log))))
+    × (text ≡ head_text r ++ (trace_line (length r.inputs) ++ (woven (seens r.states r.free) r.inputs ++ (log_line (length r.log) ++ lines_text r.log))))
 Fits places.Done r text =
     BehindTrace r × Each HasText r.log × (length r.log < 2 ^ 64)
     × (text ≡ head_text r ++ (trace_line (length r.inputs)
-    ++ (woven r.states r.inputs ++ (log_line (length r.log) ++ (lines_text r.log ++ line (codes "end"))))))
+    ++ (woven (seens r.states r.free) r.inputs ++ (log_line (length r.log) ++ (lines_text r.log ++ line (codes "end"))))))
 
 -- ---- pieces behind others
 
@@ -181,7 +194,7 @@ each_more : {X : Type 0} (P : X → Type 0) (xs : List X) (x : X) → Each P xs 
 each_more P [] x h p = (p, tt)
 each_more P (y ∷ ys) x h p = (h.0, each_more P ys x h.1 p)
 
-state_more : (ss xs : List (List Bool)) (s : List Bool) → length ss ≡ length xs → woven (ss ++ s ∷ []) xs ≡ woven ss xs ++ state_text s
+state_more : (ss : List Seen) (xs : List (List Bool)) (s : Seen) → length ss ≡ length xs → woven (ss ++ s ∷ []) xs ≡ woven ss xs ++ state_text s
 state_more [] [] s e = append-nil (state_text s)
 state_more [] (x ∷ xs) s e = absurd (omega (arith, e))
 state_more (t ∷ ss) [] s e = absurd (omega (arith, e))
@@ -189,7 +202,7 @@ state_more (t ∷ ss) (x ∷ xs) s e =
     ap (λ r. state_text t ++ (input_text x ++ r)) (state_more ss xs s (omega (arith, e)))
     ∙ sym (three (woven (t ∷ ss) (x ∷ xs)) (state_text t) (input_text x) (woven ss xs) (state_text s) refl)
 
-input_more : (ss xs : List (List Bool)) (x : List Bool) → length ss ≡ length xs + 1 → woven ss (xs ++ x ∷ []) ≡ woven ss xs ++ input_text x
+input_more : (ss : List Seen) (xs : List (List Bool)) (x : List Bool) → length ss ≡ length xs + 1 → woven ss (xs ++ x ∷ []) ≡ woven ss xs ++ input_text x
 input_more [] xs x e = absurd (omega (arith, e))
 input_more (s ∷ []) [] x e = ap (λ r. state_text s ++ r) (append-nil (input_text x)) ∙ ap (λ r. r ++ input_text x) (sym (append-nil (state_text s)))
 input_more (s ∷ t ∷ ss) [] x e = absurd (omega (arith, e))
@@ -198,7 +211,7 @@ input_more (s ∷ ss) (y ∷ xs) x e =
     ∙ sym (three (woven (s ∷ ss) (y ∷ xs)) (state_text s) (input_text y) (woven ss xs) (input_text x) refl)
 
 -- the trace by turns is the trace by places
-woven_moves : (s : List Bool) (ss xs : List (List Bool)) → length ss ≡ length xs → woven (s ∷ ss) xs ≡ state_text s ++ moves_text xs ss
+woven_moves : (s : Seen) (ss : List Seen) (xs : List (List Bool)) → length ss ≡ length xs → woven (s ∷ ss) xs ≡ state_text s ++ moves_text xs ss
 woven_moves s [] [] e = refl
 woven_moves s [] (x ∷ xs) e = absurd (omega (arith, e))
 woven_moves s (t ∷ ss) [] e = absurd (omega (arith, e))
@@ -206,19 +219,12 @@ woven_moves s (t ∷ ss) (x ∷ xs) e =
     ap (λ r. state_text s ++ r) (ap (λ r. input_text x ++ r) (woven_moves t ss xs (omega (arith, e)))
     ∙ sym (append_assoc (input_text x) (state_text t) (moves_text xs ss)))
 
-trace_is_woven : (r : Report) → length r.states ≡ length r.inputs + 1 → trace_text r ≡ trace_line (length r.inputs) ++ woven r.states r.inputs
+trace_is_woven : (r : Report) → length r.states ≡ length r.inputs + 1 → trace_text r ≡ trace_line (length r.inputs) ++ woven (seens r.states r.free) r.inputs
 trace_is_woven r e =
-    let f = first_state r e in
-    let long : length f.others ≡ length r.inputs = omega (arith, e, ap length f.states) in
-    let begin : get_or r.states 0 [] ≡ f.first = ap (λ (ss : List (List Bool)). get_or ss 0 []) f.states in
-    let moves : flat_map (move_text r) (range_with_len 0 (length r.inputs)) ≡ moves_text r.inputs f.others =
-    range_moves r r.inputs f.others 0 (λ i. let same : 0 + i ≡ i = omega arith in ap (λ (k : ℕ). get_or r.inputs k []) same)
-    (λ i. let same : 0 + i + 1 ≡ suc i = omega arith in
-    ap (λ (k : ℕ). get_or r.states k []) same ∙ ap (λ (ss : List (List Bool)). get_or ss (suc i) []) f.states) long in
-    ap (λ (s : List Bool). trace_line (length r.inputs) ++ (state_text s ++ flat_map (move_text r) (range_with_len 0 (length r.inputs)))) begin
-    ∙ (ap (λ (t : List ℕ). trace_line (length r.inputs) ++ (state_text f.first ++ t)) moves
+    let f : FirstSeen r = first_seen r e in
+    trace_is_moves r f
     ∙ ap (λ (t : List ℕ). trace_line (length r.inputs) ++ t)
-    (sym (woven_moves f.first f.others r.inputs long) ∙ ap (λ (ss : List (List Bool)). woven ss r.inputs) (sym f.states)))
+    (sym (woven_moves f.first f.others r.inputs f.long) ∙ ap (λ (ss : List Seen). woven ss r.inputs) (sym f.are))
 
 -- ---- a line at each place
 
@@ -266,7 +272,7 @@ at_asked r text a y h e =
         steps = tt;
         few = omega arith;
       },
-      record { states = refl; inputs = refl; log = refl },
+      record { states = refl; inputs = refl; free = refl; log = refl },
       is_text,
     )))
 
@@ -294,6 +300,7 @@ at_turn r text a y h e = by (stop_in a) refl e
           record {
             states = h.1.states;
             inputs = h.1.inputs;
+            free = h.1.free;
             log = h.1.log;
           },
           is_text,
@@ -301,17 +308,18 @@ at_turn r text a y h e = by (stop_in a) refl e
 
 at_present : (r : Report) (text a : List ℕ) (y : Reached) → Fits places.Present r text → taken places.Present r a ≡ Some y → Next y text a
 at_present r text a y h e =
-    let m = unmap (λ (place : Place). (place, r)) (option_map (λ (s : List Bool). places.Stored s) (bits_in (codes "present") a)) y e in
-    let k = unmap (λ (s : List Bool). places.Stored s) (bits_in (codes "present") a) m.value m.is in
+    let m = unmap (λ (place : Place). (place, r)) (option_map (λ (s : Seen). places.Stored s) (seen_in (codes "present") a)) y e in
+    let k = unmap (λ (s : Seen). places.Stored s) (seen_in (codes "present") a) m.value m.is in
     let gives : Some (m.value, r) ≡ Some y = m.gives in
     let gives_place : Some (places.Stored k.value) ≡ Some m.value = k.gives in
     let place : places.Stored k.value ≡ m.value = cc in
     let reached : (m.value, r) ≡ y = cc in
     let same : (places.Stored k.value, r) ≡ y = ap (λ (p : Place). (p, r)) place ∙ reached in
+    let l = seen_line_is (codes "present") a k.value k.is in
     subst (λ (y : Reached). Next y text a) same
-    (h.0, two text (top r) (step_line r) (line a) h.1 ∙ ap (λ t. top r ++ (step_line r ++ line t)) (bits_line_is (codes "present") a k.value k.is))
+    (h.0, l.0, two text (top r) (step_line r) (line a) h.1 ∙ ap (λ t. top r ++ (step_line r ++ line t)) l.1)
 
-at_stored : (p : List Bool) (r : Report) (text a : List ℕ) (y : Reached) → Fits (places.Stored p) r text → taken (places.Stored p) r a ≡ Some y → Next y text a
+at_stored : (p : Seen) (r : Report) (text a : List ℕ) (y : Reached) → Fits (places.Stored p) r text → taken (places.Stored p) r a ≡ Some y → Next y text a
 at_stored p r text a y h e =
     let m = unmap (λ (place : Place). (place, r)) (option_map (λ (s : List Bool). behind_stored r.depth p s) (bits_in (codes "stored") a)) y e in
     let k = unmap (λ (s : List Bool). behind_stored r.depth p s) (bits_in (codes "stored") a) m.value m.is in
@@ -321,7 +329,7 @@ at_stored p r text a y h e =
     let reached : (m.value, r) ≡ y = cc in
     let same : (behind_stored r.depth p k.value, r) ≡ y = ap (λ (p : Place). (p, r)) place ∙ reached in
     let is_text : text ++ line a ≡ top r ++ (step_line r ++ (present_line p ++ stored_line k.value)) =
-    three text (top r) (step_line r) (present_line p) (line a) h.1
+    three text (top r) (step_line r) (present_line p) (line a) h.2
     ∙ ap (λ t. top r ++ (step_line r ++ (present_line p ++ line t))) (bits_line_is (codes "stored") a k.value k.is) in
     subst (λ (y : Reached). Next y text a) same (by (r.depth == 1) refl k.value is_text)
   where
@@ -331,13 +339,13 @@ at_stored p r text a y h e =
         let no_older : [] ≡ older_text r.depth None =
         ap (λ (b : Bool). cond {A = List ℕ} b [] (line (codes "older " ++ signature_text None))) (sym z) in (
           h.0,
-          record { older = λ _. refl; befores = tt },
+          record { present = h.1; older = λ _. refl; befores = tt },
           t ∙ ap (λ t. top r ++ (step_line r ++ (present_line p ++ t)))
               (sym (append-nil (stored_line s)) ∙ ap (λ t. stored_line s ++ t) (no_older ∙ sym (append-nil (older_text r.depth None)))),
         )
-    by false z s t = (h.0, z, t)
+    by false z s t = (h.0, h.1, z, t)
 
-at_older : (p s : List Bool) (r : Report) (text a : List ℕ) (y : Reached) → Fits (places.Older p s) r text → taken (places.Older p s) r a ≡ Some y →
+at_older : (p : Seen) (s : List Bool) (r : Report) (text a : List ℕ) (y : Reached) → Fits (places.Older p s) r text → taken (places.Older p s) r a ≡ Some y →
     Next y text a
 at_older p s r text a y h e =
     let m = unmap (λ (place : Place). (place, r))
@@ -349,12 +357,12 @@ at_older p s r text a y h e =
     let reached : (m.value, r) ≡ y = cc in
     let same : (places.Listing (begun p s k.value) [], r) ≡ y = ap (λ (p : Place). (p, r)) place ∙ reached in
     let older : line a ≡ older_text r.depth k.value =
-    ap line (older_is a k.value k.is) ∙ ap (λ (b : Bool). cond {A = List ℕ} b [] (line (codes "older " ++ signature_text k.value))) (sym h.1) in
+    ap line (older_is a k.value k.is) ∙ ap (λ (b : Bool). cond {A = List ℕ} b [] (line (codes "older " ++ signature_text k.value))) (sym h.2) in
     let no_cands : line a ≡ older_text r.depth k.value ++ [] = older ∙ sym (append-nil (older_text r.depth k.value)) in
     subst (λ (y : Reached). Next y text a) same (
       h.0,
-      record { older = λ one. absurd (eqb-false r.depth 1 h.1 one); befores = tt },
-      four text (top r) (step_line r) (present_line p) (stored_line s) (line a) h.2
+      record { present = h.1; older = λ one. absurd (eqb-false r.depth 1 h.2 one); befores = tt },
+      four text (top r) (step_line r) (present_line p) (stored_line s) (line a) h.3
           ∙ ap (λ t. top r ++ (step_line r ++ (present_line p ++ (stored_line s ++ t)))) no_cands,
     )
 
@@ -385,7 +393,7 @@ at_listing b cands r text a y h e = by (cand_in r.depth a) refl e
         let l = cand_is r.depth a cand c in
         subst (λ (y : Reached). Next y text a) same (
           h.0,
-          record { older = h.1.older; befores = each_more (λ cand. IsOfDepth r.depth cand.before) cands cand h.1.befores l.0 },
+          record { present = h.1.present; older = h.1.older; befores = each_more (λ cand. IsOfDepth r.depth cand.before) cands cand h.1.befores l.0 },
           six text (top r) (step_line r) (present_line b.present) (stored_line b.stored) (older_text r.depth b.older) (flat_map cand_text cands) (line a) h.2
               ∙ ap (λ t. top r ++ (step_line r ++ (present_line b.present ++ (stored_line b.stored ++ (older_text r.depth b.older ++ t)))))
               (ap (λ t. flat_map cand_text cands ++ line t) l.1 ∙ sym (flat_more cand_text cands cand)),
@@ -416,6 +424,7 @@ at_hit b cands e r text a y h t =
         depth = h.0.head.depth;
         steps =
             each_more (HasStepText r.depth) r.steps step h.0.head.steps (record {
+              present = h.1.present;
               older = h.1.older;
               befores = All-from_recursion (λ cand. IsOfDepth r.depth cand.before) cands h.1.befores;
               list = h.2;
@@ -423,7 +432,7 @@ at_hit b cands e r text a y h t =
             });
         few = let more : length (r.steps ++ step ∷ []) ≡ length r.steps + 1 = length-append r.steps (step ∷ []) in omega (arith, more, h.0.counted);
       },
-      record { states = h.0.tail.states; inputs = h.0.tail.inputs; log = h.0.tail.log },
+      record { states = h.0.tail.states; inputs = h.0.tail.inputs; free = h.0.tail.free; log = h.0.tail.log },
       is_text ∙ in_top,
     )
 
@@ -438,10 +447,10 @@ at_trace r text a y h e =
     let same : (places.State k.value, r) ≡ y = ap (λ (p : Place). (p, r)) place ∙ reached in
     let c = count_is (codes "trace") a k.value k.is in
     let none : length r.inputs ≡ 0 = ap length h.1.inputs in
-    let nothing : woven r.states r.inputs ≡ [] = ap (λ (ss : List (List Bool)). woven ss r.inputs) h.1.states in
+    let nothing : woven (wholes r.states) r.inputs ≡ [] = ap (λ (ss : List (List Bool)). woven (wholes ss) r.inputs) h.1.states in
     let count : k.value ≡ length r.inputs + k.value = omega (arith, none) in
     subst (λ (y : Reached). Next y text a) same (
-      record { head = h.0; log = h.1.log; small = omega (arith, none, c.1) },
+      record { head = h.0; free = h.1.free; log = h.1.log; small = omega (arith, none, c.1) },
       ap length h.1.states ∙ sym none,
       ap (λ t. t ++ line a) h.2
           ∙ (ap (λ t. head_text r ++ line t) c.0
@@ -450,48 +459,72 @@ at_trace r text a y h e =
           ∙ ap (λ t. trace_line (length r.inputs + k.value) ++ t) (sym nothing)))),
     )
 
+-- what is seen, and that it may stand where it does
+stood : (left : ℕ) (o : Option Seen) (s : Seen) → standing left o ≡ Some s → (o ≡ Some s) × (may_stand left s ≡ true)
+stood left None s e = cc
+stood left (Some t) s e = by (may_stand left t) refl e
+  where
+    by : (b : Bool) → may_stand left t ≡ b → cond {A = Option Seen} b (Some t) None ≡ Some s → (Some t ≡ Some s) × (may_stand left s ≡ true)
+    by true m e = let same : t ≡ s = cc in (e, ap (may_stand left) (sym same) ∙ m)
+    by false m e = cc
+
+-- where inputs are left all is known
+known_there : (left : ℕ) (s : Seen) → may_stand left s ≡ true → (left == 0) ≡ false → s.free ≡ []
+known_there left s m z = by (length s.free == 0) refl (left == 0) z m
+  where
+    by : (a : Bool) → (length s.free == 0) ≡ a → (b : Bool) → b ≡ false → (a || b) ≡ true → s.free ≡ []
+    by true e b z m = nil_from_length s.free (eqb-true (length s.free) 0 e)
+    by false e true z m = cc
+    by false e false z m = cc
+
 at_state : (left : ℕ) (r : Report) (text a : List ℕ) (y : Reached) → Fits (places.State left) r text → taken (places.State left) r a ≡ Some y → Next y text a
 unfolding head_text
 at_state left r text a y h e =
-    let m = unmap (λ (s : List Bool). (behind_state left, record r { states = r.states ++ s ∷ [] })) (bits_in (codes "state") a) y e in
-    let after : Report = record r { states = r.states ++ m.value ∷ [] } in
-    let gives : Some (behind_state left, after) ≡ Some y = m.gives in
-    let same : (behind_state left, after) ≡ y = cc in
-    let more : length (r.states ++ m.value ∷ []) ≡ length r.inputs + 1 = length-append r.states (m.value ∷ []) ∙ ap (λ (n : ℕ). n + 1) h.1 in
-    let is_text : text ++ line a ≡ head_text r ++ (trace_line (length r.inputs + left) ++ woven (r.states ++ m.value ∷ []) r.inputs) =
-    three text (head_text r) (trace_line (length r.inputs + left)) (woven r.states r.inputs) (line a) h.2
+    let m = unmap (λ (s : Seen). (behind_state left, with_state r s)) (state_in left a) y e in
+    let o = stood left (seen_in (codes "state") a) m.value m.is in
+    let l = seen_line_is (codes "state") a m.value o.0 in
+    let gives : Some (behind_state left, with_state r m.value) ≡ Some y = m.gives in
+    let same : (behind_state left, with_state r m.value) ≡ y = cc in
+    let more : length (r.states ++ m.value.bits ∷ []) ≡ length r.inputs + 1 = length-append r.states (m.value.bits ∷ []) ∙ ap (λ (n : ℕ). n + 1) h.1 in
+    let is_text : text ++ line a ≡ head_text r ++ (trace_line (length r.inputs + left) ++ woven (wholes r.states ++ m.value ∷ []) r.inputs) =
+    three text (head_text r) (trace_line (length r.inputs + left)) (woven (wholes r.states) r.inputs) (line a) h.2
     ∙ ap (λ t. head_text r ++ (trace_line (length r.inputs + left) ++ t))
-    (ap (λ t. woven r.states r.inputs ++ line t) (bits_line_is (codes "state") a m.value m.is) ∙ sym (state_more r.states r.inputs m.value h.1)) in
-    subst (λ (y : Reached). Next y text a) same (by (left == 0) refl after m.value refl more is_text)
+    (ap (λ t. woven (wholes r.states) r.inputs ++ line t) l.1 ∙ sym (state_more (wholes r.states) r.inputs m.value (length_wholes r.states ∙ h.1))) in
+    subst (λ (y : Reached). Next y text a) same (by (left == 0) refl m.value l.0 o.1 more is_text)
   where
-    by : (b : Bool) → (left == 0) ≡ b → (after : Report) (s : List Bool) → after ≡ record r { states = r.states ++ s ∷ [] } →
-        length (r.states ++ s ∷ []) ≡ length r.inputs + 1 →
-        text ++ line a ≡ head_text r ++ (trace_line (length r.inputs + left) ++ woven (r.states ++ s ∷ []) r.inputs) →
-        Fits (cond b places.Log (places.Input left)) after (text ++ line a)
-    by true z after s is more t =
+    by : (b : Bool) → (left == 0) ≡ b → (s : Seen) → IsSeen s → may_stand left s ≡ true →
+        length (r.states ++ s.bits ∷ []) ≡ length r.inputs + 1 →
+        text ++ line a ≡ head_text r ++ (trace_line (length r.inputs + left) ++ woven (wholes r.states ++ s ∷ []) r.inputs) →
+        Fits (cond b places.Log (places.Input left)) (with_state r s) (text ++ line a)
+    by true z s sound may more t =
         let none : left ≡ 0 = eqb-true left 0 z in
         let count : length r.inputs + left ≡ length r.inputs = omega (arith, none) in
-        subst (λ (after : Report). Fits places.Log after (text ++ line a)) (sym is) (
+        let here : get_or (r.states ++ s.bits ∷ []) (length r.inputs) [] ≡ s.bits = get_or_at r.states s.bits [] [] (length r.inputs) h.1 in
+        let last : s ≡ state_at (with_state r s) (length r.inputs) = last_state (with_state r s) (length r.inputs) s.bits refl (sym here) in (
           record {
             head = record { budgets = h.0.head.budgets; depth = h.0.head.depth; steps = h.0.head.steps; few = h.0.head.few };
             small = omega (arith, none, h.0.small);
-            more =
-                more;
+            more = more;
+            last = subst IsSeen last sound;
           },
           h.0.log,
-          t ∙ ap (λ (n : ℕ). head_text r ++ (trace_line n ++ woven (r.states ++ s ∷ []) r.inputs)) count,
+          t
+              ∙ (ap (λ (n : ℕ). head_text r ++ (trace_line n ++ woven (wholes r.states ++ s ∷ []) r.inputs)) count
+              ∙ ap (λ (ss : List Seen). head_text r ++ (trace_line (length r.inputs) ++ woven ss r.inputs)) (sym (seens_push r.states s))),
         )
-    by false z after s is more t =
+    by false z s sound may more t =
         let some : left ≡ 0 → ⊥ = eqb-false left 0 z in
-        subst (λ (after : Report). Fits (places.Input left) after (text ++ line a)) (sym is) (
+        let known : s.free ≡ [] = known_there left s may z in (
           record {
             head = record { budgets = h.0.head.budgets; depth = h.0.head.depth; steps = h.0.head.steps; few = h.0.head.few };
+            free = known;
             log = h.0.log;
             small = h.0.small;
           },
           more,
           omega (arith, some),
-          t,
+          t
+              ∙ ap (λ (ss : List Seen). head_text r ++ (trace_line (length r.inputs + left) ++ woven ss r.inputs)) (sym (wholes_push r.states s known)),
         )
 
 at_input : (left : ℕ) (r : Report) (text a : List ℕ) (y : Reached) → Fits (places.Input left) r text → taken (places.Input left) r a ≡ Some y → Next y text a
@@ -506,20 +539,21 @@ at_input left r text a y h e =
     subst (λ (y : Reached). Next y text a) same (
       record {
         head = record { budgets = h.0.head.budgets; depth = h.0.head.depth; steps = h.0.head.steps; few = h.0.head.few };
+        free = h.0.free;
         log = h.0.log;
         small =
             omega (arith, h.0.small, count);
       },
       h.1 ∙ sym more,
-      three text (head_text r) (trace_line (length r.inputs + left)) (woven r.states r.inputs) (line a) h.3
+      three text (head_text r) (trace_line (length r.inputs + left)) (woven (wholes r.states) r.inputs) (line a) h.3
           ∙ (ap (λ t. head_text r ++ (trace_line (length r.inputs + left) ++ t))
-          (ap (λ t. woven r.states r.inputs ++ line t) (bits_line_is (codes "input") a m.value m.is) ∙ sym (input_more r.states r.inputs m.value h.1))
-          ∙ ap (λ (n : ℕ). head_text r ++ (trace_line n ++ woven r.states (r.inputs ++ m.value ∷ []))) count),
+          (ap (λ t. woven (wholes r.states) r.inputs ++ line t) (bits_line_is (codes "input") a m.value m.is) ∙ sym (input_more (wholes r.states) r.inputs m.value (length_wholes r.states ∙ h.1)))
+          ∙ ap (λ (n : ℕ). head_text r ++ (trace_line n ++ woven (wholes r.states) (r.inputs ++ m.value ∷ []))) count),
     )
 
 -- behind the trace, where so many log lines are left
 lines_left : (left : ℕ) (r : Report) (text : List ℕ) → BehindTrace r → Each HasText r.log → length r.log + left < 2 ^ 64 →
-    text ≡ head_text r ++ (trace_line (length r.inputs) ++ (woven r.states r.inputs ++ (log_line (length r.log + left) ++ lines_text r.log))) →
+    text ≡ head_text r ++ (trace_line (length r.inputs) ++ (woven (seens r.states r.free) r.inputs ++ (log_line (length r.log + left) ++ lines_text r.log))) →
     Fits (log_place left) r text
 lines_left left r text b each small t = by (left == 0) refl
   where
@@ -531,7 +565,7 @@ lines_left left r text b each small t = by (left == 0) refl
           each,
           omega (arith, small, none),
           t
-              ∙ ap (λ (n : ℕ). head_text r ++ (trace_line (length r.inputs) ++ (woven r.states r.inputs ++ (log_line n ++ lines_text r.log)))) count,
+              ∙ ap (λ (n : ℕ). head_text r ++ (trace_line (length r.inputs) ++ (woven (seens r.states r.free) r.inputs ++ (log_line n ++ lines_text r.log)))) count,
         )
     by false z = let some : left ≡ 0 → ⊥ = eqb-false left 0 z in (b, each, small, omega (arith, some), t)
 
@@ -550,10 +584,10 @@ at_log r text a y h e =
     let count : k.value ≡ length r.log + k.value = omega (arith, none) in
     subst (λ (y : Reached). Next y text a) same
     (lines_left k.value r (text ++ line a) h.0 (subst (λ (log : List Line). Each HasText log) (sym h.1) tt) (omega (arith, none, c.1))
-    (three text (head_text r) (trace_line (length r.inputs)) (woven r.states r.inputs) (line a) h.2
-    ∙ (ap (λ t. head_text r ++ (trace_line (length r.inputs) ++ (woven r.states r.inputs ++ line t))) c.0
-    ∙ (ap (λ (n : ℕ). head_text r ++ (trace_line (length r.inputs) ++ (woven r.states r.inputs ++ log_line n))) count
-    ∙ ap (λ t. head_text r ++ (trace_line (length r.inputs) ++ (woven r.states r.inputs ++ t)))
+    (three text (head_text r) (trace_line (length r.inputs)) (woven (seens r.states r.free) r.inputs) (line a) h.2
+    ∙ (ap (λ t. head_text r ++ (trace_line (length r.inputs) ++ (woven (seens r.states r.free) r.inputs ++ line t))) c.0
+    ∙ (ap (λ (n : ℕ). head_text r ++ (trace_line (length r.inputs) ++ (woven (seens r.states r.free) r.inputs ++ log_line n))) count
+    ∙ ap (λ t. head_text r ++ (trace_line (length r.inputs) ++ (woven (seens r.states r.free) r.inputs ++ t)))
     (sym (append-nil (log_line (length r.log + k.value))) ∙ ap (λ t. log_line (length r.log + k.value) ++ t) (sym nothing))))))
 
 at_lines : (left : ℕ) (r : Report) (text a : List ℕ) (y : Reached) → Fits (places.Lines left) r text → taken (places.Lines left) r a ≡ Some y → Next y text a
@@ -572,12 +606,13 @@ at_lines left r text a y h e =
       head = record { budgets = h.0.head.budgets; depth = h.0.head.depth; steps = h.0.head.steps; few = h.0.head.few };
       small = h.0.small;
       more = h.0.more;
+      last = h.0.last;
     })
     (each_more HasText r.log m.value h.1 l.0) (omega (arith, count, h.2))
-    (five text (head_text r) (trace_line (length r.inputs)) (woven r.states r.inputs) (log_line (length r.log + left)) (lines_text r.log) (line a) h.4
-    ∙ (ap (λ t. head_text r ++ (trace_line (length r.inputs) ++ (woven r.states r.inputs ++ (log_line (length r.log + left) ++ t))))
+    (five text (head_text r) (trace_line (length r.inputs)) (woven (seens r.states r.free) r.inputs) (log_line (length r.log + left)) (lines_text r.log) (line a) h.4
+    ∙ (ap (λ t. head_text r ++ (trace_line (length r.inputs) ++ (woven (seens r.states r.free) r.inputs ++ (log_line (length r.log + left) ++ t))))
     (ap (λ t. lines_text r.log ++ line t) (sym l.1) ∙ sym (flat_more (λ (l : Line). line (line_text l)) r.log m.value))
-    ∙ ap (λ (n : ℕ). head_text r ++ (trace_line (length r.inputs) ++ (woven r.states r.inputs ++ (log_line n ++ lines_text (r.log ++ m.value ∷ []))))) count)))
+    ∙ ap (λ (n : ℕ). head_text r ++ (trace_line (length r.inputs) ++ (woven (seens r.states r.free) r.inputs ++ (log_line n ++ lines_text (r.log ++ m.value ∷ []))))) count)))
 
 at_end : (r : Report) (text a : List ℕ) (y : Reached) → Fits places.End r text → taken places.End r a ≡ Some y → Next y text a
 at_end r text a y h e =
@@ -586,8 +621,8 @@ at_end r text a y h e =
       h.0,
       h.1,
       h.2,
-      five text (head_text r) (trace_line (length r.inputs)) (woven r.states r.inputs) (log_line (length r.log)) (lines_text r.log) (line a) h.3
-          ∙ ap (λ t. head_text r ++ (trace_line (length r.inputs) ++ (woven r.states r.inputs ++ (log_line (length r.log) ++ (lines_text r.log ++ line t)))))
+      five text (head_text r) (trace_line (length r.inputs)) (woven (seens r.states r.free) r.inputs) (log_line (length r.log)) (lines_text r.log) (line a) h.3
+          ∙ ap (λ t. head_text r ++ (trace_line (length r.inputs) ++ (woven (seens r.states r.free) r.inputs ++ (log_line (length r.log) ++ (lines_text r.log ++ line t)))))
           (same_text a (codes "end") z.0),
     )
 
@@ -694,11 +729,11 @@ pub done_is_report : (r : Report) (bytes : List ℕ) → Fits places.Done r byte
 unfolding head_text tail_text
 done_is_report r bytes h =
     let b = h.0 in
-    let trace : trace_text r ≡ trace_line (length r.inputs) ++ woven r.states r.inputs = trace_is_woven r b.more in
+    let trace : trace_text r ≡ trace_line (length r.inputs) ++ woven (seens r.states r.free) r.inputs = trace_is_woven r b.more in
     let tail : tail_text r ≡ trace_line (length r.inputs)
-    ++ (woven r.states r.inputs ++ (log_line (length r.log) ++ (lines_text r.log ++ line (codes "end")))) =
+    ++ (woven (seens r.states r.free) r.inputs ++ (log_line (length r.log) ++ (lines_text r.log ++ line (codes "end")))) =
     ap (λ t. t ++ (log_line (length r.log) ++ (lines_text r.log ++ line (codes "end")))) trace
-    ∙ append_assoc (trace_line (length r.inputs)) (woven r.states r.inputs) (log_line (length r.log) ++ (lines_text r.log ++ line (codes "end"))) in (
+    ∙ append_assoc (trace_line (length r.inputs)) (woven (seens r.states r.free) r.inputs) (log_line (length r.log) ++ (lines_text r.log ++ line (codes "end"))) in (
       record {
         depth = b.head.depth;
         some_steps = b.head.budgets.some_steps;
@@ -711,6 +746,7 @@ done_is_report r bytes h =
         few_steps = b.head.few;
         one_state_more = b.more;
         few_inputs = b.small;
+        last = b.last;
         each_line = All-from_recursion HasText r.log h.1;
         few_lines = h.2;
       },

@@ -10,6 +10,10 @@ use Rattle.std.proofs.lemmas.Bool.Decides.{Decides-eqb}
 use Rattle.bs_bits.specs.Text.{bits_text, bits_of}
 use Rattle.bs_bits.specs.Lines.{line, words_of, number_in}
 use Rattle.bs_bits.proofs.TextLemmas.{text_again}
+use Rattle.bs_seen.specs.declared.seen.Seen.{Seen}
+use Rattle.bs_seen.specs.Seen.{IsSeen}
+use Rattle.bs_seen.specs.SeenText.{seen_of, seen_text}
+use Rattle.bs_seen.proofs.TextLemmas.{seen_exact}
 use Rattle.bs_log.specs.declared.line.Line.{Line}
 use Rattle.bs_log.specs.LineForms.{HasText, IsLineOf}
 use Rattle.bs_log.specs.LineReading.{id_in, line_in}
@@ -28,7 +32,7 @@ use Rattle.bs_report.specs.declared.report.ListEnd.{ListEnd}
 use Rattle.bs_report.specs.declared.report.ListEnd.TheVariants.{Finished, Candidates as ByCandidates, Conflicts as ByConflicts}
 use Rattle.bs_report.specs.declared.report.Stop.{Stop}
 use Rattle.bs_report.specs.declared.report.Stop.TheVariants.{Reset, Length, Nohit, Empty, Candidates, Conflicts}
-use Rattle.bs_report.specs.Forms.{◌>>=◌, next_in, behind, at_end, within, number_within, number_behind, bits_behind, bits_next, count_in, bits_in}
+use Rattle.bs_report.specs.Forms.{◌>>=◌, next_in, behind, at_end, within, number_within, number_behind, bits_behind, bits_next, seen_behind, seen_in, count_in, bits_in}
 use Rattle.bs_report.specs.Forms.{budgets_in, depth_in, older_in, source_in, before_in, cand_in, finished_end, end_of, end_in, run_cycle_in, moment_in}
 use Rattle.bs_report.specs.Forms.{hit_in, stop_of, stop_in}
 use Rattle.bs_report.specs.Text.{title, before_text, cand_words, end_word, stop_word, hit_text, IsOfDepth, HasEndText, HasHitText}
@@ -130,6 +134,21 @@ bits_behind_is tag ws found e =
     subst (λ (found : List Bool × List (List ℕ)). ws ≡ tag ∷ bits_text found.0 ∷ found.1) same
     (behind_is tag ws a.value a.is ∙ ap (λ w. tag ∷ w ∷ a.value.1) (sym (text_again a.value.0 b.value b.is)))
 
+-- what was seen behind a word
+record IsSeenBehind (tag : List ℕ) (ws : List (List ℕ)) (found : Seen × List (List ℕ)) : Type 0 where
+  sound : IsSeen found.0
+  words : ws ≡ tag ∷ seen_text found.0 ∷ found.1
+
+seen_behind_is : (tag : List ℕ) (ws : List (List ℕ)) (found : Seen × List (List ℕ)) → seen_behind tag ws ≡ Some found → IsSeenBehind tag ws found
+seen_behind_is tag ws found e =
+    let a = bound (behind tag ws) (λ found. seen_of found.0 >>= λ seen. Some (seen, found.1)) found e in
+    let b = bound (seen_of a.value.0) (λ seen. Some (seen, a.value.1)) found a.gives in
+    let gives : Some (b.value, a.value.1) ≡ Some found = b.gives in
+    let same : (b.value, a.value.1) ≡ found = cc in
+    let exact = seen_exact a.value.0 b.value b.is in
+    subst (IsSeenBehind tag ws) same
+    (record { sound = exact.0; words = behind_is tag ws a.value a.is ∙ ap (λ w. tag ∷ w ∷ a.value.1) (sym exact.1) })
+
 -- ---- lines
 
 from_words : (text : List ℕ) (ws : List (List ℕ)) → words_of text ≡ ws → text ≡ joined ws
@@ -153,6 +172,16 @@ bits_line_is tag text bs e =
     let z = end_is_here a.value.1 a.value.0 bs a.gives in
     from_words text (tag ∷ bits_text bs ∷ [])
     (bits_behind_is tag (words_of text) a.value a.is ∙ (ap (λ ws. tag ∷ bits_text a.value.0 ∷ ws) z.0 ∙ ap (λ (bs : List Bool). tag ∷ bits_text bs ∷ []) z.1))
+
+pub seen_line_is : (tag text : List ℕ) (s : Seen) → seen_in tag text ≡ Some s → IsSeen s × (text ≡ joined (tag ∷ seen_text s ∷ []))
+seen_line_is tag text s e =
+    let a = bound (seen_behind tag (words_of text)) (λ found. at_end found.1 found.0) s e in
+    let z = end_is_here a.value.1 a.value.0 s a.gives in
+    let b = seen_behind_is tag (words_of text) a.value a.is in (
+      subst IsSeen z.1 b.sound,
+      from_words text (tag ∷ seen_text s ∷ [])
+          (b.words ∙ (ap (λ ws. tag ∷ seen_text a.value.0 ∷ ws) z.0 ∙ ap (λ (s : Seen). tag ∷ seen_text s ∷ []) z.1)),
+    )
 
 pub record AreBudgets (text : List ℕ) (b : Budgets) : Type 0 where
   pub spells : text ≡ codes "asked " ++ (decimal b.steps ++ (codes " candidates " ++ (decimal b.candidates ++ (codes " conflicts " ++ decimal b.conflicts))))

@@ -3,6 +3,8 @@ use Rattle.std.specs.Prelude.{ℕ, ◌==◌, nat_le, Bool, ◌&&◌, List, [], �
 use Rattle.std.specs.Str.{bytes_eq}
 use Rattle.bs_bits.specs.Lines.{words_of, number_in}
 use Rattle.bs_bits.specs.Text.{bits_of}
+use Rattle.bs_seen.specs.declared.seen.Seen.{Seen}
+use Rattle.bs_seen.specs.SeenText.{seen_of}
 use Rattle.bs_log.specs.LineReading.{id_in}
 use Rattle.bs_stim.specs.declared.limits.TheConstants.{MAX_RUNS, MAX_CYCLES}
 use Rattle.bs_report.specs.declared.limits.TheConstants.{MAX_STEPS, MAX_CANDIDATES, MAX_CONFLICTS}
@@ -56,6 +58,13 @@ bits_behind tag words = do
   bits ← bits_of found.0
   Some (bits, found.1)
 
+-- the same of bits of which some may not be known
+abbrev pub seen_behind : List ℕ → List (List ℕ) → Option (Seen × List (List ℕ))
+seen_behind tag words = do
+  found ← behind tag words
+  seen ← seen_of found.0
+  Some (seen, found.1)
+
 -- the bits that the first word is, and the words behind it
 abbrev pub bits_next : List (List ℕ) → Option (List Bool × List (List ℕ))
 bits_next words = do
@@ -83,6 +92,12 @@ count_in tag text = do
 abbrev pub bits_in : List ℕ → List ℕ → Option (List Bool)
 bits_in tag text = do
   found ← bits_behind tag (words_of text)
+  at_end found.1 found.0
+
+-- the same where some may not be known
+abbrev pub seen_in : List ℕ → List ℕ → Option Seen
+seen_in tag text = do
+  found ← seen_behind tag (words_of text)
   at_end found.1 found.0
 
 abbrev pub budgets_in : List ℕ → Option Budgets

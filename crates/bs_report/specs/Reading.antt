@@ -1,8 +1,9 @@
 -- What report a text is, or the first fault of a text that is none (docs/FORMATS.md, "Report").
-use Rattle.std.specs.Prelude.{ℕ, ◌+◌, ◌-◌, ◌==◌, Bool, true, false, List, [], ◌∷◌, ◌++◌, length, codes, Option, Some, None, option_map, Result, Ok}
+use Rattle.std.specs.Prelude.{ℕ, ◌+◌, ◌-◌, ◌==◌, ◌||◌, Bool, true, false, List, [], ◌∷◌, ◌++◌, length, codes, Option, Some, None, option_map, Result, Ok}
 use Rattle.std.specs.Prelude.{Err, if◌then◌else◌}
 use Rattle.std.specs.Str.{bytes_eq}
 use Rattle.bs_log.specs.LineReading.{line_in}
+use Rattle.bs_seen.specs.declared.seen.Seen.{Seen}
 use Rattle.bs_report.specs.declared.fault.ReportFault.{ReportFault}
 use Rattle.bs_report.specs.declared.fault.ReportFault.TheVariants as faults
 use Rattle.bs_report.specs.declared.place.PartialStep.{PartialStep}
@@ -17,7 +18,7 @@ use Rattle.bs_report.specs.declared.report.Step.{Step}
 use Rattle.bs_report.specs.declared.report.Report.{Report}
 use Rattle.bs_bits.specs.Lines.{pieces_of}
 use Rattle.bs_bits.specs.Reading.{◌>>=◌}
-use Rattle.bs_report.specs.Forms.{depth_in, count_in, bits_in, budgets_in, older_in, cand_in, end_in, hit_in, stop_in}
+use Rattle.bs_report.specs.Forms.{depth_in, count_in, bits_in, seen_in, budgets_in, older_in, cand_in, end_in, hit_in, stop_in}
 
 -- ---- a line at its place
 
@@ -40,20 +41,20 @@ turned r text (Some stop) = Some (places.Trace, record r { stop = stop })
 
 -- the state of a step, and its signature
 abbrev pub present_place : List ℕ → Option Place
-present_place text = option_map (λ present. places.Stored present) (bits_in (codes "present") text)
+present_place text = option_map (λ present. places.Stored present) (seen_in (codes "present") text)
 
-abbrev pub begun : List Bool → List Bool → Option (List Bool) → PartialStep
+abbrev pub begun : Seen → List Bool → Option (List Bool) → PartialStep
 begun present stored older = record { present = present; stored = stored; older = older }
 
 -- behind a stored signature: at depth 1 the list, and else the older one
-abbrev pub behind_stored : ℕ → List Bool → List Bool → Place
+abbrev pub behind_stored : ℕ → Seen → List Bool → Place
 behind_stored depth present stored =
     if depth == 1 then places.Listing (begun present stored None) [] else places.Older present stored
 
-abbrev pub stored_place : ℕ → List Bool → List ℕ → Option Place
+abbrev pub stored_place : ℕ → Seen → List ℕ → Option Place
 stored_place depth present text = option_map (λ stored. behind_stored depth present stored) (bits_in (codes "stored") text)
 
-abbrev pub older_place : List Bool → List Bool → List ℕ → Option Place
+abbrev pub older_place : Seen → List Bool → List ℕ → Option Place
 older_place present stored text = option_map (λ older. places.Listing (begun present stored older) []) (older_in text)
 
 -- a candidate, or else how the list ended
@@ -83,6 +84,22 @@ with_step r b cands ended hit = put_step r (step_of b cands ended hit)
 abbrev pub behind_state : ℕ → Place
 behind_state left = if left == 0 then places.Log else places.Input left
 
+-- whether a state of the trace may stand where so many inputs are left: in the last one alone some bits may not be known
+abbrev pub may_stand : ℕ → Seen → Bool
+may_stand left seen = (length seen.free == 0) || (left == 0)
+
+abbrev pub standing : ℕ → Option Seen → Option Seen
+standing left None = None
+standing left (Some seen) = if may_stand left seen then Some seen else None
+
+-- a state of the trace, where so many inputs are left
+abbrev pub state_in : ℕ → List ℕ → Option Seen
+state_in left text = standing left (seen_in (codes "state") text)
+
+-- the report with a state of the trace more
+abbrev pub with_state : Report → Seen → Report
+with_state r seen = record r { states = r.states ++ seen.bits ∷ []; free = seen.free }
+
 -- where so many log lines are left
 abbrev pub log_place : ℕ → Place
 log_place left = if left == 0 then places.End else places.Lines left
@@ -90,6 +107,7 @@ log_place left = if left == 0 then places.End else places.Lines left
 -- What a line gives at its place; none where it is of a form that the place does not allow. The head is two lines. Then
 -- each step has its lines `step`, `present`, `stored` and at depth 2 `older`, those of its candidates, `list`, and `hit` or
 -- `nohit`. Behind the line `stop` come the trace, a state and so many times an input and a state, and so many log lines, and then `end`.
+-- Of the last state some bits may not be known.
 abbrev pub taken : Place → Report → List ℕ → Option Reached
 taken places.Title r text = option_map (λ depth. (places.Asked, record r { depth = depth })) (depth_in text)
 taken places.Asked r text = option_map (λ budgets. (places.Turn, record r { budgets = budgets })) (budgets_in text)
@@ -100,7 +118,7 @@ taken (places.Older present stored) r text = unchanged r (older_place present st
 taken (places.Listing b cands) r text = unchanged r (listed_place r.depth b cands text)
 taken (places.Hit b cands ended) r text = option_map (λ hit. (places.Turn, with_step r b cands ended hit)) (hit_in text)
 taken places.Trace r text = unchanged r (option_map (λ n. places.State n) (count_in (codes "trace") text))
-taken (places.State left) r text = option_map (λ s. (behind_state left, record r { states = r.states ++ s ∷ [] })) (bits_in (codes "state") text)
+taken (places.State left) r text = option_map (λ seen. (behind_state left, with_state r seen)) (state_in left text)
 taken (places.Input left) r text = option_map (λ x. (places.State (left - 1), record r { inputs = r.inputs ++ x ∷ [] })) (bits_in (codes "input") text)
 taken places.Log r text = unchanged r (option_map (λ n. log_place n) (count_in (codes "log") text))
 taken (places.Lines left) r text = option_map (λ l. (log_place (left - 1), record r { log = r.log ++ l ∷ [] })) (line_in text)
@@ -146,6 +164,7 @@ nothing_read =
       stop = stops.Reset;
       states = [];
       inputs = [];
+      free = [];
       log = [];
     }
 

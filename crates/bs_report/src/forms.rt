@@ -4,11 +4,12 @@ ghost use Rattle.std.specs.Str.{bytes_eq};
 ghost use Rattle.bs_log.specs.LineReading.{id_in};
 ghost use Rattle.bs_report.specs.Forms.{at_end as at_end_of, before_in, behind, bits_behind, bits_in, bits_next, budgets_in, cand_in, count_in};
 ghost use Rattle.bs_report.specs.Forms.{depth_in, end_in, end_of, finished_end, hit_in, moment_in, number_behind, number_within, older_in};
-ghost use Rattle.bs_report.specs.Forms.{run_cycle_in, source_in, stop_in, stop_of};
+ghost use Rattle.bs_report.specs.Forms.{run_cycle_in, seen_behind, seen_in, source_in, stop_in, stop_of};
 
 use crate::limits::{MAX_CANDIDATES, MAX_CONFLICTS, MAX_STEPS};
 use crate::report::{Before, Budgets, Cand, HitLine, ListEnd, Stop};
 use bs_bits::{Bits, NoMemory, Words, read_number};
+use bs_seen::Seen;
 use bs_stim::{MAX_CYCLES, MAX_RUNS};
 use std::alloc::Global;
 
@@ -71,6 +72,20 @@ fn read_bits_behind<'a>(
     }
 }
 
+/// What is seen behind this word.
+fn read_seen_behind<'a>(
+    alloc: Global,
+    words: &mut Words<'a>,
+    tag: &[u8],
+) -> Result<Option<Seen>, NoMemory>
+    ensures { IfOk result (λ found. MatchOption found (seen_behind tag.now words.old ≡ None) (λ seen. seen_behind tag.now words.old ≡ Some (seen, words.new))) }
+{
+    match word_behind(words, tag) {
+        None => Ok(None),
+        Some(word) => Seen::read_text(alloc, word),
+    }
+}
+
 /// The bits that the next word is.
 fn read_bits_next<'a>(alloc: Global, words: &mut Words<'a>) -> Result<Option<Bits>, NoMemory>
     ensures { IfOk result (λ found. MatchOption found (bits_next words.old ≡ None) (λ bits. bits_next words.old ≡ Some (bits, words.new))) }
@@ -119,6 +134,17 @@ pub fn read_bits(alloc: Global, line: &[u8], tag: &[u8]) -> Result<Option<Bits>,
     match read_bits_behind(alloc, &mut words, tag)? {
         None => Ok(None),
         Some(bits) => Ok(at_end(&mut words, bits)),
+    }
+}
+
+/// What is seen in a line of this word and bits, of which some may not be known.
+pub fn read_seen(alloc: Global, line: &[u8], tag: &[u8]) -> Result<Option<Seen>, NoMemory>
+    ensures { IfOk result (λ seen. seen ≡ seen_in tag.now line.now) }
+{
+    let mut words = Words::of(line);
+    match read_seen_behind(alloc, &mut words, tag)? {
+        None => Ok(None),
+        Some(seen) => Ok(at_end(&mut words, seen)),
     }
 }
 

@@ -3,7 +3,7 @@ ghost use Rattle.std.specs.Prelude.{◌≡◌, [], ◌∷◌, ◌++◌, IfOk, On
 ghost use Rattle.std.specs.Str.{bytes_eq};
 ghost use Rattle.bs_report.specs.Forms.{count_in};
 ghost use Rattle.bs_bits.specs.Reading.{Answers};
-ghost use Rattle.bs_report.specs.Reading.{begun as begun_of, put_step as with_put};
+ghost use Rattle.bs_report.specs.Reading.{begun as begun_of, may_stand as may_stand_of, put_step as with_put, with_state};
 ghost use Rattle.bs_report.specs.Reading.{behind_state as behind_state_of, behind_stored as behind_stored_of, begins as begins_number, ended};
 ghost use Rattle.bs_report.specs.Reading.{end_fault, followed, line_or_fault, is_done as is_done_place, listed_place, log_place as log_place_of, older_place};
 ghost use Rattle.bs_report.specs.Reading.{present_place, step_of, stored_place, taken};
@@ -13,17 +13,18 @@ ghost use Rattle.bs_report.specs.declared.place.Place.TheVariants as places;
 use crate::fault::ReportFault;
 use crate::forms::{
     is_text, read_bits, read_budgets, read_cand, read_count, read_depth, read_end, read_hit,
-    read_older, read_stop,
+    read_older, read_seen, read_stop,
 };
 use crate::report::{Cand, HitLine, ListEnd, Report, Step};
 use bs_bits::{Bits, List, NoMemory};
 use bs_log::Line;
+use bs_seen::Seen;
 use std::alloc::Global;
 
 /// The first lines of a step: its present state and its stored signatures.
 #[derive(Drop)]
 pub struct PartialStep {
-    pub present: Bits,
+    pub present: Seen,
     pub stored: Bits,
     pub older: Option<Bits>,
 }
@@ -40,9 +41,9 @@ pub enum Place {
     /// the present state of a step
     Present,
     /// its stored signature
-    Stored(Bits),
+    Stored(Seen),
     /// its older signature, behind its present state and its stored one
-    Older(Bits, Bits),
+    Older(Seen, Bits),
     /// a candidate, or how the list ended
     Listing(PartialStep, List<Cand>),
     /// the hit
@@ -144,14 +145,14 @@ fn take_turn(report: &mut Report, line: &[u8]) -> Option<Place>
 fn take_present(alloc: Global, line: &[u8]) -> Result<Option<Place>, NoMemory>
     ensures { IfOk result (λ next. next ≡ present_place line.now) }
 {
-    match read_bits(alloc, line, b"present")? {
+    match read_seen(alloc, line, b"present")? {
         None => Ok(None),
         Some(present) => Ok(Some(Place::Stored(present))),
     }
 }
 
 /// The place behind a stored signature.
-fn behind_stored(alloc: Global, depth: u8, present: Bits, stored: Bits) -> Place
+fn behind_stored(alloc: Global, depth: u8, present: Seen, stored: Bits) -> Place
     ensures { result ≡ behind_stored_of depth present stored }
 {
     if depth == 1 {
@@ -170,7 +171,7 @@ fn behind_stored(alloc: Global, depth: u8, present: Bits, stored: Bits) -> Place
 fn take_stored(
     alloc: Global,
     depth: u8,
-    present: Bits,
+    present: Seen,
     line: &[u8],
 ) -> Result<Option<Place>, NoMemory>
     ensures { IfOk result (λ next. next ≡ stored_place depth present line.now) }
@@ -184,7 +185,7 @@ fn take_stored(
 /// The place behind an older signature, where a line says it.
 fn behind_older(
     alloc: Global,
-    present: Bits,
+    present: Seen,
     stored: Bits,
     older: Option<Option<Bits>>,
 ) -> Option<Place>
@@ -206,7 +207,7 @@ fn behind_older(
 /// The older signature of a step.
 fn take_older(
     alloc: Global,
-    present: Bits,
+    present: Seen,
     stored: Bits,
     line: &[u8],
 ) -> Result<Option<Place>, NoMemory>
@@ -299,6 +300,23 @@ fn take_trace(line: &[u8]) -> Option<Place>
     Some(Place::State(count))
 }
 
+/// Whether a state of the trace may stand where so many inputs are left: in the last one alone some bits may not be known.
+fn may_stand(left: u64, seen: &Seen) -> bool
+    ensures { result ≡ may_stand_of left seen.now }
+{
+    seen.is_whole() || left == 0
+}
+
+/// Puts a state of the trace behind the others.
+fn put_state(left: u64, report: &mut Report, seen: Seen) -> Result<Option<Place>, NoMemory>
+    ensures next { IfOk result (λ next. next ≡ Some (behind_state_of left)) }
+    ensures put { OnOk result (report.new ≡ with_state report.old seen) }
+{
+    report.states.push(seen.bits)?;
+    report.free = seen.free;
+    Ok(Some(behind_state(left)))
+}
+
 /// A state of the trace.
 fn take_state(
     alloc: Global,
@@ -308,11 +326,14 @@ fn take_state(
 ) -> Result<Option<Place>, NoMemory>
     ensures { IfOk result (λ next. option_map (λ place. (place, report.new)) next ≡ taken (places.State left) report.old line.now) }
 {
-    match read_bits(alloc, line, b"state")? {
+    match read_seen(alloc, line, b"state")? {
         None => Ok(None),
-        Some(state) => {
-            report.states.push(state)?;
-            Ok(Some(behind_state(left)))
+        Some(seen) => {
+            if may_stand(left, &seen) {
+                put_state(left, report, seen)
+            } else {
+                Ok(None)
+            }
         }
     }
 }

@@ -8,7 +8,7 @@ use crate::fault::ReportFault;
 use crate::limits::MAX_REPORT_BYTES;
 use crate::place::{Place, finish, follow};
 use crate::report::{Budgets, Report, Stop};
-use bs_bits::{List, whole_line};
+use bs_bits::{Bits, List, whole_line};
 use bs_log::Log;
 use std::alloc::Global;
 
@@ -27,6 +27,7 @@ fn nothing(alloc: Global) -> Report
         stop: Stop::Reset,
         states: List::new(alloc),
         inputs: List::new(alloc),
+        free: Bits::new(alloc),
         log: Log::new(alloc),
     }
 }

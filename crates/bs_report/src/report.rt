@@ -3,6 +3,7 @@
 use bs_bits::{Bits, List};
 use bs_log::Log;
 use bs_scan::HasState;
+use bs_seen::Seen;
 
 /// Why a backtrace stopped (docs/DEFINITIONS.md, "Stop").
 #[derive(Clone, Copy, Debug, PartialEq, Eq)]
@@ -64,11 +65,11 @@ pub struct HitLine {
     pub state: Bits,
 }
 
-/// One step back: the present state with its stored signature and the older one, if the register keeps one, the candidates in
+/// One step back: what is known of the present state, with its stored signature and the older one, if the register keeps one, the candidates in
 /// ascending order, how their list ended, and the first moment of a run in a listed state.
 #[derive(Drop)]
 pub struct Step {
-    pub present: Bits,
+    pub present: Seen,
     pub stored: Bits,
     pub older: Option<Bits>,
     pub cands: List<Cand>,
@@ -84,8 +85,9 @@ pub struct Budgets {
     pub conflicts: u64,
 }
 
-/// The whole backtrace. `depth` is how many signatures the register keeps, 1 or 2. `states` and `inputs` are the trace: the states hit, from the last step back to the first, then the
-/// dumped state; and between two states the input that leads from one to the next.
+/// The whole backtrace. `depth` is how many signatures the register keeps, 1 or 2. `states` and `inputs` are the trace: the states hit,
+/// from the last step back to the first, then the one to which the first hit leads, or the dumped state where there is no hit; and
+/// between two states the input that leads from one to the next. `free` are the places of the last state that are not known.
 #[derive(Drop)]
 pub struct Report {
     pub depth: u8,
@@ -94,5 +96,6 @@ pub struct Report {
     pub stop: Stop,
     pub states: List<Bits>,
     pub inputs: List<Bits>,
+    pub free: Bits,
     pub log: Log,
 }

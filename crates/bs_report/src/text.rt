@@ -5,11 +5,13 @@ ghost use Rattle.bs_bits.specs.Lines.{line};
 ghost use Rattle.bs_bits.specs.Text.{bits_text};
 ghost use Rattle.bs_log.specs.LineText.{line_text};
 ghost use Rattle.bs_report.specs.Text.{before_text, cand_text, end_word, hit_text, list_text, older_text, step_text, steps_text, stop_word, move_text};
-ghost use Rattle.bs_report.specs.Text.{budgets_text, head_text, report_text, tail_text, title, trace_text};
+ghost use Rattle.bs_report.specs.Text.{budgets_text, head_text, report_text, state_at, state_text, tail_text, title, trace_text};
+ghost use Rattle.bs_seen.specs.SeenText.{seen_text};
 
 use crate::report::{Before, Budgets, Cand, HitLine, ListEnd, Report, Step, Stop};
 use bs_bits::{Bits, NoMemory, end_line, push_line, push_number, push_number_line, push_piece};
 use bs_log::Line;
+use bs_seen::push_seen_text;
 
 /// Appends a line of a word and bits.
 fn push_bits_line(text: &mut Vec<u8>, word: &[u8], bits: &Bits) -> Result<(), NoMemory>
@@ -17,6 +19,15 @@ fn push_bits_line(text: &mut Vec<u8>, word: &[u8], bits: &Bits) -> Result<(), No
 {
     push_piece(text, word)?;
     bits.text(text)?;
+    end_line(text)
+}
+
+/// Appends a line of a word and bits, of which some may not be known.
+fn push_seen_line(text: &mut Vec<u8>, word: &[u8], bits: &Bits, free: &Bits) -> Result<(), NoMemory>
+    ensures { OnOk result (text.new.items ≡ text.old.items ++ line (word.now ++ seen_text (record { bits = bits.now; free = free.now }))) }
+{
+    push_piece(text, word)?;
+    push_seen_text(text, bits, free)?;
     end_line(text)
 }
 
@@ -116,7 +127,7 @@ fn push_step(text: &mut Vec<u8>, depth: u8, number: u64, step: &Step) -> Result<
     ensures { OnOk result (text.new.items ≡ text.old.items ++ step_text depth number step.now) }
 {
     push_number_line(text, b"step ", number)?;
-    push_bits_line(text, b"present ", &step.present)?;
+    push_seen_line(text, b"present ", &step.present.bits, &step.present.free)?;
     push_bits_line(text, b"stored ", &step.stored)?;
     push_older(text, depth, &step.older)?;
     push_list(text, step)
@@ -146,6 +157,20 @@ fn push_stop(text: &mut Vec<u8>, stop: Stop) -> Result<(), NoMemory>
     }
 }
 
+/// Appends a state of the trace.
+#[tactic(auto, using(std::proofs::lemmas::List::get_or_read, crate::proofs::TraceLemmas::last_state, crate::proofs::TraceLemmas::earlier_state))]
+fn push_state(text: &mut Vec<u8>, report: &Report, i: usize) -> Result<(), NoMemory>
+    requires { i < length report.now.states }
+    ensures { OnOk result (text.new.items ≡ text.old.items ++ state_text (state_at report.now i)) }
+{
+    let state = report.states.get(i);
+    if i == report.inputs.len() {
+        push_seen_line(text, b"state ", state, &report.free)
+    } else {
+        push_bits_line(text, b"state ", state)
+    }
+}
+
 /// Appends an input of the trace, and the state behind it.
 #[tactic(auto, using(std::proofs::lemmas::List::get_or_read))]
 fn push_move(text: &mut Vec<u8>, report: &Report, i: usize) -> Result<(), NoMemory>
@@ -155,7 +180,7 @@ fn push_move(text: &mut Vec<u8>, report: &Report, i: usize) -> Result<(), NoMemo
     ensures { OnOk result (text.new.items ≡ text.old.items ++ move_text report.now i) }
 {
     push_bits_line(text, b"input ", report.inputs.get(i))?;
-    push_bits_line(text, b"state ", report.states.get(i + 1))
+    push_state(text, report, i + 1)
 }
 
 /// Appends the lines of the trace.
@@ -164,7 +189,7 @@ fn push_trace(text: &mut Vec<u8>, report: &Report) -> Result<(), NoMemory>
     ensures { OnOk result (text.new.items ≡ text.old.items ++ trace_text report.now) }
 {
     push_number_line(text, b"trace ", report.inputs.len() as u64)?;
-    push_bits_line(text, b"state ", report.states.get(0))?;
+    push_state(text, report, 0)?;
     for i in 0..report.inputs.len() {
         push_move(text, report, i)?;
     }

@@ -2,6 +2,8 @@
 use Rattle.std.proofs.Common.{◌≡◌, ℕ, true, false, [], ◌∷◌, List, Bool, refl, Some, None}
 use Rattle.std.specs.Prelude.{⊤, not}
 use Rattle.bs_log.specs.declared.why.Why.TheVariants.{Order as order}
+use Rattle.bs_seen.specs.declared.seen.Seen.{Seen}
+use Rattle.bs_seen.specs.Seen.{whole}
 use Rattle.bs_net.specs.declared.net.NetId.{NetId}
 use Rattle.bs_net.specs.declared.gate.Kind.TheVariants.{Not}
 use Rattle.bs_net.specs.declared.net.Mode.TheVariants.{Plain}
@@ -15,7 +17,7 @@ use Rattle.bs_report.specs.declared.report.ListEnd.TheVariants as ends
 use Rattle.bs_report.specs.declared.report.Stop.TheVariants as stops
 use Rattle.bs_scan.specs.Crash.{Crash}
 use Rattle.bs_report.specs.declared.report.Step.{Step}
-use Rattle.bs_report_good.specs.Trace.{trace_states, trace_inputs}
+use Rattle.bs_report_good.specs.Trace.{trace_end, trace_states, trace_inputs}
 use Rattle.bs_log.specs.Shown.{Basis}
 use Rattle.bs_report_good.specs.Valid.{first_failing, first_of_all, each_step, step_parts, cause_of}
 use Rattle.bs_report.proofs.Examples.{yes, not_, report}
@@ -41,7 +43,7 @@ crash =
       circuit = toggle;
       choice = record { width = 1; depth = 1; items = [] };
       runs = ([] ∷ []) ∷ [];
-      dump = record { state = true ∷ []; stored = Some []; older = None; depth = 1 };
+      dump = record { state = whole (true ∷ []); stored = Some []; older = None; depth = 1 };
     }
 
 abbrev basis : Basis
@@ -113,13 +115,13 @@ shift_crash =
       circuit = shift;
       choice = record { width = 2; depth = 1; items = (1 ∷ []) ∷ [] };
       runs = (one ∷ one ∷ one ∷ []) ∷ [];
-      dump = record { state = true ∷ true ∷ []; stored = Some one; older = None; depth = 1 };
+      dump = record { state = whole (true ∷ true ∷ []); stored = Some one; older = None; depth = 1 };
     }
 
 abbrev step_to : List Bool → Bool → List Bool → ℕ → Step
 step_to present stored state cycle =
     record {
-      present = present;
+      present = whole present;
       stored = stored ∷ [];
       older = None;
       cands = record { state = state; input = one; before = None } ∷ [];
@@ -150,6 +152,56 @@ goes_through = refl
 goes_under : trace_inputs shift_steps ≡ one ∷ one ∷ one ∷ []
 goes_under = refl
 
-lists_one : predecessors shift (record { width = 2; depth = 1; items = (1 ∷ []) ∷ [] }) (true ∷ true ∷ []) (one ∷ []) ≡ (true ∷ true ∷ []) ∷ []
+lists_one : predecessors shift (record { width = 2; depth = 1; items = (1 ∷ []) ∷ [] }) (whole (true ∷ true ∷ [])) (one ∷ []) ≡ (true ∷ true ∷ []) ∷ []
 unfolding computed
 lists_one = refl
+
+-- ---- the same of a dump of which the second flip-flop is not known
+
+abbrev partial_crash : Crash
+partial_crash =
+    record {
+      circuit = shift;
+      choice = record { width = 2; depth = 1; items = (1 ∷ []) ∷ [] };
+      runs = (one ∷ one ∷ one ∷ []) ∷ [];
+      dump = record { state = record { bits = true ∷ false ∷ []; free = false ∷ true ∷ [] }; stored = Some one; older = None; depth = 1 };
+    }
+
+-- two candidates, of which one is met
+abbrev first_step : Step
+first_step =
+    record {
+      present = record { bits = true ∷ false ∷ []; free = false ∷ true ∷ [] };
+      stored = one;
+      older = None;
+      cands = record { state = false ∷ true ∷ []; input = one; before = None } ∷ record { state = true ∷ true ∷ []; input = one; before = None } ∷ [];
+      end = ends.Finished 0;
+      hit = Some (record { run = 1; cycle = 2; state = true ∷ true ∷ [] });
+    }
+
+abbrev partial_steps : List Step
+partial_steps = first_step ∷ step_to (true ∷ true ∷ []) false (true ∷ false ∷ []) 1 ∷ step_to (true ∷ false ∷ []) false (false ∷ false ∷ []) 0 ∷ []
+
+partial_steps_are_right : first_of_all (each_step (step_parts partial_crash (record report { steps = partial_steps })) 0 partial_steps) ≡ None
+unfolding computed
+partial_steps_are_right = refl
+
+-- the trace ends where the hit leads, which shows the known bit
+ends_where_the_hit_leads : trace_end partial_crash partial_steps ≡ whole (true ∷ true ∷ [])
+unfolding computed
+ends_where_the_hit_leads = refl
+
+ends_at_the_dump_without_a_hit : trace_end partial_crash (record first_step { hit = None } ∷ []) ≡ partial_crash.dump.state
+unfolding computed
+ends_at_the_dump_without_a_hit = refl
+
+-- a candidate that leads elsewhere, and a present with another known bit
+elsewhere : first_of_all (step_parts partial_crash (record report { steps = partial_steps }) 0
+    (record first_step { cands = record { state = false ∷ true ∷ []; input = false ∷ []; before = None } ∷ [] })) ≡ Some (parts.Candidate 1 1)
+unfolding computed
+elsewhere = refl
+
+known_too_much : first_of_all (step_parts partial_crash (record report { steps = partial_steps }) 0 (record first_step { present = whole (true ∷ true ∷ []) }))
+    ≡ Some (parts.Present 1)
+unfolding computed
+known_too_much = refl

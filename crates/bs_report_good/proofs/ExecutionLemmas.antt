@@ -7,6 +7,8 @@ use Rattle.std.proofs.lemmas.Bool.{true≢false, false≢true}
 use Rattle.std.proofs.lemmas.List.{length-map, length-append, length-take-le, get_or-take, get_or_append_left, get_or_at, reverse-append, append-nil}
 use Rattle.std.proofs.lemmas.List.Elements.{recursion_from_All}
 use Rattle.bs_bits.specs.Bits.{bits_eq}
+use Rattle.bs_seen.specs.declared.seen.Seen.{Seen}
+use Rattle.bs_seen.specs.Seen.{whole, Shows}
 use Rattle.bs_net.specs.declared.net.Flop.{Flop}
 use Rattle.bs_net.specs.declared.net.NetId.{NetId}
 use Rattle.bs_net.specs.Circuit.{Circuit, Leads, next, state_nets, bit_at}
@@ -19,13 +21,13 @@ use Rattle.bs_report.specs.declared.report.Cand.{Cand}
 use Rattle.bs_report.specs.declared.report.HitLine.{HitLine}
 use Rattle.bs_report.specs.declared.report.Step.{Step}
 use Rattle.bs_report.specs.declared.report.Report.{Report}
-use Rattle.bs_scan.specs.Crash.{Crash}
+use Rattle.bs_scan.specs.Crash.{Crash, IsCrash}
 use Rattle.bs_report_good.specs.Step.{stored_of, listed, IsRightStep, IsCandidate}
-use Rattle.bs_scan.specs.Present.{Present, present_in}
+use Rattle.bs_scan.specs.Present.{Present, LeadsInto, present_in}
 use Rattle.bs_report_good.specs.Chain.{present_of, present_of_hit, present_after, Follow}
-use Rattle.bs_report_good.specs.Trace.{hit_state, input_for}
+use Rattle.bs_report_good.specs.Trace.{hit_state, input_for, led_to, end_or, trace_end}
 use Rattle.bs_report_good.specs.Good.{IsGood}
-use Rattle.bs_report_good.specs.Law.{continued, EndsExecution, TracesEndExecutions}
+use Rattle.bs_report_good.specs.Law.{continued, EndsExecution, TracesEndExecutions, WholeDumpsEndTraces, WholeStatesAreLedTo}
 use Rattle.bs_report_good.proofs.ProgressLemmas.{hit_at}
 
 -- ---- executions
@@ -124,7 +126,7 @@ cand_for P (c ∷ cs) s h e = by (bits_eq c.state s) refl (bits_eq s c.state) re
 record InputFor (crash : Crash) (step : Step) (s : List Bool) : Type 0 where
   input : List Bool
   is : input_for step s ≡ Some input
-  leads : next crash.circuit s input ≡ step.present
+  leads : Shows step.present (next crash.circuit s input)
 
 input_of : (crash : Crash) → IsChecked crash.circuit → (step : Step) (hit : HitLine) → IsRightStep crash step → step.hit ≡ Some hit →
     InputFor crash step hit.state
@@ -135,8 +137,10 @@ input_of crash checked step hit right e =
     record {
       input = f.cand.input;
       is = ap (option_map (λ (c : Cand). c.input)) f.first;
-      leads = ap (λ (s : List Bool). next crash.circuit s f.cand.input) (sym f.state)
-          ∙ leads_next crash.circuit f.cand.state f.cand.input step.present checked f.right.leads;
+      leads =
+          subst (Shows step.present)
+          (sym (ap (λ (s : List Bool). next crash.circuit s f.cand.input) (sym f.state)
+          ∙ leads_next crash.circuit f.cand.state f.cand.input f.right.leads.there checked f.right.leads.leads)) f.right.leads.shown;
     }
 
 -- ---- the steps
@@ -194,34 +198,77 @@ inputs_by : (step : Step) (steps : List Step) (o : Option HitLine) → step.hit 
 inputs_by step steps o e = ap (λ (o : Option HitLine). cons_option (option_and_then (input_for step) (option_map (λ (h : HitLine). h.state) o))
     (hit_inputs steps)) e
 
-traced : (crash : Crash) → IsChecked crash.circuit → (steps : List Step) (now : Present) (tail : Run) → Follow crash (Some now) steps →
-    Each (IsRightStep crash) steps → Traced crash steps now.state tail
-traced crash checked [] now tail f right = record { visits = refl; ends = refl }
-traced crash checked (step ∷ steps) now tail f right = by step.hit refl f.1 (λ now tail f. traced crash checked steps now tail f right.1)
+-- a step without a hit, behind which nothing follows
+unhit_traced : (crash : Crash) (step : Step) (steps : List Step) (s : List Bool) (tail : Run) → step.hit ≡ None → Follow crash None steps →
+    Traced crash (step ∷ steps) s tail
+unhit_traced crash step steps s tail e follow =
+    let none = no_more crash steps follow in
+    make crash step steps s tail s [] [] (last_by s step steps None e)
+    (inputs_by step steps None e ∙ ap hit_inputs none) (states_by step steps None e ∙ ap hit_states none) refl refl
+
+-- a step with a hit, which leads to a state from which the trace goes on
+hit_traced : (crash : Crash) (step : Step) (steps : List Step) (hit : HitLine) (input s : List Bool) (tail : Run) → step.hit ≡ Some hit →
+    input_for step hit.state ≡ Some input → next crash.circuit hit.state input ≡ s → Traced crash steps hit.state (input ∷ tail) →
+    Traced crash (step ∷ steps) s tail
+hit_traced crash step steps hit input s tail e is to_now before =
+    make crash step steps s tail (last_state hit.state steps) (input ∷ hit_inputs steps) (hit.state ∷ hit_states steps)
+    (last_by s step steps (Some hit) e)
+    (inputs_by step steps (Some hit) e ∙ ap (λ (o : Option (List Bool)). cons_option o (hit_inputs steps)) is)
+    (states_by step steps (Some hit) e)
+    (ap (visited crash.circuit (last_state hit.state steps)) (reverse_first input (hit_inputs steps) tail)
+    ∙ (before.visits
+    ∙ (ap (λ (s : List Bool). reverse (hit_states steps) ++ hit.state ∷ visited crash.circuit s tail) to_now
+    ∙ sym (reverse_first hit.state (hit_states steps) (visited crash.circuit s tail)))))
+    (ap (final crash.circuit (last_state hit.state steps)) (reverse_first input (hit_inputs steps) tail)
+    ∙ (before.ends ∙ ap (λ (s : List Bool). final crash.circuit s tail) to_now))
+
+first_present : (crash : Crash) (now : Present) (step : Step) (steps : List Step) → Follow crash (Some now) (step ∷ steps) → step.present ≡ now.state
+first_present crash now step steps f = let same : now ≡ present_of step = cc in sym (ap (λ (p : Present). p.state) same)
+
+traced : (crash : Crash) → IsChecked crash.circuit → (steps : List Step) (now : Present) (s : List Bool) (tail : Run) → now.state ≡ whole s →
+    Follow crash (Some now) steps → Each (IsRightStep crash) steps → Traced crash steps s tail
+traced crash checked [] now s tail known f right = record { visits = refl; ends = refl }
+traced crash checked (step ∷ steps) now s tail known f right =
+    by step.hit refl f.1 (λ hit tail f. traced crash checked steps (present_of_hit crash hit) hit.state tail refl f right.1)
   where
-    here : step.present ≡ now.state
-    here = let same : now ≡ present_of step = cc in sym (ap (λ (p : Present). p.state) same)
+    here : step.present ≡ whole s
+    here = first_present crash now step steps f ∙ known
 
     by : (o : Option HitLine) → step.hit ≡ o → Follow crash (option_map (present_of_hit crash) o) steps →
-        ((now : Present) (tail : Run) → Follow crash (Some now) steps → Traced crash steps now.state tail) → Traced crash (step ∷ steps) now.state tail
-    by None e follow rest =
-        let none = no_more crash steps follow in
-        make crash step steps now.state tail now.state [] [] (last_by now.state step steps None e)
-        (inputs_by step steps None e ∙ ap hit_inputs none) (states_by step steps None e ∙ ap hit_states none) refl refl
+        ((hit : HitLine) (tail : Run) → Follow crash (Some (present_of_hit crash hit)) steps → Traced crash steps hit.state tail) →
+        Traced crash (step ∷ steps) s tail
+    by None e follow rest = unhit_traced crash step steps s tail e follow
     by (Some hit) e follow rest =
         let x = input_of crash checked step hit right.0 e in
-        let before = rest (present_of_hit crash hit) (x.input ∷ tail) follow in
-        let to_now : next crash.circuit hit.state x.input ≡ now.state = x.leads ∙ here in
-        make crash step steps now.state tail (last_state hit.state steps) (x.input ∷ hit_inputs steps) (hit.state ∷ hit_states steps)
-        (last_by now.state step steps (Some hit) e)
-        (inputs_by step steps (Some hit) e ∙ ap (λ (o : Option (List Bool)). cons_option o (hit_inputs steps)) x.is)
-        (states_by step steps (Some hit) e)
-        (ap (visited crash.circuit (last_state hit.state steps)) (reverse_first x.input (hit_inputs steps) tail)
-        ∙ (before.visits
-        ∙ (ap (λ (s : List Bool). reverse (hit_states steps) ++ hit.state ∷ visited crash.circuit s tail) to_now
-        ∙ sym (reverse_first hit.state (hit_states steps) (visited crash.circuit now.state tail)))))
-        (ap (final crash.circuit (last_state hit.state steps)) (reverse_first x.input (hit_inputs steps) tail)
-        ∙ (before.ends ∙ ap (λ (s : List Bool). final crash.circuit s tail) to_now))
+        let to_now : next crash.circuit hit.state x.input ≡ s = subst (λ (p : Seen). Shows p (next crash.circuit hit.state x.input)) here x.leads in
+        hit_traced crash step steps hit x.input s tail e x.is to_now (rest hit (x.input ∷ tail) follow)
+
+-- where a hit of the first step leads
+led_by : (crash : Crash) (step : Step) (hit : HitLine) (input : List Bool) → step.hit ≡ Some hit → input_for step hit.state ≡ Some input →
+    led_to crash.circuit step ≡ Some (next crash.circuit hit.state input)
+led_by crash step hit input e is =
+    ap (λ (o : Option HitLine). option_and_then (λ (s : List Bool). option_map (next crash.circuit s) (input_for step s))
+    (option_map (λ (h : HitLine). h.state) o)) e
+    ∙ ap (option_map (next crash.circuit hit.state)) is
+
+ends_there : (crash : Crash) (step : Step) (steps : List Step) (hit : HitLine) (input : List Bool) → step.hit ≡ Some hit →
+    input_for step hit.state ≡ Some input → trace_end crash (step ∷ steps) ≡ whole (next crash.circuit hit.state input)
+ends_there crash step steps hit input e is = ap (end_or crash.dump.state) (led_by crash step hit input e is)
+
+-- the whole trace
+whole_traced : (crash : Crash) → IsChecked crash.circuit → (steps : List Step) → Follow crash (Some (present_in crash.dump)) steps →
+    Each (IsRightStep crash) steps → Traced crash steps (trace_end crash steps).bits []
+whole_traced crash checked [] f right = record { visits = refl; ends = refl }
+whole_traced crash checked (step ∷ steps) f right = by step.hit refl f.1
+  where
+    by : (o : Option HitLine) → step.hit ≡ o → Follow crash (option_map (present_of_hit crash) o) steps →
+        Traced crash (step ∷ steps) (trace_end crash (step ∷ steps)).bits []
+    by None e follow = unhit_traced crash step steps (trace_end crash (step ∷ steps)).bits [] e follow
+    by (Some hit) e follow =
+        let x = input_of crash checked step hit right.0 e in
+        hit_traced crash step steps hit x.input (trace_end crash (step ∷ steps)).bits [] e x.is
+        (sym (ap (λ (p : Seen). p.bits) (ends_there crash step steps hit x.input e x.is)))
+        (traced crash checked steps (present_of_hit crash hit) hit.state (x.input ∷ []) refl follow right.1)
 
 abbrev hits : List Step → List HitLine
 hits steps = filter_map (λ step. step.hit) steps
@@ -294,43 +341,102 @@ at_front c runs m xs h =
     (λ j lt.
     get_or_append_left (take m.cycle (run_of runs m.run)) xs [] j (omega (arith, long)) ∙ get_or-take m.cycle (run_of runs m.run) j [] lt)
 
-from_reset : (crash : Crash) (r : Report) → IsGood crash r → (l : LastHit crash crash.dump.state r.steps) →
+-- where the trace ends behind a hit
+record IsEnd (crash : Crash) (steps : List Step) : Type 0 where
+  shown : Shows crash.dump.state (trace_end crash steps).bits
+  known : (trace_end crash steps).free ≡ []
+
+end_is : (crash : Crash) → IsChecked crash.circuit → (steps : List Step) (hit : HitLine) → Follow crash (Some (present_in crash.dump)) steps →
+    Each (IsRightStep crash) steps → last_or None (hits steps) ≡ Some hit → IsEnd crash steps
+end_is crash checked [] hit f right l = cc
+end_is crash checked (step ∷ steps) hit f right l = by step.hit refl f.1
+  where
+    by : (o : Option HitLine) → step.hit ≡ o → Follow crash (option_map (present_of_hit crash) o) steps → IsEnd crash (step ∷ steps)
+    by None e follow =
+        let none : hits (step ∷ steps) ≡ [] = hits_by step steps None e ∙ ap (λ (l : List Step). hits l) (no_more crash steps follow) in
+        let never : None ≡ Some hit = sym (ap (last_or None) none) ∙ l in
+        cc
+    by (Some first) e follow =
+        let x = input_of crash checked step first right.0 e in
+        let there : trace_end crash (step ∷ steps) ≡ whole (next crash.circuit first.state x.input) = ends_there crash step steps first x.input e x.is in
+        let led : Shows crash.dump.state (next crash.circuit first.state x.input) =
+        subst (λ (p : Seen). Shows p (next crash.circuit first.state x.input)) (first_present crash (present_in crash.dump) step steps f) x.leads in
+        record {
+          shown = subst (Shows crash.dump.state) (sym (ap (λ (p : Seen). p.bits) there)) led;
+          known = ap (λ (p : Seen). p.free) there;
+        }
+
+from_reset : (crash : Crash) (r : Report) → IsGood crash r → (s : List Bool) → s ≡ (trace_end crash r.steps).bits → IsEnd crash r.steps →
+    (l : LastHit crash s r.steps) →
     length (take l.hit.cycle (run_of crash.runs l.hit.run)) ≡ l.hit.cycle →
-    state_at crash.circuit (continued crash.runs (moment l.hit.run l.hit.cycle) r.inputs) l.hit.cycle ≡ last_state crash.dump.state r.steps →
-    Traced crash r.steps crash.dump.state [] → EndsExecution crash r
-from_reset crash r good l long front way =
+    state_at crash.circuit (continued crash.runs (moment l.hit.run l.hit.cycle) r.inputs) l.hit.cycle ≡ last_state s r.steps →
+    Traced crash r.steps s [] → EndsExecution crash r
+from_reset crash r good s is end l long front way =
     let c : Circuit = crash.circuit in
     let m : Moment = moment l.hit.run l.hit.cycle in
     let before : Run = take m.cycle (run_of crash.runs m.run) in
-    let last : List Bool = last_state crash.dump.state r.steps in
+    let last : List Bool = last_state s r.steps in
     let start : state_at c (before ++ r.inputs) (length before) ≡ last = ap (state_at c (before ++ r.inputs)) long ∙ front in
     let inputs : reverse (hit_inputs r.steps) ++ [] ≡ r.inputs = append-nil (reverse (hit_inputs r.steps)) ∙ sym good.trace.inputs in
     let ranges : range_with_len (length before) (suc (length r.inputs)) ≡ range_with_len m.cycle (length r.inputs + 1) =
     ap (λ (n : ℕ). range_with_len n (suc (length r.inputs))) long ∙ ap (range_with_len m.cycle) (sym (add-one (length r.inputs))) in
     let place : m.cycle + length r.inputs ≡ length before + length r.inputs = omega (arith, long) in
+    let there : state_at c (before ++ r.inputs) (m.cycle + length r.inputs) ≡ s =
+    ap (state_at c (before ++ r.inputs)) place
+    ∙ (ends_at c before r.inputs last start ∙ (sym (ap (final c last) inputs) ∙ way.ends)) in
     record {
       reached = m;
       last = ap (option_map (λ (hit : HitLine). moment hit.run hit.cycle)) l.last;
       recorded = l.recorded;
       states =
           good.trace.states
+          ∙ (ap (λ (t : List Bool). reverse (hit_states r.steps) ++ t ∷ []) (sym is)
           ∙ (sym way.visits
           ∙ (ap (visited c last) inputs
           ∙ (sym (visits c before r.inputs last start)
-          ∙ ap (map (state_at c (before ++ r.inputs))) ranges)));
-      ends =
-          ap (state_at c (before ++ r.inputs)) place
-          ∙ (ends_at c before r.inputs last start ∙ (sym (ap (final c last) inputs) ∙ way.ends));
+          ∙ ap (map (state_at c (before ++ r.inputs))) ranges))));
+      ends = subst (Shows crash.dump.state) (sym (there ∙ is)) end.shown;
+      known = good.trace.free ∙ end.known;
     }
 
 pub executed : TracesEndExecutions
 executed crash r is good some =
     let right = recursion_from_All (IsRightStep crash) r.steps good.steps in
-    let way = traced crash is.checked r.steps (present_in crash.dump) [] good.chain.follow right in
+    let s : List Bool = (trace_end crash r.steps).bits in
+    let way = whole_traced crash is.checked r.steps good.chain.follow right in
     ⊎_elim
-    (λ (n : NoHit crash.dump.state r.steps). absurd (some (good.trace.inputs ∙ ap reverse n.inputs)))
-    (λ (l : LastHit crash crash.dump.state r.steps).
+    (λ (n : NoHit s r.steps). absurd (some (good.trace.inputs ∙ ap reverse n.inputs)))
+    (λ (l : LastHit crash s r.steps).
     let long : length (take l.hit.cycle (run_of crash.runs l.hit.run)) ≡ l.hit.cycle =
     length-take-le l.hit.cycle (run_of crash.runs l.hit.run) l.recorded.lasts in
-    from_reset crash r good l long (at_front crash.circuit crash.runs (moment l.hit.run l.hit.cycle) r.inputs l.recorded ∙ l.state) way)
-    (hit_or_none crash r.steps (Some (present_in crash.dump)) crash.dump.state good.chain.follow right)
+    from_reset crash r good s refl (end_is crash is.checked r.steps l.hit good.chain.follow right l.last) l long
+    (at_front crash.circuit crash.runs (moment l.hit.run l.hit.cycle) r.inputs l.recorded ∙ l.state) way)
+    (hit_or_none crash r.steps (Some (present_in crash.dump)) s good.chain.follow right)
+
+-- ---- a dump of which all is known
+
+unhit_end : (crash : Crash) (step : Step) (steps : List Step) → step.hit ≡ None → trace_end crash (step ∷ steps) ≡ crash.dump.state
+unhit_end crash step steps e =
+    ap (λ (o : Option HitLine). end_or crash.dump.state (option_and_then (λ (s : List Bool). option_map (next crash.circuit s) (input_for step s))
+    (option_map (λ (h : HitLine). h.state) o))) e
+
+known_end : (crash : Crash) → IsChecked crash.circuit → (steps : List Step) → Follow crash (Some (present_in crash.dump)) steps →
+    Each (IsRightStep crash) steps → crash.dump.state.free ≡ [] → trace_end crash steps ≡ crash.dump.state
+known_end crash checked [] f right known = refl
+known_end crash checked (step ∷ steps) f right known = by step.hit refl
+  where
+    by : (o : Option HitLine) → step.hit ≡ o → trace_end crash (step ∷ steps) ≡ crash.dump.state
+    by None e = unhit_end crash step steps e
+    by (Some hit) e =
+        let x = input_of crash checked step hit right.0 e in
+        let t : List Bool = next crash.circuit hit.state x.input in
+        let led : Shows crash.dump.state t = subst (λ (p : Seen). Shows p t) (first_present crash (present_in crash.dump) step steps f) x.leads in
+        let same : t ≡ crash.dump.state.bits = subst (λ (fs : List Bool). Shows (record { bits = crash.dump.state.bits; free = fs }) t) known led in
+        ends_there crash step steps hit x.input e x.is ∙ (λ i. record { bits = same i; free = sym known i })
+
+pub whole_ends : WholeDumpsEndTraces
+whole_ends crash r is good known =
+    known_end crash is.checked r.steps good.chain.follow (recursion_from_All (IsRightStep crash) r.steps good.steps) known
+
+pub whole_led : WholeStatesAreLedTo
+whole_led c s x p = (λ (l : LeadsInto c s x (whole p)). subst (Leads c s x) l.shown l.leads, λ (l : Leads c s x p). record { there = p; leads = l; shown = refl })

@@ -5,11 +5,13 @@ use Rattle.std.specs.List.{AllByRecursion as Each, list_any}
 use Rattle.std.proofs.lemmas.Bool.{false≢true}
 use Rattle.std.proofs.lemmas.List.Elements.{recursion_from_All}
 use Rattle.bs_bits.specs.Bits.{bits_eq}
+use Rattle.bs_seen.specs.Seen.{is_shown}
+use Rattle.bs_seen.proofs.SeenLemmas.{shows_where}
 use Rattle.bs_net.specs.Circuit.{next, all_bits}
 use Rattle.bs_net.proofs.CallerLemmas.{all_bits_widths}
 use Rattle.bs_net.proofs.NextLemmas.{Member}
 use Rattle.bs_scan.specs.Moments.{is_listed}
-use Rattle.bs_scan.specs.Signature.{agrees, some_input_leads, predecessors}
+use Rattle.bs_scan.specs.Signature.{agrees, some_input_shows, predecessors}
 use Rattle.bs_scan.proofs.MomentLemmas.{each_member}
 use Rattle.bs_scan.proofs.SignatureLemmas.{bits_same_is}
 use Rattle.bs_report.specs.declared.report.Cand.{Cand}
@@ -76,7 +78,7 @@ whole : (crash : Crash) (basis : Basis) (r : Report) → IsCrash crash → IsEnc
 unfolding predecessors
 whole crash basis r is enc h k step e fin =
     let right = right_step crash is r k step (h.steps k step e) in
-    let q : List Bool → Bool = λ s. agrees crash.circuit crash.choice (stored_of step) s && some_input_leads crash.circuit s step.present in
+    let q : List Bool → Bool = λ s. agrees crash.circuit crash.choice (stored_of step) s && some_input_shows crash.circuit s step.present in
     let id = finished_id step.end fin in
     same_lists (listed step.cands) (asked_of crash step) (asc_of_pairs (listed step.cands) right.ascend)
     (asc_filter q (all_bits (length crash.circuit.flops)) (asc_all_bits (length crash.circuit.flops)))
@@ -87,12 +89,12 @@ whole crash basis r is enc h k step e fin =
     (recursion_from_All (IsCandidate crash.circuit crash.choice step.present (stored_of step)) step.cands right.candidates)) m))
     (λ s m.
     let found = filter_member q s (all_bits (length crash.circuit.flops)) m in
-    let tests = both (agrees crash.circuit crash.choice (stored_of step) s) (some_input_leads crash.circuit s step.present) found.0 in
-    let x = passing (λ (x : List Bool). bits_eq (next crash.circuit s x) step.present) (all_bits (length crash.circuit.inputs)) tests.1 in
+    let tests = both (agrees crash.circuit crash.choice (stored_of step) s) (some_input_shows crash.circuit s step.present) found.0 in
+    let x = passing (λ (x : List Bool). is_shown step.present (next crash.circuit s x)) (all_bits (length crash.circuit.inputs)) tests.1 in
     by s (is_listed (listed step.cands) s) refl
     (refuted crash basis r enc h k step id.0 e id.1 s x.item (all_bits_length (length crash.circuit.flops) s found.1)
     (all_bits_length (length crash.circuit.inputs) x.item x.member)
-    tests.0 (bits_same_is (next crash.circuit s x.item) step.present x.passes)))
+    tests.0 (shows_where step.present (next crash.circuit s x.item) x.passes)))
   where
     by : (s : List Bool) (b : Bool) → is_listed (listed step.cands) s ≡ b → (is_listed (listed step.cands) s ≡ false → ⊥) → Member s (listed step.cands)
     by s true e out = listed_member s (listed step.cands) e

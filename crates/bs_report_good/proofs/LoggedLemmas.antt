@@ -11,11 +11,14 @@ use Rattle.std.proofs.lemmas.List.{length-map}
 use Rattle.std.proofs.lemmas.List.Elements.{recursion_from_All}
 use Rattle.bs_bits.specs.Bits.{bits_eq}
 use Rattle.bs_net.proofs.NextLemmas.{bits_eq_Decides}
+use Rattle.bs_seen.specs.declared.seen.Seen.{Seen}
+use Rattle.bs_seen.specs.Seen.{is_shown}
+use Rattle.bs_seen.proofs.SeenLemmas.{seen_same, shown_where}
 use Rattle.bs_net.specs.Circuit.{all_bits}
 use Rattle.bs_scan.specs.Moments.{is_listed}
 use Rattle.bs_scan.specs.Choice.{depth_of}
 use Rattle.bs_scan.specs.Present.{Present, present_in}
-use Rattle.bs_scan.specs.Signature.{signature, may_hold, agrees, some_input_leads, predecessors}
+use Rattle.bs_scan.specs.Signature.{signature, may_hold, agrees, some_input_shows, predecessors}
 use Rattle.bs_scan.proofs.SignatureLemmas.{bits_same}
 use Rattle.bs_log.specs.declared.line.Line.{Line}
 use Rattle.bs_log.specs.declared.why.Why.{Why}
@@ -37,11 +40,11 @@ use Rattle.bs_scan.specs.Crash.{Crash, IsCrash}
 use Rattle.bs_report_good.specs.Step.{stored_of, listed, asked_of, hit_of, Ascend, IsRightStep, IsRightEnd}
 use Rattle.bs_report_good.specs.Chain.{present_of, present_of_hit, present_after, last_present, Follow}
 use Rattle.bs_report_good.specs.Stop.{StopsFor, LastIs, IsFinished}
-use Rattle.bs_report_good.specs.Trace.{trace_states, trace_inputs}
+use Rattle.bs_report_good.specs.Trace.{trace_end, trace_states, trace_inputs}
 use Rattle.bs_report_good.specs.Good.{IsGood}
 use Rattle.bs_report_good.specs.Valid.{unless, all_bits_eq, due_at, has_state, has_stored, is_right_cand, is_right_count, same_hit, step_parts, log_parts}
 use Rattle.bs_report_good.specs.Valid.{each_step, parts_of, first_of_all, first_failing, is_cause, cause_of, cause_at, cause_after, cause_of_end}
-use Rattle.bs_report_good.specs.Valid.{stop_number, cand_at, no_cand, lines_at, HaveBefores, NamesBefores, IsLogged, IsValid}
+use Rattle.bs_report_good.specs.Valid.{stop_number, is_right_trace, cand_at, no_cand, lines_at, HaveBefores, NamesBefores, IsLogged, IsValid}
 use Rattle.bs_report_good.specs.ValidLaw.{GoodIsValid}
 use Rattle.bs_report_good.proofs.ProgressLemmas.{all_at, hit_at}
 use Rattle.bs_report_good.proofs.ExecutionLemmas.{leads_next, led_widths}
@@ -117,7 +120,7 @@ valid_of_right crash basis r h =
     others : List (Option Part)
     others =
         unless (nat_le (length r.steps) r.budgets.steps && is_cause r.stop (cause_of crash r.budgets r.steps)) parts.Stop ∷
-        unless (all_bits_eq r.states (trace_states crash.dump.state r.steps) && all_bits_eq r.inputs (trace_inputs r.steps)) parts.Trace ∷
+        unless (is_right_trace (trace_end crash r.steps) r) parts.Trace ∷
         option_map (λ refused. parts.Log refused.0 refused.1) (first_refused basis.problem r.log) ∷
         each_step (log_parts basis r) 0 r.steps
 
@@ -136,8 +139,7 @@ valid_of_right crash basis r h =
     others_right = (
       right (nat_le (length r.steps) r.budgets.steps && is_cause r.stop (cause_of crash r.budgets r.steps)) parts.Stop (and_from _ _ h.few h.cause),
       (
-        right (all_bits_eq r.states (trace_states crash.dump.state r.steps) && all_bits_eq r.inputs (trace_inputs r.steps)) parts.Trace
-            (and_from _ _ h.states h.inputs),
+        right (is_right_trace (trace_end crash r.steps) r) parts.Trace (and_from _ _ (and_from _ _ h.states h.free) h.inputs),
         (no_part (first_refused basis.problem r.log) h.log, logs_right),
       ),
     )
@@ -159,9 +161,9 @@ signature_where_listed : (crash : Crash) (step : Step) (s : List Bool) → is_li
     bits_eq (signature crash.choice s) step.stored ≡ true
 unfolding predecessors
 signature_where_listed crash step s e =
-    let q : List Bool → Bool = λ s. agrees crash.circuit crash.choice (stored_of step) s && some_input_leads crash.circuit s step.present in
+    let q : List Bool → Bool = λ s. agrees crash.circuit crash.choice (stored_of step) s && some_input_shows crash.circuit s step.present in
     left (bits_eq (signature crash.choice s) step.stored) (may_hold crash.circuit crash.choice (depth_of crash.choice - 1) (option_to_list step.older) s)
-    (left (agrees crash.circuit crash.choice (stored_of step) s) (some_input_leads crash.circuit s step.present)
+    (left (agrees crash.circuit crash.choice (stored_of step) s) (some_input_shows crash.circuit s step.present)
     (filter_member q s (all_bits (length crash.circuit.flops)) (listed_member s (asked_of crash step) e)).0)
   where
     left : (a b : Bool) → (a && b) ≡ true → a ≡ true
@@ -188,7 +190,7 @@ cand_right crash is budgets step h befores few j lt =
     let cand = h.candidates j no_cand lt in
     let s : List Bool = (cand_at step j).state in
     let x : List Bool = (cand_at step j).input in
-    let widths = led_widths crash.circuit s x step.present cand.leads in
+    let widths = led_widths crash.circuit s x cand.leads.there cand.leads.leads in
     and_from _ _
     (and_from _ _
     (and_from _ _
@@ -197,7 +199,8 @@ cand_right crash is budgets step h befores few j lt =
     (and_from _ _ (greater_at step h.ascend j lt) (eq-eqb _ _ widths.0))
     (eq-eqb _ _ widths.1))
     (signature_where_listed crash step s cand.predecessor))
-    (ap (λ (t : List Bool). bits_eq t step.present) (leads_next crash.circuit s x step.present is.checked cand.leads) ∙ bits_same step.present))
+    (ap (is_shown step.present) (leads_next crash.circuit s x cand.leads.there is.checked cand.leads.leads)
+    ∙ shown_where step.present cand.leads.there cand.leads.shown))
     (lt-ltb j budgets.candidates (omega (arith, lt, few))))
     (befores j no_cand lt)
 
@@ -229,7 +232,7 @@ step_right crash r is good names k step e =
     let due : due_at crash r.steps k ≡ Some (present_of step) = due_of crash (Some (present_in crash.dump)) r.steps good.chain.follow k step e in
     let few = within_budget (asked_of crash step) r.budgets.candidates r.budgets.conflicts (lines_at r k) step.cands step.end (good.ends k step e) in
     record {
-      state = ap (λ (o : Option Present). has_state o step.present) due ∙ bits_same step.present;
+      state = ap (λ (o : Option Present). has_state o step.present) due ∙ seen_same step.present step.present refl;
       stored = ap (λ (o : Option Present). has_stored o (stored_of step)) due ∙ all_same (stored_of step);
       cands = cand_right crash is r.budgets step h (all_at (λ
           (step : Step). HaveBefores crash.circuit crash.choice step.older step.cands) r.steps k step names.befores e) few;
@@ -344,8 +347,9 @@ good_is_valid crash basis r is good names logged =
       few = le-leb (length r.steps) r.budgets.steps good.chain.few;
       cause = is_the_cause r.stop (cause_of crash r.budgets r.steps)
           (cause_due crash r.budgets r.steps (recursion_from_All (IsRightStep crash) r.steps good.steps) r.stop good.stop);
-      states = ap (λ (xs : List (List Bool)). all_bits_eq xs (trace_states crash.dump.state r.steps)) good.trace.states
-          ∙ all_same (trace_states crash.dump.state r.steps);
+      states = ap (λ (xs : List (List Bool)). all_bits_eq xs (trace_states (trace_end crash r.steps).bits r.steps)) good.trace.states
+          ∙ all_same (trace_states (trace_end crash r.steps).bits r.steps);
+      free = ap (λ (s : List Bool). bits_eq s (trace_end crash r.steps).free) good.trace.free ∙ bits_same (trace_end crash r.steps).free;
       inputs = ap (λ (xs : List (List Bool)). all_bits_eq xs (trace_inputs r.steps)) good.trace.inputs ∙ all_same (trace_inputs r.steps);
       log = not_refused basis.problem r.log logged.accepted;
       logs = log_right basis r logged;

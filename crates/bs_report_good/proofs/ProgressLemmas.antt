@@ -4,6 +4,8 @@ use Rattle.std.proofs.Common.{Option, Some, None, arith, add-one}
 use Rattle.std.specs.Prelude.{slice_get, option_map, MatchOption, All}
 use Rattle.std.specs.List.{AllByRecursion as Each}
 use Rattle.std.proofs.lemmas.List.Elements.{recursion_from_All}
+use Rattle.bs_seen.specs.declared.seen.Seen.{Seen}
+use Rattle.bs_seen.specs.Seen.{whole}
 use Rattle.bs_net.specs.Circuit.{Circuit}
 use Rattle.bs_scan.specs.declared.moment.Moment.{Moment}
 use Rattle.bs_scan.specs.Moments.{Run, IsMoment, run_of, state_at, state_of, is_listed, first_moment}
@@ -95,7 +97,7 @@ hit_where_listed crash run k later here reached =
 
 -- the list of the step has the state one cycle earlier
 earlier_hit : (crash : Crash) → IsCrash crash → (run cycle : ℕ) (later : Step) → IsMoment crash.runs (record { run = run; cycle = cycle }) →
-    state_at crash.circuit (run_of crash.runs run) cycle ≡ later.present →
+    whole (state_at crash.circuit (run_of crash.runs run) cycle) ≡ later.present →
     stored_at crash.circuit crash.choice (run_of crash.runs run) cycle ≡ stored_of later →
     listed later.cands ≡ asked_of crash later → HitBelow crash later cycle
 earlier_hit crash is run zero later im st sg all =
@@ -107,11 +109,11 @@ earlier_hit crash is run (suc k) later im st sg all =
     let here : IsMoment crash.runs (record { run = run; cycle = k }) = record { from_one = im.from_one; recorded = im.recorded; lasts = omega (arith, im.lasts) } in
     let widths : (j : ℕ) → j ≤ k → length (get_or line j []) ≡ length c.inputs =
     λ j le. is.inputs (run - 1) [] (omega (arith, im.from_one, im.recorded)) j [] (omega (arith, im.lasts, le)) in
-    let come : is_listed (predecessors c crash.choice (state_at c line (suc k)) (stored_at c crash.choice line (suc k))) (state_at c line k) ≡ true =
+    let come : is_listed (predecessors c crash.choice (whole (state_at c line (suc k))) (stored_at c crash.choice line (suc k))) (state_at c line k) ≡ true =
     came_from c crash.choice line k (depth_is c crash.choice crash.dump is.fits) widths in
     let asked : is_listed (asked_of crash later) (state_at c line k) ≡ true =
-    subst (λ (p : List Bool). is_listed (predecessors c crash.choice p (stored_of later)) (state_at c line k) ≡ true) st
-    (subst (λ (t : List (List Bool)). is_listed (predecessors c crash.choice (state_at c line (suc k)) t) (state_at c line k) ≡ true) sg come) in
+    subst (λ (p : Seen). is_listed (predecessors c crash.choice p (stored_of later)) (state_at c line k) ≡ true) st
+    (subst (λ (t : List (List Bool)). is_listed (predecessors c crash.choice (whole (state_at c line (suc k))) t) (state_at c line k) ≡ true) sg come) in
     hit_where_listed crash run k later here (subst (λ (states : List (List Bool)). is_listed states (state_at c line k) ≡ true) (sym all) asked)
 
 -- the list of the step is said to have a state of an earlier moment
@@ -151,7 +153,7 @@ hit_at crash step hit e = by (first_moment crash.circuit crash.runs (listed step
 -- what is below an earlier hit
 abbrev pub FindsBelow : Crash → Step → Step → Type 0
 FindsBelow crash earlier later = (before : HitLine) → earlier.hit ≡ Some before → IsMoment crash.runs (record { run = before.run; cycle = before.cycle }) →
-    state_at crash.circuit (run_of crash.runs before.run) before.cycle ≡ later.present →
+    whole (state_at crash.circuit (run_of crash.runs before.run) before.cycle) ≡ later.present →
     stored_at crash.circuit crash.choice (run_of crash.runs before.run) before.cycle ≡ stored_of later → HitBelow crash later before.cycle
 
 step_back : (crash : Crash) (r : Report) (i : ℕ) (earlier later : Step) → IsGood crash r →
@@ -169,7 +171,7 @@ step_back crash r i earlier later good e h finds =
         let present : present_of_hit crash before ≡ present_of later = cc in
         let at_before = hit_at crash earlier before h in
         let below = finds before e at_before.run_cycle
-        (at_before.state ∙ ap (λ (p : Present). p.state) present) (ap (λ (p : Present). p.stored) present) in
+        (ap (λ (s : List Bool). whole s) at_before.state ∙ ap (λ (p : Present). p.state) present) (ap (λ (p : Present). p.stored) present) in
         record {
           before = before;
           hit = record { run = below.moment.run; cycle = below.moment.cycle; state = state_of crash.circuit crash.runs below.moment };

@@ -26,6 +26,9 @@ use Rattle.bs_report.specs.declared.report.Cand.{Cand}
 use Rattle.std.specs.Ordering.{is_lt, bool_cmp}
 use Rattle.std.specs.Cmp.Lexicographic.{slice_cmp}
 use Rattle.std.proofs.lemmas.List.{get_or_default}
+use Rattle.bs_seen.specs.declared.seen.Seen.{Seen}
+use Rattle.bs_seen.specs.Seen.{Shows, is_shown}
+use Rattle.bs_seen.proofs.SeenLemmas.{seen_is, shows_where}
 use Rattle.bs_net.specs.Circuit.{next}
 use Rattle.bs_net.proofs.NextLemmas.{next_is_led}
 use Rattle.bs_scan.specs.Choice.{depth_of}
@@ -50,11 +53,11 @@ use Rattle.bs_report_good.specs.Good.{IsGood}
 use Rattle.bs_scan.specs.Present.{Present, present_in}
 use Rattle.bs_report_good.specs.Chain.{present_of, present_of_hit, present_after, last_present, Follow, IsChain}
 use Rattle.bs_report_good.specs.Stop.{StopsFor, IsFinished}
-use Rattle.bs_report_good.specs.Trace.{IsTrace, trace_states, trace_inputs}
+use Rattle.bs_report_good.specs.Trace.{IsTrace, trace_end, trace_states, trace_inputs}
 use Rattle.bs_log.specs.Shown.{Basis}
 use Rattle.bs_report_good.specs.Valid.{unless, all_bits_eq, due_at, has_state, has_stored, is_right_cand, is_right_count, same_hit, step_parts, log_parts}
 use Rattle.bs_report_good.specs.Valid.{each_step, parts_of, first_of_all, first_failing, is_cause, cause_of, cause_at, cause_after, cause_of_end}
-use Rattle.bs_report_good.specs.Valid.{stop_number, IsValid, cand_at, no_cand, is_right_before, is_right_finish, lines_at}
+use Rattle.bs_report_good.specs.Valid.{stop_number, is_right_trace, IsValid, cand_at, no_cand, is_right_before, is_right_finish, lines_at}
 use Rattle.bs_report_good.proofs.BeforeLemmas.{agrees_where_right}
 
 abbrev pub IsRight : Option Part → Type 0
@@ -138,7 +141,8 @@ pub record AllIsRight (crash : Crash) (basis : Basis) (r : Report) : Type 0 wher
   pub steps : (k : ℕ) (step : Step) → slice_get r.steps k ≡ Some step → StepIsRight crash r k step
   pub few : nat_le (length r.steps) r.budgets.steps ≡ true
   pub cause : is_cause r.stop (cause_of crash r.budgets r.steps) ≡ true
-  pub states : all_bits_eq r.states (trace_states crash.dump.state r.steps) ≡ true
+  pub states : all_bits_eq r.states (trace_states (trace_end crash r.steps).bits r.steps) ≡ true
+  pub free : bits_eq r.free (trace_end crash r.steps).free ≡ true
   pub inputs : all_bits_eq r.inputs (trace_inputs r.steps) ≡ true
   pub log : first_refused basis.problem r.log ≡ None
   pub logs : (k : ℕ) (step : Step) → slice_get r.steps k ≡ Some step → Each IsRight (log_parts basis r k step)
@@ -154,21 +158,24 @@ all_is_right crash basis r valid =
     let steps : List (Option Part) = each_step (step_parts crash r) 0 r.steps in
     let others : List (Option Part) =
     unless (nat_le (length r.steps) r.budgets.steps && is_cause r.stop (cause_of crash r.budgets r.steps)) parts.Stop ∷
-    unless (all_bits_eq r.states (trace_states crash.dump.state r.steps) && all_bits_eq r.inputs (trace_inputs r.steps)) parts.Trace ∷
+    unless (is_right_trace (trace_end crash r.steps) r) parts.Trace ∷
     option_map (λ refused. parts.Log refused.0 refused.1) (first_refused basis.problem r.log) ∷
     each_step (log_parts basis r) 0 r.steps in
     let front : Each IsRight steps = each_left IsRight steps others all.1 in
     let back : Each IsRight others = each_right IsRight steps others all.1 in
     let stop = both (nat_le (length r.steps) r.budgets.steps) (is_cause r.stop (cause_of crash r.budgets r.steps))
     (holds (nat_le (length r.steps) r.budgets.steps && is_cause r.stop (cause_of crash r.budgets r.steps)) parts.Stop back.0) in
-    let trace = both (all_bits_eq r.states (trace_states crash.dump.state r.steps)) (all_bits_eq r.inputs (trace_inputs r.steps))
-    (holds (all_bits_eq r.states (trace_states crash.dump.state r.steps) && all_bits_eq r.inputs (trace_inputs r.steps)) parts.Trace back.1.0) in
+    let last : Seen = trace_end crash r.steps in
+    let trace = both (all_bits_eq r.states (trace_states last.bits r.steps) && bits_eq r.free last.free) (all_bits_eq r.inputs (trace_inputs r.steps))
+    (holds (is_right_trace last r) parts.Trace back.1.0) in
+    let states = both (all_bits_eq r.states (trace_states last.bits r.steps)) (bits_eq r.free last.free) trace.0 in
     record {
       format = holds (r.depth == depth_of crash.choice) parts.Format all.0;
       steps = λ k step e. step_is_right crash r k step (at_step (step_parts crash r) 0 r.steps front k k step e (omega arith));
       few = stop.0;
       cause = stop.1;
-      states = trace.0;
+      states = states.0;
+      free = states.1;
       inputs = trace.1;
       log = no_part (first_refused basis.problem r.log) back.1.1.0;
       logs = λ k step e. at_step (log_parts basis r) 0 r.steps back.1.1.1 k k step e (omega arith);
@@ -182,7 +189,7 @@ all_same_is xs ys e = (pointwise_decides bits_eq_Decides xs ys).0 e
 due_is : (o : Option Present) (step : Step) → has_state o step.present ≡ true → has_stored o (stored_of step) ≡ true → o ≡ Some (present_of step)
 due_is None step e f = absurd (false≢true e)
 due_is (Some due) step e f =
-    let p : step.present ≡ due.state = bits_same_is step.present due.state e in
+    let p : step.present ≡ due.state = seen_is step.present due.state e in
     let q : stored_of step ≡ due.stored = all_same_is (stored_of step) due.stored f in
     sym (λ i. Some (record { state = p i; stored = q i }))
 
@@ -202,9 +209,9 @@ chain_is crash basis r h =
 
 pub trace_is : (crash : Crash) (basis : Basis) (r : Report) → AllIsRight crash basis r → IsTrace crash r
 trace_is crash basis r h = record {
-  states = all_same_is r.states (trace_states crash.dump.state r.steps) h.states;
-  inputs =
-      all_same_is r.inputs (trace_inputs r.steps) h.inputs;
+  states = all_same_is r.states (trace_states (trace_end crash r.steps).bits r.steps) h.states;
+  inputs = all_same_is r.inputs (trace_inputs r.steps) h.inputs;
+  free = bits_same_is r.free (trace_end crash r.steps).free h.free;
 }
 
 -- ---- the stop
@@ -337,7 +344,7 @@ pub record CandIsRight (crash : Crash) (budgets : Budgets) (step : Step) (j : �
   pub state : length (cand_at step j).state ≡ length crash.circuit.flops
   pub input : length (cand_at step j).input ≡ length crash.circuit.inputs
   pub signature : bits_eq (signature crash.choice (cand_at step j).state) step.stored ≡ true
-  pub leads : next crash.circuit (cand_at step j).state (cand_at step j).input ≡ step.present
+  pub leads : Shows step.present (next crash.circuit (cand_at step j).state (cand_at step j).input)
   pub within : j < budgets.candidates
   pub before : is_right_before crash.circuit crash.choice step.older (cand_at step j).state (cand_at step j).before ≡ true
 
@@ -345,7 +352,7 @@ pub cand_is : (crash : Crash) (budgets : Budgets) (step : Step) (j : ℕ) → is
 cand_is crash budgets step j e =
     let g = both _ (is_right_before crash.circuit crash.choice step.older (cand_at step j).state (cand_at step j).before) e in
     let a = both _ (nat_lt j budgets.candidates) g.0 in
-    let b = both _ (bits_eq (next crash.circuit (cand_at step j).state (cand_at step j).input) step.present) a.0 in
+    let b = both _ (is_shown step.present (next crash.circuit (cand_at step j).state (cand_at step j).input)) a.0 in
     let c = both _ (bits_eq (signature crash.choice (cand_at step j).state) step.stored) b.0 in
     let d = both _ (length (cand_at step j).input == length crash.circuit.inputs) c.0 in
     let f = both _ (length (cand_at step j).state == length crash.circuit.flops) d.0 in
@@ -354,7 +361,7 @@ cand_is crash budgets step j e =
       state = eqb-true _ _ f.1;
       input = eqb-true _ _ d.1;
       signature = c.1;
-      leads = bits_same_is _ _ b.1;
+      leads = shows_where step.present (next crash.circuit (cand_at step j).state (cand_at step j).input) b.1;
       within = ltb-true _ _ a.1;
       before = g.1;
     }
@@ -372,7 +379,12 @@ cands_are crash is budgets step h k d lt =
     subst (IsCandidate crash.circuit crash.choice step.present (stored_of step)) (get_or_default step.cands k no_cand d lt)
     (record {
       predecessor = is_predecessor crash.circuit crash.choice step.present (stored_of step) s x right.state right.input agree right.leads;
-      leads = (next_is_led crash.circuit s x step.present is.checked right.state right.input).1 (sym right.leads);
+      leads =
+          record {
+            there = next crash.circuit s x;
+            leads = (next_is_led crash.circuit s x (next crash.circuit s x) is.checked right.state right.input).1 refl;
+            shown = right.leads;
+          };
     })
 
 -- ---- ascending

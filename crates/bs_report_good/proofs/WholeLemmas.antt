@@ -17,6 +17,7 @@ use Rattle.bs_log.specs.Steps.{block_of_line, finish_of_line}
 use Rattle.bs_log.proofs.Laws.{finished_steps_are_refuted}
 use Rattle.bs_log.proofs.StepLemmas.{accepted, finish_at}
 use Rattle.bs_net.proofs.NextLemmas.{Member}
+use Rattle.bs_seen.specs.Seen.{Shows}
 use Rattle.bs_net.specs.Circuit.{next}
 use Rattle.bs_scan.specs.Moments.{is_listed}
 use Rattle.bs_scan.specs.Signature.{agrees}
@@ -74,7 +75,7 @@ below (s ∷ ss) (suc k) step e = omega (arith, below ss k step e)
 pub refuted : (crash : Crash) (basis : Basis) (r : Report) → IsEncoded crash basis r.steps → AllIsRight crash basis r →
     (k : ℕ) (step : Step) (id : ℕ) → slice_get r.steps k ≡ Some step → step.end ≡ Finished id →
     (s x : List Bool) → length s ≡ length crash.circuit.flops → length x ≡ length crash.circuit.inputs →
-    agrees crash.circuit crash.choice (stored_of step) s ≡ true → next crash.circuit s x ≡ step.present → is_listed (listed step.cands) s ≡ false → ⊥
+    agrees crash.circuit crash.choice (stored_of step) s ≡ true → Shows step.present (next crash.circuit s x) → is_listed (listed step.cands) s ≡ false → ⊥
 refuted crash basis r enc h k step id e fin s x ls lx ag nx out =
     let shown : Shown basis (length crash.circuit.flops) (k + 1) s = enc.shown k step s x e ls lx ag nx in
     let v : ℕ → Bool = shown.value in

@@ -1,5 +1,6 @@
 -- How the steps follow each other.
 use Rattle.std.specs.Prelude.{◌≡◌, ◌≤◌, List, [], ◌∷◌, length, Option, Some, option_map}
+use Rattle.bs_seen.specs.Seen.{whole}
 use Rattle.bs_scan.specs.Present.{Present, present_in}
 use Rattle.bs_scan.specs.Moments.{run_of}
 use Rattle.bs_scan.specs.Signature.{stored_at}
@@ -12,7 +13,7 @@ use Rattle.bs_report_good.specs.Step.{stored_of}
 abbrev pub present_of_hit : Crash → HitLine → Present
 present_of_hit crash hit =
     record {
-      state = hit.state;
+      state = whole hit.state;
       stored = stored_at crash.circuit crash.choice (run_of crash.runs hit.run) hit.cycle;
     }
 

@@ -4,9 +4,11 @@ use Rattle.std.specs.Option.{option_to_list}
 use Rattle.std.specs.Ordering.{bool_cmp}
 use Rattle.std.specs.declared.cmp.Ordering.TheVariants.{Less}
 use Rattle.std.specs.Cmp.Lexicographic.{slice_cmp}
-use Rattle.bs_net.specs.Circuit.{Circuit, Leads}
+use Rattle.bs_seen.specs.declared.seen.Seen.{Seen}
+use Rattle.bs_net.specs.Circuit.{Circuit}
 use Rattle.bs_scan.specs.Choice.{Chosen}
 use Rattle.bs_scan.specs.Moments.{is_listed, first_moment, state_of}
+use Rattle.bs_scan.specs.Present.{LeadsInto}
 use Rattle.bs_scan.specs.Signature.{predecessors}
 use Rattle.bs_log.specs.declared.line.Line.{Line}
 use Rattle.bs_log.specs.Steps.{last_solve, is_lemma_line}
@@ -25,7 +27,7 @@ stored_of step = step.stored ∷ option_to_list step.older
 abbrev pub listed : List Cand → List (List Bool)
 listed cands = map (λ cand. cand.state) cands
 
--- the present state's predecessors with the stored signature
+-- the predecessors, with the stored signature, of what is known of the present state
 abbrev pub asked_of : Crash → Step → List (List Bool)
 asked_of crash step = predecessors crash.circuit crash.choice step.present (stored_of step)
 
@@ -33,10 +35,10 @@ asked_of crash step = predecessors crash.circuit crash.choice step.present (stor
 abbrev pub Ascend : List (List Bool) → Type 0
 Ascend states = AllPairs (λ a b. slice_cmp bool_cmp a b ≡ Less) states
 
--- a predecessor with the stored signature, and an input under which it leads to the present state
-pub record IsCandidate (c : Circuit) (choice : Chosen) (present : List Bool) (stored : List (List Bool)) (cand : Cand) : Type 0 where
+-- a predecessor with the stored signature, and an input under which it leads to a state that shows the present one
+pub record IsCandidate (c : Circuit) (choice : Chosen) (present : Seen) (stored : List (List Bool)) (cand : Cand) : Type 0 where
   pub predecessor : IsTrue (is_listed (predecessors c choice present stored) cand.state)
-  pub leads : Leads c cand.state cand.input present
+  pub leads : LeadsInto c cand.state cand.input present
 
 -- the first moment at which a run is in a listed state
 abbrev pub hit_of : Crash → List Cand → Option HitLine

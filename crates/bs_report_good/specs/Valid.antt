@@ -6,6 +6,8 @@ use Rattle.std.specs.Ordering.{is_lt, bool_cmp}
 use Rattle.std.specs.Cmp.Lexicographic.{pointwise, slice_cmp}
 use Rattle.std.specs.List.{list_all, list_any, range_with_len, last_or}
 use Rattle.bs_bits.specs.Bits.{bits_eq}
+use Rattle.bs_seen.specs.declared.seen.Seen.{Seen}
+use Rattle.bs_seen.specs.Seen.{is_shown, seen_eq}
 use Rattle.bs_net.specs.Circuit.{Circuit, next, reset_state}
 use Rattle.bs_scan.specs.Choice.{Chosen, depth_of}
 use Rattle.bs_scan.specs.Signature.{signature}
@@ -32,7 +34,7 @@ use Rattle.bs_scan.specs.Crash.{Crash}
 use Rattle.bs_report_good.specs.Step.{stored_of, listed, hit_of}
 use Rattle.bs_scan.specs.Present.{Present, present_in}
 use Rattle.bs_report_good.specs.Chain.{present_after, last_present}
-use Rattle.bs_report_good.specs.Trace.{trace_states, trace_inputs}
+use Rattle.bs_report_good.specs.Trace.{trace_end, trace_states, trace_inputs}
 
 -- a part, where its test fails
 abbrev pub unless : Bool → Part → Option Part
@@ -47,9 +49,9 @@ all_bits_eq = pointwise bits_eq
 abbrev pub due_at : Crash → List Step → ℕ → Option Present
 due_at crash steps i = slice_index_or (Some (present_in crash.dump) ∷ map (present_after crash) steps) i None
 
-abbrev pub has_state : Option Present → List Bool → Bool
+abbrev pub has_state : Option Present → Seen → Bool
 has_state None s = false
-has_state (Some due) s = bits_eq s due.state
+has_state (Some due) s = seen_eq s due.state
 
 abbrev pub has_stored : Option Present → List (List Bool) → Bool
 has_stored None stored = false
@@ -73,15 +75,15 @@ is_right_before c choice (Some older) s (Some before) =
     && bits_eq (signature choice before.state) older
     && bits_eq (next c before.state before.input) s
 
--- the candidate is greater than the one before, has the widths and the stored signature, leads to the present state, is within
--- the budget, and has the right state before it
+-- the candidate is greater than the one before, has the widths and the stored signature, leads to a state that shows the present
+-- one, is within the budget, and has the right state before it
 abbrev pub is_right_cand : Crash → Budgets → Step → ℕ → Bool
 is_right_cand crash budgets step j =
     ((j == 0) || is_lt (slice_cmp bool_cmp (cand_at step (j - 1)).state (cand_at step j).state))
     && (length (cand_at step j).state == length crash.circuit.flops)
     && (length (cand_at step j).input == length crash.circuit.inputs)
     && bits_eq (signature crash.choice (cand_at step j).state) step.stored
-    && bits_eq (next crash.circuit (cand_at step j).state (cand_at step j).input) step.present
+    && is_shown step.present (next crash.circuit (cand_at step j).state (cand_at step j).input)
     && nat_lt j budgets.candidates
     && is_right_before crash.circuit crash.choice step.older (cand_at step j).state (cand_at step j).before
 
@@ -134,6 +136,13 @@ abbrev pub is_cause : Stop → Option Stop → Bool
 is_cause stop None = false
 is_cause stop (Some cause) = stop_number stop == stop_number cause
 
+-- ---- the trace
+
+-- whether the trace goes through the states hit and ends in what is known of this state
+abbrev pub is_right_trace : Seen → Report → Bool
+is_right_trace last r =
+    (all_bits_eq r.states (trace_states last.bits r.steps) && bits_eq r.free last.free) && all_bits_eq r.inputs (trace_inputs r.steps)
+
 -- ---- a step, counted from 0, against the log
 
 abbrev pub has_clause : List Clause → Clause → Bool
@@ -182,7 +191,7 @@ parts_of crash basis r =
     unless (r.depth == depth_of crash.choice) parts.Format ∷
     each_step (step_parts crash r) 0 r.steps
     ++ (unless (nat_le (length r.steps) r.budgets.steps && is_cause r.stop (cause_of crash r.budgets r.steps)) parts.Stop ∷
-    unless (all_bits_eq r.states (trace_states crash.dump.state r.steps) && all_bits_eq r.inputs (trace_inputs r.steps)) parts.Trace ∷
+    unless (is_right_trace (trace_end crash r.steps) r) parts.Trace ∷
     option_map (λ refused. parts.Log refused.0 refused.1) (first_refused basis.problem r.log) ∷
     each_step (log_parts basis r) 0 r.steps)
 

@@ -1,5 +1,6 @@
 -- A valid report is good, and a good one valid: what this rests on.
 use Rattle.std.specs.Prelude.{◌≡◌, ℕ, ◌+◌, true, Bool, List, length, Some, slice_get}
+use Rattle.bs_seen.specs.Seen.{Shows}
 use Rattle.bs_net.specs.Circuit.{next}
 use Rattle.bs_scan.specs.Signature.{agrees}
 use Rattle.bs_log.specs.Shown.{Basis, Shown}
@@ -15,7 +16,7 @@ pub record IsEncoded (crash : Crash) (basis : Basis) (steps : List Step) : Type 
   pub each_step : length basis.problem.steps ≡ length steps
   pub shown : (i : ℕ) (step : Step) (s x : List Bool) → slice_get steps i ≡ Some step →
       length s ≡ length crash.circuit.flops → length x ≡ length crash.circuit.inputs →
-      agrees crash.circuit crash.choice (stored_of step) s ≡ true → next crash.circuit s x ≡ step.present →
+      agrees crash.circuit crash.choice (stored_of step) s ≡ true → Shows step.present (next crash.circuit s x) →
       Shown basis (length crash.circuit.flops) (i + 1) s
 
 abbrev pub ValidIsGood : Type 0

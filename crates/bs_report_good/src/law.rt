@@ -1,5 +1,6 @@
 //! Laws of good and of valid reports.
 ghost use Rattle.bs_report_good.specs.Law.{FinishedReachReset, LaterHitsAreEarlier, TracesEndExecutions, UnhitIsFirst};
+ghost use Rattle.bs_report_good.specs.Law.{WholeDumpsEndTraces, WholeStatesAreLedTo};
 ghost use Rattle.bs_report_good.specs.ValidLaw.{GoodIsValid, ValidIsGood};
 
 /// In a good report each later finished step has a hit, at a smaller cycle than the step before it.
@@ -8,7 +9,7 @@ pub fn later_hits_are_earlier()
 {}
 
 /// In a good report a trace of at least one step ends an execution from reset, under a supplied run's inputs up to the
-/// moment of the last hit and then the trace's, which ends in the dumped state.
+/// moment of the last hit and then the trace's, which ends in a state that shows what the dump does.
 pub fn a_trace_ends_an_execution()
     ensures { TracesEndExecutions }
 {}
@@ -29,4 +30,10 @@ pub fn a_good_report_is_valid()
 pub fn finished_lists_reach_reset()
     ensures first { UnhitIsFirst }
     ensures reset { FinishedReachReset }
+{}
+
+/// Where all of the dumped state is known, a trace ends in it, and a candidate leads to it.
+pub fn whole_dumps_end_traces()
+    ensures ends { WholeDumpsEndTraces }
+    ensures leads { WholeStatesAreLedTo }
 {}

@@ -11,6 +11,6 @@ mod part;
 
 pub use law::{
     a_good_report_is_valid, a_trace_ends_an_execution, a_valid_report_is_good,
-    finished_lists_reach_reset, later_hits_are_earlier,
+    finished_lists_reach_reset, later_hits_are_earlier, whole_dumps_end_traces,
 };
 pub use part::Part;

@@ -5,6 +5,7 @@ use Rattle.std.specs.List.{AllByRecursion}
 use Rattle.std.specs.Option.{option_to_list}
 use Rattle.std.proofs.lemmas.List.{length-map}
 use Rattle.std.proofs.lemmas.List.Elements.{All-map, All-weaker, All-from_recursion}
+use Rattle.bs_seen.specs.Seen.{whole, Shows}
 use Rattle.bs_net.specs.Circuit.{Circuit, reset_state}
 use Rattle.bs_net.specs.Netlist.{circuit_of}
 use Rattle.bs_net.specs.Order.{IsChecked}
@@ -135,6 +136,7 @@ dump_at_fits r m kept =
             behind = none_after_none (stored_at r.circuit r.choice run m.cycle);
           };
       depth = refl;
+      seen = inl refl;
       state = length_state r.circuit run m.cycle;
       signatures =
           subst (Widths r.choice) (sym (all_held r.circuit r.choice run m.cycle kept)) (stored_widths r.circuit r.choice run m.cycle);
@@ -149,11 +151,11 @@ none_before c choice run (suc count) (suc cycle) h e = absurd (cc)
 
 -- without a signature it is of the reset state
 pub dump_at_rests : (r : Recording) (m : Moment) → IsDepth (depth_of r.choice) → (dump_at r m).stored ≡ None →
-    (dump_at r m).state ≡ reset_state r.circuit
-dump_at_rests r m kept e = none_before r.circuit r.choice (run_of r.runs m.run) (depth_of r.choice) m.cycle (some_kept (depth_of r.choice) kept) e
+    Shows (dump_at r m).state (reset_state r.circuit)
+dump_at_rests r m kept e = sym (none_before r.circuit r.choice (run_of r.runs m.run) (depth_of r.choice) m.cycle (some_kept (depth_of r.choice) kept) e)
 
 -- what a dump shows of its moment
 pub present_at : (r : Recording) (m : Moment) → IsDepth (depth_of r.choice) →
-    present_in (dump_at r m) ≡ record { state = state_of r.circuit r.runs m; stored = stored_at r.circuit r.choice (run_of r.runs m.run) m.cycle }
+    present_in (dump_at r m) ≡ record { state = whole (state_of r.circuit r.runs m); stored = stored_at r.circuit r.choice (run_of r.runs m.run) m.cycle }
 present_at r m kept =
-    λ i. record { state = state_of r.circuit r.runs m; stored = all_held r.circuit r.choice (run_of r.runs m.run) m.cycle kept i }
+    λ i. record { state = whole (state_of r.circuit r.runs m); stored = all_held r.circuit r.choice (run_of r.runs m.run) m.cycle kept i }

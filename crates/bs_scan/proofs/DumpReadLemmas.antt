@@ -9,12 +9,16 @@ use Rattle.std.proofs.lemmas.Bool.{eqb-true}
 use Rattle.std.proofs.lemmas.List.{take-append-drop, length-map, nil_from_length}
 use Rattle.std.proofs.lemmas.List.Elements.{All-append, All-from_recursion, All-nil}
 use Rattle.std.proofs.lemmas.Slice.Eq.{bytes_eq-Decides}
-use Rattle.bs_bits.specs.Bits.{bits_eq}
 use Rattle.bs_bits.specs.Lines.{line, lines_of}
 use Rattle.bs_bits.specs.Reading.{◌>>=◌, Answers}
 use Rattle.bs_bits.specs.Text.{bits_text, bits_of}
 use Rattle.bs_bits.proofs.LineTextLemmas.{lines_again}
 use Rattle.bs_bits.proofs.TextLemmas.{text_again}
+use Rattle.bs_seen.specs.declared.seen.Seen.{Seen}
+use Rattle.bs_seen.specs.Seen.{Shows, is_shown, IsSeen}
+use Rattle.bs_seen.specs.SeenText.{seen_of, seen_text}
+use Rattle.bs_seen.proofs.SeenLemmas.{shows_where}
+use Rattle.bs_seen.proofs.TextLemmas.{seen_exact}
 use Rattle.bs_net.specs.declared.net.Flop.{Flop}
 use Rattle.bs_net.specs.Circuit.{Circuit, reset_state}
 use Rattle.bs_scan.specs.declared.dump.Dump.{Dump}
@@ -22,10 +26,9 @@ use Rattle.bs_scan.specs.declared.fault.DumpFault.{DumpFault}
 use Rattle.bs_scan.specs.declared.fault.DumpFault.TheVariants.{Line, Width, NotReset, NoMemory}
 use Rattle.bs_scan.specs.Choice.{Chosen, depth_of, IsDepth}
 use Rattle.bs_scan.specs.Crash.{DumpFits}
-use Rattle.bs_scan.specs.DumpText.{behind, behind_older, of_width, bits_line, is_text, held_line, old_line, older_line, end_line, at_reset}
+use Rattle.bs_scan.specs.DumpText.{behind, behind_older, of_width, bits_line, seen_of_width, seen_line, is_text, held_line, old_line, older_line, end_line, at_reset}
 use Rattle.bs_scan.specs.DumpText.{signature_text, older_text, dump_text, dump_of}
 use Rattle.bs_scan.specs.Law.{DumpTextsAreExact}
-use Rattle.bs_scan.proofs.SignatureLemmas.{bits_same_is}
 
 abbrev spelled : List (List ℕ) → List ℕ
 spelled lines = flat_map line lines
@@ -193,28 +196,62 @@ tail_is rest depth items stored older h e = by (depth == 2) refl h e
 -- what the last step makes of the parts
 record IsMade (reset : List Bool) (made dump : Dump) : Type 0 where
   made_of : made ≡ dump
-  rests : made.stored ≡ None → made.state ≡ reset
+  rests : made.stored ≡ None → Shows made.state reset
 
 made_is : (reset : List Bool) (made dump : Dump) → at_reset reset made ≡ Ok dump → IsMade reset made dump
-made_is reset made dump h = let is = by made.stored (bits_eq made.state reset) refl h in record { made_of = is.0; rests = is.1 }
+made_is reset made dump h = let is = by made.stored (is_shown made.state reset) refl h in record { made_of = is.0; rests = is.1 }
   where
-    by : (o : Option (List Bool)) (b : Bool) → bits_eq made.state reset ≡ b → cond (is_none o && not b) (Err NotReset) (Ok made) ≡ ok_in Dump dump →
-        (made ≡ dump) × (o ≡ None → made.state ≡ reset)
+    by : (o : Option (List Bool)) (b : Bool) → is_shown made.state reset ≡ b → cond (is_none o && not b) (Err NotReset) (Ok made) ≡ ok_in Dump dump →
+        (made ≡ dump) × (o ≡ None → Shows made.state reset)
     by (Some t) b e k = (ok_same Dump made dump k, λ (none : Some t ≡ None). absurd (cc))
-    by None true e k = (ok_same Dump made dump k, λ _. bits_same_is made.state reset e)
+    by None true e k = (ok_same Dump made dump k, λ _. shows_where made.state reset e)
     by None false e k = absurd (not_err Dump NotReset dump k)
 
 -- ---- a dump that was read
+
+-- what was read of the state
+record IsState (text : Option (List ℕ)) (word : List ℕ) (width : ℕ) (seen : Seen) : Type 0 where
+  spelled_so : text ≡ Some (word ++ seen_text seen)
+  as_wide : length seen.bits ≡ width
+  sound : IsSeen seen
+
+seen_wide : (number width : ℕ) (o : Option Seen) (seen : Seen) → seen_of_width number width o ≡ Ok seen → (o ≡ Some seen) × (length seen.bits ≡ width)
+seen_wide number width None seen h = absurd (not_err Seen (Line number) seen h)
+seen_wide number width (Some t) seen h = by (length t.bits == width) refl h
+  where
+    by : (b : Bool) → (length t.bits == width) ≡ b → cond b (Ok t) (Err (Width number)) ≡ ok_in Seen seen → (Some t ≡ Some seen) × (length seen.bits ≡ width)
+    by true e k =
+        let same : t ≡ seen = ok_same Seen t seen k in
+        (ap Some same, ap (λ (s : Seen). length s.bits) (sym same) ∙ eqb-true (length t.bits) width e)
+    by false e k = absurd (not_err Seen (Width number) seen k)
+
+seen_are : (word text : List ℕ) (seen : Seen) → option_and_then seen_of (behind word text) ≡ Some seen → IsSeen seen × (text ≡ word ++ seen_text seen)
+seen_are word text seen h = by (behind word text) refl h
+  where
+    by : (o : Option (List ℕ)) → behind word text ≡ o → option_and_then seen_of o ≡ Some seen → IsSeen seen × (text ≡ word ++ seen_text seen)
+    by None e k = absurd (cc)
+    by (Some rest) e k =
+        let exact = seen_exact rest seen k in
+        (exact.0, behind_is word text rest e ∙ ap (λ rest. word ++ rest) (sym exact.1))
+
+state_is : (word : List ℕ) (number width : ℕ) (text : Option (List ℕ)) (seen : Seen) → seen_line word number width text ≡ Ok seen →
+    IsState text word width seen
+state_is word number width None seen h = absurd (not_err Seen (Line number) seen h)
+state_is word number width (Some text) seen h =
+    let is = seen_wide number width (option_and_then seen_of (behind word text)) seen h in
+    let read = seen_are word text seen is.0 in
+    record { spelled_so = ap Some read.1; as_wide = is.1; sound = read.0 }
 
 pub record IsRead (reset : List Bool) (depth items : ℕ) (lines : List (List ℕ)) (dump : Dump) : Type 0 where
   pub spelled_so : spelled lines ≡ dump_text dump
   pub as_deep : dump.depth ≡ depth
   pub alone : depth ≡ 1 → dump.older ≡ None
   pub after : dump.stored ≡ None → dump.older ≡ None
-  pub state : length dump.state ≡ length reset
+  pub state : length dump.state.bits ≡ length reset
+  pub seen : IsSeen dump.state
   pub last : Widths items dump.stored
   pub before : Widths items dump.older
-  pub rests : dump.stored ≡ None → dump.state ≡ reset
+  pub rests : dump.stored ≡ None → Shows dump.state reset
 
 in_order : (lines : List (List ℕ)) (a b tail : List ℕ) → slice_get lines 0 ≡ Some a → slice_get (drop 1 lines) 0 ≡ Some b →
     spelled (drop 1 (drop 1 lines)) ≡ tail →
@@ -226,9 +263,9 @@ in_order (k ∷ l ∷ rest) a b tail x y z =
     let second : l ≡ b = cc in
     λ i. line (first i) ++ (line (second i) ++ z i)
 
-parts_are : (reset : List Bool) (depth items : ℕ) (lines : List (List ℕ)) (dump : Dump) (rs : Result (List Bool) DumpFault)
+parts_are : (reset : List Bool) (depth items : ℕ) (lines : List (List ℕ)) (dump : Dump) (rs : Result Seen DumpFault)
     (rt : Result (Option (List Bool)) DumpFault) (ro : Option (List Bool) → Result (Option (List Bool)) DumpFault) (re : Result Bool DumpFault) →
-    ((s : List Bool) → rs ≡ Ok s → IsBits (slice_get lines 0) (codes "state ") (length reset) s) →
+    ((s : Seen) → rs ≡ Ok s → IsState (slice_get lines 0) (codes "state ") (length reset) s) →
     ((t : Option (List Bool)) → rt ≡ Ok t → IsHeld (slice_get (drop 1 lines) 0) (codes "sig ") items t) →
     ((t o : Option (List Bool)) (b : Bool) → ro t ≡ Ok o → re ≡ Ok b → IsTail (drop 1 (drop 1 lines)) depth items t o) →
     (rs >>= λ state. rt >>= λ stored. ro stored >>= λ older. re >>= λ ended.
@@ -255,6 +292,7 @@ parts_are reset depth items lines dump (Ok s) (Ok t) ro re state stored tail h =
           alone = third.alone;
           after = third.after;
           state = first.as_wide;
+          seen = first.sound;
           last = second.as_wide;
           before = third.as_wide;
           rests = made.rests;
@@ -265,11 +303,11 @@ pub dump_read : (reset : List Bool) (depth items : ℕ) (lines : List (List ℕ)
     IsRead reset depth items lines dump
 unfolding dump_of
 dump_read reset depth items lines dump h =
-    parts_are reset depth items lines dump (bits_line (codes "state ") 1 (length reset) (slice_get lines 0))
+    parts_are reset depth items lines dump (seen_line (codes "state ") 1 (length reset) (slice_get lines 0))
     (held_line (codes "sig ") 2 items (slice_get (drop 1 lines) 0))
     (λ stored. older_line depth items stored (slice_get (drop 1 (drop 1 lines)) 0))
     (end_line (depth + 2) (behind_older depth (drop 1 (drop 1 lines))))
-    (λ s e. line_is (codes "state ") 1 (length reset) (slice_get lines 0) s e)
+    (λ s e. state_is (codes "state ") 1 (length reset) (slice_get lines 0) s e)
     (λ t e. held_is (codes "sig ") 2 items (slice_get (drop 1 lines) 0) t e)
     (λ t o b e last. tail_is (drop 1 (drop 1 lines)) depth items t o e (ended (depth + 2) (behind_older depth (drop 1 (drop 1 lines))) b last)) h
 
@@ -286,6 +324,7 @@ read_fits c choice lines dump kept h =
             behind = is.after;
           };
       depth = is.as_deep;
+      seen = is.seen;
       state = is.state ∙ length-map c.flops (λ (f : Flop). f.reset);
       signatures =
           All-append (λ (t : List Bool). length t ≡ length choice.items) (option_to_list dump.stored) (option_to_list dump.older) is.last is.before;
@@ -309,6 +348,7 @@ fits_if_read c choice reset depth items lines (Ok dump) kept is deep counted ans
     read_fits c choice lines dump kept (sym (λ i. dump_of (is i) (deep i) (counted i) lines) ∙ answers)
 
 pub rests_if_read : (reset reset' : List Bool) (depth items : ℕ) (lines : List (List ℕ)) (r : Result Dump DumpFault) → reset ≡ reset' →
-    Answers NoMemory (λ dump. dump) r (dump_of reset depth items lines) → IfOk r (λ dump. dump.stored ≡ None → dump.state ≡ reset')
+    Answers NoMemory (λ dump. dump) r (dump_of reset depth items lines) → IfOk r (λ dump. dump.stored ≡ None → Shows dump.state reset')
 rests_if_read reset reset' depth items lines (Err fault) is answers = tt
-rests_if_read reset reset' depth items lines (Ok dump) is answers = λ none. (dump_read reset depth items lines dump answers).rests none ∙ is
+rests_if_read reset reset' depth items lines (Ok dump) is answers =
+    λ none. subst (λ (r : List Bool). Shows dump.state r) is ((dump_read reset depth items lines dump answers).rests none)

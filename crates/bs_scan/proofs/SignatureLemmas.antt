@@ -6,13 +6,16 @@ use Rattle.std.specs.List.{list_any}
 use Rattle.std.proofs.lemmas.Bool.{true≢false}
 use Rattle.std.proofs.lemmas.List.{length-map}
 use Rattle.bs_bits.specs.Bits.{bits_eq}
+use Rattle.bs_seen.specs.declared.seen.Seen.{Seen}
+use Rattle.bs_seen.specs.Seen.{whole, Shows, is_shown}
+use Rattle.bs_seen.proofs.SeenLemmas.{shows_where, shown_where}
 use Rattle.bs_net.specs.declared.net.Flop.{Flop}
 use Rattle.bs_net.specs.Circuit.{Circuit, reset_state, next, all_bits}
 use Rattle.bs_net.proofs.CallerLemmas.{length_next}
 use Rattle.bs_net.proofs.NextLemmas.{Member, all_bits_member, bits_eq_Decides}
 use Rattle.bs_scan.specs.Choice.{Chosen, depth_of, IsDepth}
 use Rattle.bs_scan.specs.Moments.{Run, state_at, is_listed}
-use Rattle.bs_scan.specs.Signature.{signature, signatures_before, stored_at, may_hold, agrees, some_input_leads, predecessors}
+use Rattle.bs_scan.specs.Signature.{signature, signatures_before, stored_at, may_hold, agrees, some_input_shows, some_input_leads, predecessors}
 
 pub bits_same : (s : List Bool) → bits_eq s s ≡ true
 bits_same s = (bits_eq_Decides s s).1 refl
@@ -46,10 +49,14 @@ unfolding state_at
 length_state c run zero = length-map c.flops (λ (f : Flop). f.reset)
 length_state c run (suc k) = length_next c (state_at c run k) (get_or run k [])
 
-pub some_input : (c : Circuit) (s x : List Bool) → length x ≡ length c.inputs → some_input_leads c s (next c s x) ≡ true
-some_input c s x e =
+-- an input that leads to a state which shows p
+pub shown_input : (c : Circuit) (s x : List Bool) (p : Seen) → length x ≡ length c.inputs → Shows p (next c s x) → some_input_shows c s p ≡ true
+shown_input c s x p e h =
     let P : ℕ → Type 0 = λ n. Member x (all_bits n) in
-    any_member (λ y. bits_eq (next c s y) (next c s x)) x (all_bits (length c.inputs)) (subst P e (all_bits_member x)) (bits_same (next c s x))
+    any_member (λ y. is_shown p (next c s y)) x (all_bits (length c.inputs)) (subst P e (all_bits_member x)) (shown_where p (next c s x) h)
+
+pub some_input : (c : Circuit) (s x : List Bool) → length x ≡ length c.inputs → some_input_leads c s (next c s x) ≡ true
+some_input c s x e = shown_input c s x (whole (next c s x)) e refl
 
 both : (a b : Bool) → a ≡ true → b ≡ true → (a && b) ≡ true
 both a b e f = rw (e, f) refl
@@ -95,27 +102,27 @@ agrees_before c choice run k kept w = by (depth_of choice) refl (some_kept (dept
 -- the moment one cycle earlier meets the conditions, however many signatures are kept
 pub came_from : (c : Circuit) (choice : Chosen) (run : Run) (k : ℕ) → IsDepth (depth_of choice) →
     ((j : ℕ) → j ≤ k → length (get_or run j []) ≡ length c.inputs) →
-    is_listed (predecessors c choice (state_at c run (suc k)) (stored_at c choice run (suc k))) (state_at c run k) ≡ true
+    is_listed (predecessors c choice (whole (state_at c run (suc k))) (stored_at c choice run (suc k))) (state_at c run k) ≡ true
 unfolding predecessors state_at
 came_from c choice run k kept w =
     let s : List Bool = state_at c run k in
     let P : ℕ → Type 0 = λ n. Member s (all_bits n) in
-    any_member (bits_eq s) s (predecessors c choice (state_at c run (suc k)) (stored_at c choice run (suc k)))
+    any_member (bits_eq s) s (predecessors c choice (whole (state_at c run (suc k))) (stored_at c choice run (suc k)))
     (member_filter (λ s. agrees c choice (stored_at c choice run (suc k)) s && some_input_leads c s (state_at c run (suc k))) s (all_bits (length c.flops))
     (subst P (length_state c run k) (all_bits_member s))
     (both _ _ (agrees_before c choice run k kept (λ j (lt : j < k). w j (omega (arith, lt)))) (some_input c s (get_or run k []) (w k (omega arith)))))
     (bits_same s)
 
--- a state with the signatures that an input leads to p is a predecessor
-pub is_predecessor : (c : Circuit) (choice : Chosen) (p : List Bool) (stored : List (List Bool)) (s x : List Bool) → length s ≡ length c.flops →
+-- a state with the signatures that an input leads to one which shows p is a predecessor
+pub is_predecessor : (c : Circuit) (choice : Chosen) (p : Seen) (stored : List (List Bool)) (s x : List Bool) → length s ≡ length c.flops →
     length x ≡ length c.inputs →
-    agrees c choice stored s ≡ true → next c s x ≡ p → is_listed (predecessors c choice p stored) s ≡ true
+    agrees c choice stored s ≡ true → Shows p (next c s x) → is_listed (predecessors c choice p stored) s ≡ true
 unfolding predecessors
 is_predecessor c choice p stored s x ls lx ag e =
     let P : ℕ → Type 0 = λ n. Member s (all_bits n) in
-    let leads : some_input_leads c s p ≡ true = subst (λ (p : List Bool). some_input_leads c s p ≡ true) e (some_input c s x lx) in
+    let leads : some_input_shows c s p ≡ true = shown_input c s x p lx e in
     any_member (bits_eq s) s (predecessors c choice p stored)
-    (member_filter (λ s. agrees c choice stored s && some_input_leads c s p) s (all_bits (length c.flops)) (subst P ls (all_bits_member s)) (both _ _ ag leads))
+    (member_filter (λ s. agrees c choice stored s && some_input_shows c s p) s (all_bits (length c.flops)) (subst P ls (all_bits_member s)) (both _ _ ag leads))
     (bits_same s)
 
 -- a register that keeps one less holds the same but for the oldest

@@ -2,6 +2,8 @@
 use Rattle.std.proofs.Common.{◌≡◌, ℕ, true, false, List, [], ◌∷◌, refl, Some, None, length, Result, Ok, Err}
 use Rattle.std.specs.Prelude.{codes}
 use Rattle.bs_bits.specs.Lines.{lines_of}
+use Rattle.bs_seen.specs.declared.seen.Seen.{Seen}
+use Rattle.bs_seen.specs.Seen.{whole}
 use Rattle.bs_net.specs.declared.net.NetId.{NetId}
 use Rattle.bs_net.specs.declared.net.Flop.{Flop}
 use Rattle.bs_net.specs.declared.net.Mode.TheVariants.{Plain}
@@ -99,19 +101,19 @@ stored_of_the_state_before : stored_at register second ones 2 ≡ (false ∷ [])
 unfolding state_at next settled all_bits
 stored_of_the_state_before = refl
 
-one_predecessor : predecessors register second (true ∷ true ∷ []) ((true ∷ []) ∷ []) ≡ (true ∷ true ∷ []) ∷ []
+one_predecessor : predecessors register second (whole (true ∷ true ∷ [])) ((true ∷ []) ∷ []) ≡ (true ∷ true ∷ []) ∷ []
 unfolding predecessors next settled all_bits
 one_predecessor = refl
 
-two_predecessors : predecessors register none (true ∷ true ∷ []) ([] ∷ []) ≡ (true ∷ false ∷ []) ∷ (true ∷ true ∷ []) ∷ []
+two_predecessors : predecessors register none (whole (true ∷ true ∷ [])) ([] ∷ []) ≡ (true ∷ false ∷ []) ∷ (true ∷ true ∷ []) ∷ []
 unfolding predecessors next settled all_bits
 two_predecessors = refl
 
-none_before_reset : predecessors register none (true ∷ true ∷ []) [] ≡ []
+none_before_reset : predecessors register none (whole (true ∷ true ∷ [])) [] ≡ []
 unfolding predecessors next settled all_bits
 none_before_reset = refl
 
-toggle_comes_from : predecessors toggle (record { width = 1; depth = 1; items = [] }) (true ∷ []) ([] ∷ []) ≡ (false ∷ []) ∷ []
+toggle_comes_from : predecessors toggle (record { width = 1; depth = 1; items = [] }) (whole (true ∷ [])) ([] ∷ []) ≡ (false ∷ []) ∷ []
 unfolding predecessors next settled all_bits
 toggle_comes_from = refl
 
@@ -133,47 +135,74 @@ unfolding state_at next settled all_bits
 two_kept_after_three_cycles = refl
 
 dumped_with_both : dump_at (record { circuit = register; choice = second_twice; runs = ones ∷ [] }) (record { run = 1; cycle = 3 })
-    ≡ record { state = true ∷ true ∷ []; stored = Some (true ∷ []); older = Some (false ∷ []); depth = 2 }
+    ≡ record { state = whole (true ∷ true ∷ []); stored = Some (true ∷ []); older = Some (false ∷ []); depth = 2 }
 unfolding state_at next settled all_bits
 dumped_with_both = refl
 
-first_step : predecessors register second_twice (true ∷ true ∷ []) ((true ∷ []) ∷ (false ∷ []) ∷ []) ≡ (true ∷ true ∷ []) ∷ []
+first_step : predecessors register second_twice (whole (true ∷ true ∷ [])) ((true ∷ []) ∷ (false ∷ []) ∷ []) ≡ (true ∷ true ∷ []) ∷ []
 unfolding predecessors next settled all_bits
 first_step = refl
 
-second_step : predecessors register second_twice (true ∷ true ∷ []) ((false ∷ []) ∷ (false ∷ []) ∷ []) ≡ (true ∷ false ∷ []) ∷ []
+second_step : predecessors register second_twice (whole (true ∷ true ∷ [])) ((false ∷ []) ∷ (false ∷ []) ∷ []) ≡ (true ∷ false ∷ []) ∷ []
 unfolding predecessors next settled all_bits
 second_step = refl
 
-third_step : predecessors register second_twice (true ∷ false ∷ []) ((false ∷ []) ∷ []) ≡ (false ∷ false ∷ []) ∷ []
+third_step : predecessors register second_twice (whole (true ∷ false ∷ [])) ((false ∷ []) ∷ []) ≡ (false ∷ false ∷ []) ∷ []
 unfolding predecessors next settled all_bits
 third_step = refl
 
 -- the older signature alone cuts the list
-weak_signature : predecessors register first (true ∷ true ∷ []) ((true ∷ []) ∷ []) ≡ (true ∷ false ∷ []) ∷ (true ∷ true ∷ []) ∷ []
+weak_signature : predecessors register first (whole (true ∷ true ∷ [])) ((true ∷ []) ∷ []) ≡ (true ∷ false ∷ []) ∷ (true ∷ true ∷ []) ∷ []
 unfolding predecessors next settled all_bits
 weak_signature = refl
 
-cut_by_the_older : predecessors register first_twice (true ∷ true ∷ []) ((true ∷ []) ∷ (true ∷ []) ∷ []) ≡ (true ∷ true ∷ []) ∷ []
+cut_by_the_older : predecessors register first_twice (whole (true ∷ true ∷ [])) ((true ∷ []) ∷ (true ∷ []) ∷ []) ≡ (true ∷ true ∷ []) ∷ []
 unfolding predecessors next settled all_bits
 cut_by_the_older = refl
 
-no_items_cut_nothing : predecessors register none_twice (true ∷ true ∷ []) ([] ∷ [] ∷ []) ≡ (true ∷ false ∷ []) ∷ (true ∷ true ∷ []) ∷ []
+no_items_cut_nothing : predecessors register none_twice (whole (true ∷ true ∷ [])) ([] ∷ [] ∷ []) ≡ (true ∷ false ∷ []) ∷ (true ∷ true ∷ []) ∷ []
 unfolding predecessors next settled all_bits
 no_items_cut_nothing = refl
 
 -- with one signature of two, the state before is the reset state alone
-reset_alone_without_an_older : predecessors register none_twice (true ∷ false ∷ []) ([] ∷ []) ≡ (false ∷ false ∷ []) ∷ []
+reset_alone_without_an_older : predecessors register none_twice (whole (true ∷ false ∷ [])) ([] ∷ []) ≡ (false ∷ false ∷ []) ∷ []
 unfolding predecessors next settled all_bits
 reset_alone_without_an_older = refl
 
-any_state_with_one_kept : predecessors register none (true ∷ false ∷ []) ([] ∷ []) ≡ (false ∷ false ∷ []) ∷ (false ∷ true ∷ []) ∷ []
+any_state_with_one_kept : predecessors register none (whole (true ∷ false ∷ [])) ([] ∷ []) ≡ (false ∷ false ∷ []) ∷ (false ∷ true ∷ []) ∷ []
 unfolding predecessors next settled all_bits
 any_state_with_one_kept = refl
 
-nothing_before_reset : predecessors register none_twice (true ∷ true ∷ []) [] ≡ []
+nothing_before_reset : predecessors register none_twice (whole (true ∷ true ∷ [])) [] ≡ []
 unfolding predecessors next settled all_bits
 nothing_before_reset = refl
+
+-- ---- what is known of the state in part
+
+-- the first flip-flop alone
+abbrev one_known : Seen
+one_known = record { bits = true ∷ false ∷ []; free = false ∷ true ∷ [] }
+
+abbrev none_known : Seen
+none_known = record { bits = false ∷ false ∷ []; free = true ∷ true ∷ [] }
+
+before_one_bit : predecessors register none one_known ([] ∷ [])
+    ≡ (false ∷ false ∷ []) ∷ (false ∷ true ∷ []) ∷ (true ∷ false ∷ []) ∷ (true ∷ true ∷ []) ∷ []
+unfolding predecessors next settled all_bits
+before_one_bit = refl
+
+before_one_bit_with_a_signature : predecessors register second one_known ((true ∷ []) ∷ []) ≡ (false ∷ true ∷ []) ∷ (true ∷ true ∷ []) ∷ []
+unfolding predecessors next settled all_bits
+before_one_bit_with_a_signature = refl
+
+before_nothing_known : predecessors register second none_known ((true ∷ []) ∷ []) ≡ (false ∷ true ∷ []) ∷ (true ∷ true ∷ []) ∷ []
+unfolding predecessors next settled all_bits
+before_nothing_known = refl
+
+-- the second flip-flop is 1, the signature says that the first was 0 before
+before_a_contradiction : predecessors register first (record { bits = false ∷ true ∷ []; free = true ∷ false ∷ [] }) ((false ∷ []) ∷ []) ≡ []
+unfolding predecessors next settled all_bits
+before_a_contradiction = refl
 
 -- ---- the texts of dumps of two flip-flops and one item
 
@@ -181,17 +210,38 @@ abbrev read_as : ℕ → List ℕ → Result Dump DumpFault
 read_as depth text = dump_of (false ∷ false ∷ []) depth 1 (lines_of text)
 
 two_signatures : read_as 2 (codes "state 11\nsig 1\nold 0\nend\n")
-    ≡ Ok (record { state = true ∷ true ∷ []; stored = Some (true ∷ []); older = Some (false ∷ []); depth = 2 })
+    ≡ Ok (record { state = whole (true ∷ true ∷ []); stored = Some (true ∷ []); older = Some (false ∷ []); depth = 2 })
 unfolding dump_of
 two_signatures = refl
 
-older_none : read_as 2 (codes "state 11\nsig 1\nold none\nend") ≡ Ok (record { state = true ∷ true ∷ []; stored = Some (true ∷ []); older = None; depth = 2 })
+older_none : read_as 2 (codes "state 11\nsig 1\nold none\nend") ≡ Ok (record { state = whole (true ∷ true ∷ []); stored = Some (true ∷ []); older = None; depth = 2 })
 unfolding dump_of
 older_none = refl
 
-none_at_all : read_as 2 (codes "state 00\nsig none\nold none\nend\n") ≡ Ok (record { state = false ∷ false ∷ []; stored = None; older = None; depth = 2 })
+none_at_all : read_as 2 (codes "state 00\nsig none\nold none\nend\n") ≡ Ok (record { state = whole (false ∷ false ∷ []); stored = None; older = None; depth = 2 })
 unfolding dump_of
 none_at_all = refl
+
+partly_known : read_as 1 (codes "state 1-\nsig 1\nend\n") ≡ Ok (record { state = one_known; stored = Some (true ∷ []); older = None; depth = 1 })
+unfolding dump_of
+partly_known = refl
+
+reset_shows_it : read_as 1 (codes "state -0\nsig none\nend\n")
+    ≡ Ok (record { state = record { bits = false ∷ false ∷ []; free = true ∷ false ∷ [] }; stored = None; older = None; depth = 1 })
+unfolding dump_of
+reset_shows_it = refl
+
+reset_does_not_show_it : read_as 1 (codes "state 1-\nsig none\nend\n") ≡ Err NotReset
+unfolding dump_of
+reset_does_not_show_it = refl
+
+too_many_unknown : read_as 1 (codes "state ---\nsig 1\nend\n") ≡ Err (Width 1)
+unfolding dump_of
+too_many_unknown = refl
+
+unknown_signature : read_as 1 (codes "state 11\nsig -\nend\n") ≡ Err (Line 2)
+unfolding dump_of
+unknown_signature = refl
 
 older_behind_none : read_as 2 (codes "state 00\nsig none\nold 1\nend\n") ≡ Err (Line 3)
 unfolding dump_of
@@ -229,7 +279,7 @@ four_lines_where_one_is_kept : read_as 1 (codes "state 11\nsig 1\nend\nold 0\n")
 unfolding dump_of
 four_lines_where_one_is_kept = refl
 
-one_signature : read_as 1 (codes "state 11\nsig 1\nend\n") ≡ Ok (record { state = true ∷ true ∷ []; stored = Some (true ∷ []); older = None; depth = 1 })
+one_signature : read_as 1 (codes "state 11\nsig 1\nend\n") ≡ Ok (record { state = whole (true ∷ true ∷ []); stored = Some (true ∷ []); older = None; depth = 1 })
 unfolding dump_of
 one_signature = refl
 

@@ -1,5 +1,6 @@
 -- What a backtrace is about: recorded runs of a chip, and the dump of one that crashed (docs/DEFINITIONS.md, "Crash").
 use Rattle.std.specs.Prelude.{◌≡◌, ◌≤◌, List, length, All, slice_get}
+use Rattle.bs_seen.specs.Seen.{whole, IsSeen}
 use Rattle.bs_net.specs.Circuit.{Circuit}
 use Rattle.bs_net.specs.Netlist.{circuit_of}
 use Rattle.bs_net.specs.Order.{IsChecked}
@@ -36,7 +37,7 @@ pub record IsRecording (r : Recording) : Type 0 where
 abbrev pub dump_at : Recording → Moment → Dump
 dump_at r m =
     record {
-      state = state_of r.circuit r.runs m;
+      state = whole (state_of r.circuit r.runs m);
       stored = slice_get (stored_at r.circuit r.choice (run_of r.runs m.run) m.cycle) 0;
       older = slice_get (stored_at r.circuit r.choice (run_of r.runs m.run) m.cycle) 1;
       depth = depth_of r.choice;
@@ -52,12 +53,13 @@ pub record Crash : Type 0 where
 abbrev pub crash_of : Recording → Dump → Crash
 crash_of r dump = record { circuit = r.circuit; choice = r.choice; runs = r.runs; dump = dump }
 
--- the dump fits the chip: it is of a register that keeps as many signatures, and has a bit for each flip-flop, and for each item in
--- each signature
+-- the dump fits the chip: it is of a register that keeps as many signatures, and has a place for each flip-flop, and a bit for each
+-- item in each signature
 pub record DumpFits (c : Circuit) (choice : Chosen) (dump : Dump) : Type 0 where
   pub sound : IsDump dump
   pub depth : dump.depth ≡ depth_of choice
-  pub state : length dump.state ≡ length c.flops
+  pub seen : IsSeen dump.state
+  pub state : length dump.state.bits ≡ length c.flops
   pub signatures : All (λ t. length t ≡ length choice.items) (signatures_of dump)
 
 -- the netlist has passed its check, each input line has a bit for each data input, and the dump fits

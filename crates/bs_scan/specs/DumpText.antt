@@ -1,12 +1,14 @@
--- The text of a dump (docs/FORMATS.md, "Dump"): the lines `state BITS`, `sig BITS` or `sig none`, at depth 2 `old BITS` or `old none`,
+-- The text of a dump (docs/FORMATS.md, "Dump"): the lines `state BITS` with `-` for a bit that is not known, `sig BITS` or `sig none`, at depth 2 `old BITS` or `old none`,
 -- and `end`.
 use Rattle.std.specs.Prelude.{ℕ, ◌+◌, ◌==◌, Bool, true, false, not, ◌&&◌, take, drop, List, [], ◌++◌, length, codes, Option, Some, None}
 use Rattle.std.specs.Prelude.{is_none, Result, Ok, Err, if◌then◌else◌, slice_get, option_and_then}
 use Rattle.std.specs.Str.{bytes_eq}
-use Rattle.bs_bits.specs.Bits.{bits_eq}
 use Rattle.bs_bits.specs.Text.{bits_text, bits_of}
 use Rattle.bs_bits.specs.Reading.{◌>>=◌}
 use Rattle.bs_bits.specs.Lines.{line}
+use Rattle.bs_seen.specs.declared.seen.Seen.{Seen}
+use Rattle.bs_seen.specs.Seen.{is_shown}
+use Rattle.bs_seen.specs.SeenText.{seen_of, seen_text}
 use Rattle.bs_scan.specs.declared.dump.Dump.{Dump}
 use Rattle.bs_scan.specs.declared.fault.DumpFault.{DumpFault}
 use Rattle.bs_scan.specs.declared.fault.DumpFault.TheVariants.{Line, Width, NotReset}
@@ -26,7 +28,7 @@ older_text depth older = if depth == 2 then signature_line (codes "old ") older 
 
 abbrev pub dump_text : Dump → List ℕ
 dump_text d =
-    line (codes "state " ++ bits_text d.state)
+    line (codes "state " ++ seen_text d.state)
     ++ (signature_line (codes "sig ") d.stored ++ (older_text d.depth d.older ++ line (codes "end")))
 
 -- ---- what a text stands for
@@ -43,6 +45,14 @@ of_width number width (Some bits) = if length bits == width then Ok bits else Er
 -- the bits behind a word, in the line with this number
 abbrev pub bits_line : List ℕ → ℕ → ℕ → Option (List ℕ) → Result (List Bool) DumpFault
 bits_line word number width text = of_width number width (option_and_then bits_of (option_and_then (behind word) text))
+
+-- the same of bits of which some may not be known
+abbrev pub seen_of_width : ℕ → ℕ → Option Seen → Result Seen DumpFault
+seen_of_width number width None = Err (Line number)
+seen_of_width number width (Some seen) = if length seen.bits == width then Ok seen else Err (Width number)
+
+abbrev pub seen_line : List ℕ → ℕ → ℕ → Option (List ℕ) → Result Seen DumpFault
+seen_line word number width text = seen_of_width number width (option_and_then seen_of (option_and_then (behind word) text))
 
 abbrev pub is_text : List ℕ → Option (List ℕ) → Bool
 is_text word None = false
@@ -71,14 +81,14 @@ abbrev pub end_line : ℕ → List (List ℕ) → Result Bool DumpFault
 end_line number lines =
     if is_text (codes "end") (slice_get lines 0) then (if length (drop 1 lines) == 0 then Ok true else Err (Line (number + 1))) else Err (Line number)
 
--- where there is no signature, the state is the reset state
+-- where there is no signature, the reset state shows what is known of the state
 abbrev pub at_reset : List Bool → Dump → Result Dump DumpFault
-at_reset reset dump = if is_none dump.stored && not (bits_eq dump.state reset) then Err NotReset else Ok dump
+at_reset reset dump = if is_none dump.stored && not (is_shown dump.state reset) then Err NotReset else Ok dump
 
 -- the dump that the lines stand for, of a register that keeps so many signatures, or their first fault
 unfoldable pub dump_of : List Bool → ℕ → ℕ → List (List ℕ) → Result Dump DumpFault
 dump_of reset depth items lines = do
-  state ← bits_line (codes "state ") 1 (length reset) (slice_get lines 0)
+  state ← seen_line (codes "state ") 1 (length reset) (slice_get lines 0)
   stored ← held_line (codes "sig ") 2 items (slice_get (drop 1 lines) 0)
   older ← older_line depth items stored (slice_get (drop 1 (drop 1 lines)) 0)
   ended ← end_line (depth + 2) (behind_older depth (drop 1 (drop 1 lines)))

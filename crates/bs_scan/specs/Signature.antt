@@ -2,6 +2,8 @@
 use Rattle.std.specs.Prelude.{ℕ, zero, suc, ◌-◌, Bool, true, false, ◌&&◌, List, [], ◌∷◌, map, filter, length}
 use Rattle.std.specs.List.{list_any}
 use Rattle.bs_bits.specs.Bits.{bits_eq}
+use Rattle.bs_seen.specs.declared.seen.Seen.{Seen}
+use Rattle.bs_seen.specs.Seen.{is_shown, whole}
 use Rattle.bs_net.specs.Circuit.{Circuit, reset_state, next, all_bits, bit_at}
 use Rattle.bs_net.specs.Gate.{is_odd}
 use Rattle.bs_scan.specs.Choice.{Chosen, depth_of}
@@ -26,9 +28,13 @@ signatures_before c choice run (suc count) (suc cycle) =
 abbrev pub stored_at : Circuit → Chosen → Run → ℕ → List (List Bool)
 stored_at c choice run cycle = signatures_before c choice run (depth_of choice) cycle
 
+-- whether some input leads from s to a state that shows p
+abbrev pub some_input_shows : Circuit → List Bool → Seen → Bool
+some_input_shows c s p = list_any (λ x. is_shown p (next c s x)) (all_bits (length c.inputs))
+
 -- whether some input leads from s to p
 abbrev pub some_input_leads : Circuit → List Bool → List Bool → Bool
-some_input_leads c s p = list_any (λ x. bits_eq (next c s x) p) (all_bits (length c.inputs))
+some_input_leads c s p = some_input_shows c s (whole p)
 
 -- whether a register that keeps so many signatures may hold these in a state: none in the reset state alone, and otherwise the
 -- last one is of a state that leads to it, in which the register may hold the others
@@ -44,7 +50,8 @@ abbrev pub agrees : Circuit → Chosen → List (List Bool) → List Bool → Bo
 agrees c choice [] s = false
 agrees c choice (last ∷ older) s = bits_eq (signature choice s) last && may_hold c choice (depth_of choice - 1) older s
 
--- the predecessors of p that agree with the stored signatures, ascending
-unfoldable pub predecessors : Circuit → Chosen → List Bool → List (List Bool) → List (List Bool)
+-- The predecessors of what is known of a state that agree with the stored signatures, ascending: under some input each leads to a state
+-- that shows it.
+unfoldable pub predecessors : Circuit → Chosen → Seen → List (List Bool) → List (List Bool)
 predecessors c choice p stored =
-    filter (λ s. agrees c choice stored s && some_input_leads c s p) (all_bits (length c.flops))
+    filter (λ s. agrees c choice stored s && some_input_shows c s p) (all_bits (length c.flops))

@@ -1,5 +1,6 @@
 //! What is dumped of a chip: a state, and the signatures that its register holds.
-ghost use Rattle.std.specs.Prelude.{◌≡◌, ◌++◌, None, length, IfOk, OnOk, OnErr};
+ghost use Rattle.std.specs.Prelude.{◌≡◌, ◌++◌, ◌&&◌, not, is_none, None, length, IfOk, OnOk, OnErr};
+ghost use Rattle.bs_seen.specs.Seen.{is_shown, Shows};
 ghost use Rattle.bs_net.specs.Netlist.{circuit};
 ghost use Rattle.bs_net.specs.Circuit.{reset_state};
 ghost use Rattle.bs_scan.specs.Choice.{depth_of, IsDepth};
@@ -11,28 +12,42 @@ ghost use Rattle.bs_scan.specs.Crash.{DumpFits};
 
 use crate::choice::Choice;
 use crate::dump_text::{
-    bits_line, end_line, first_line, held_line, older_line, push_lines, rest_behind_older,
+    end_line, first_line, held_line, older_line, push_lines, rest_behind_older, seen_line,
 };
 use crate::fault::DumpFault;
 use bs_bits::{Bits, NoMemory};
 use bs_net::Netlist;
+use bs_seen::Seen;
 use std::alloc::Global;
 
-/// A dump: the state of the flip-flops in scan order, and the signatures that the register holds, as many as it holds. It
-/// keeps that of the last state, and at depth 2 that of the one before, the older one.
+/// A dump: what is known of the state of the flip-flops, in scan order, and the signatures that the register holds, as many as it
+/// holds. It keeps that of the last state, and at depth 2 that of the one before, the older one.
 #[derive(Drop)]
 pub struct Dump {
-    pub state: Bits,
+    pub state: Seen,
     pub stored: Option<Bits>,
     pub older: Option<Bits>,
     pub depth: u8,
 }
 
-/// The dump, where it has a signature or is the reset state.
-fn at_reset(reset: &Bits, dump: Dump) -> Result<Dump, DumpFault>
-    ensures { result ≡ dump_at_reset reset.now dump }
+/// Whether it has no signature, and the reset state does not show what is known of it.
+fn is_unrested(alloc: Global, reset: &Bits, dump: &Dump) -> Result<bool, NoMemory>
+    ensures { IfOk result (λ wrong. wrong ≡ (is_none dump.now.stored && not (is_shown dump.now.state reset.now))) }
 {
-    if dump.stored.is_none() && !dump.state.equals(reset) {
+    match &dump.stored {
+        Some(_) => Ok(false),
+        None => {
+            let shown = dump.state.is_shown(alloc, reset)?;
+            Ok(!shown)
+        }
+    }
+}
+
+/// The dump, where it has a signature or the reset state shows what is known of it.
+fn at_reset(alloc: Global, reset: &Bits, dump: Dump) -> Result<Dump, DumpFault>
+    ensures { Answers DumpFault.NoMemory (λ dump. dump) result (dump_at_reset reset.now dump) }
+{
+    if is_unrested(alloc, reset, &dump)? {
         return Err(DumpFault::NotReset);
     }
     Ok(dump)
@@ -51,7 +66,7 @@ fn read_lines(
     ensures { Answers DumpFault.NoMemory (λ dump. dump) result (dump_of reset.now depth items (lines_of bytes.now)) }
 {
     let (line, rest) = first_line(bytes);
-    let state = bits_line(alloc, b"state ", 1, reset.len(), line)?;
+    let state = seen_line(alloc, b"state ", 1, reset.len(), line)?;
     let (line, rest) = first_line(rest);
     let stored = held_line(alloc, b"sig ", 2, items, line)?;
     let (line, behind) = first_line(rest);
@@ -59,6 +74,7 @@ fn read_lines(
     let last = rest_behind_older(depth, rest, behind);
     match end_line(depth as u32 + 2, last) {
         Ok(()) => at_reset(
+            alloc,
             reset,
             Dump {
                 state,
@@ -98,7 +114,7 @@ impl Dump {
     }
 
     /// The dump that a text stands for, of a netlist and what its signatures are taken of (docs/FORMATS.md, "Dump").
-    /// Where it has no signature, it is of the reset state.
+    /// Where it has no signature, the reset state shows what is known of it.
     pub fn read(
         alloc: Global,
         bytes: &[u8],
@@ -107,7 +123,7 @@ impl Dump {
     ) -> Result<Dump, DumpFault>
         ensures reads { Answers DumpFault.NoMemory (λ dump. dump) result (dump_of (reset_state (circuit net.now)) (depth_of choice.now) (length choice.now.items) (lines_of bytes.now)) }
         ensures fits { IfOk result (DumpFits (circuit net.now) choice.now) }
-        ensures reset { IfOk result (λ dump. dump.stored ≡ None → dump.state ≡ reset_state (circuit net.now)) }
+        ensures reset { IfOk result (λ dump. dump.stored ≡ None → Shows dump.state (reset_state (circuit net.now))) }
     {
         read_lines(alloc, bytes, net.reset(), choice.depth(), choice.items())
     }

@@ -2,7 +2,8 @@
 ghost use Rattle.std.specs.Prelude.{◌≡◌, ◌==◌, ◌≤◌, length, true, drop, codes, Bool, slice_get, option_map, option_and_then, ◌++◌, IfOk, OnOk, OnErr};
 ghost use Rattle.bs_scan.specs.DumpText.{behind, behind_older, of_width as bits_of_width, bits_line as bits_line_of, held_line as held_line_of};
 ghost use Rattle.bs_scan.specs.DumpText.{old_line as old_line_of, older_line as older_line_of, end_line as end_line_of, is_text as is_text_of};
-ghost use Rattle.bs_scan.specs.DumpText.{signature_line, older_text, dump_text};
+ghost use Rattle.bs_scan.specs.DumpText.{signature_line, older_text, dump_text, seen_of_width as of_seen_width, seen_line as seen_line_of};
+ghost use Rattle.bs_seen.specs.SeenText.{seen_of, seen_text};
 ghost use Rattle.bs_bits.specs.Lines.{lines_of, line as written_line};
 ghost use Rattle.bs_bits.specs.Reading.{Answers};
 ghost use Rattle.bs_bits.specs.Text.{bits_of, bits_text};
@@ -12,6 +13,7 @@ use crate::dump::Dump;
 use crate::fault::DumpFault;
 use crate::words::is_same;
 use bs_bits::{Bits, NoMemory, end_line as written_end, next_line, push_line, push_piece};
+use bs_seen::Seen;
 use std::alloc::Global;
 
 /// The first line, if there is one, and the bytes behind it.
@@ -81,7 +83,7 @@ fn of_width(number: u32, width: usize, bits: Option<Bits>) -> Result<Bits, DumpF
 }
 
 /// The bits behind a word, in the line with this number.
-pub fn bits_line(
+fn bits_line(
     alloc: Global,
     word: &[u8],
     number: u32,
@@ -91,6 +93,49 @@ pub fn bits_line(
     ensures { Answers DumpFault.NoMemory (λ bits. bits) result (bits_line_of word.now number width (option_map (λ line. line.now) line.entry)) }
 {
     of_width(number, width, bits_behind(alloc, word, line)?)
+}
+
+/// What is seen behind a word, if the line is so.
+fn seen_behind(alloc: Global, word: &[u8], line: Option<&[u8]>) -> Result<Option<Seen>, NoMemory>
+    ensures { IfOk result (λ seen. seen ≡ option_and_then seen_of (option_and_then (behind word.now) (option_map (λ line. line.now) line.entry))) }
+{
+    let text = match line {
+        Some(text) => text,
+        None => return Ok(None),
+    };
+    match rest_behind(word, text) {
+        Some(rest) => Seen::read_text(alloc, rest),
+        None => Ok(None),
+    }
+}
+
+/// What is seen, of a width.
+fn seen_of_width(number: u32, width: usize, seen: Option<Seen>) -> Result<Seen, DumpFault>
+    ensures { result ≡ of_seen_width number width seen }
+{
+    match seen {
+        Some(seen) => {
+            if seen.bits.len() == width {
+                Ok(seen)
+            } else {
+                Err(DumpFault::Width(number))
+            }
+        }
+        None => Err(DumpFault::Line(number)),
+    }
+}
+
+/// What is seen behind a word, in the line with this number.
+pub fn seen_line(
+    alloc: Global,
+    word: &[u8],
+    number: u32,
+    width: usize,
+    line: Option<&[u8]>,
+) -> Result<Seen, DumpFault>
+    ensures { Answers DumpFault.NoMemory (λ seen. seen) result (seen_line_of word.now number width (option_map (λ line. line.now) line.entry)) }
+{
+    seen_of_width(number, width, seen_behind(alloc, word, line)?)
 }
 
 /// Whether there is a line, and `none` is what stands behind a word in it.
@@ -231,12 +276,22 @@ fn push_older(depth: u8, older: &Option<Bits>, into: &mut Vec<u8>) -> Result<(),
     }
 }
 
+/// Appends the line of what is known of a state.
+fn push_state(seen: &Seen, into: &mut Vec<u8>) -> Result<(), NoMemory>
+    ensures ok { OnOk result (into.new.items ≡ into.old.items ++ written_line (codes "state " ++ seen_text seen.now)) }
+    ensures err { OnErr result (Begins into.old.items into.new.items) }
+{
+    push_piece(into, b"state ")?;
+    seen.text(into)?;
+    written_end(into)
+}
+
 /// Appends the lines of a dump.
 pub fn push_lines(dump: &Dump, into: &mut Vec<u8>) -> Result<(), NoMemory>
     ensures ok { OnOk result (into.new.items ≡ into.old.items ++ dump_text dump.now) }
     ensures err { OnErr result (Begins into.old.items into.new.items) }
 {
-    push_bits_line(b"state ", &dump.state, into)?;
+    push_state(&dump.state, into)?;
     push_signature(b"sig ", &dump.stored, into)?;
     push_older(dump.depth, &dump.older, into)?;
     push_line(into, b"end")

@@ -1,16 +1,17 @@
 -- The readings of a search in the words of a refusal line, and the same in those of a note.
-use Rattle.std.proofs.Common.{◌≡◌, ℕ, Bool, true, List, [], length, Option, Some, None, Result, Ok, Err, Vec, sym, subst, ap}
+use Rattle.std.proofs.Common.{◌≡◌, ℕ, true, List, [], length, Result, Ok, Err, Vec, sym, subst, ap}
 use Rattle.std.specs.Prelude.{IfOk}
 use Rattle.std.specs.declared.alloc.Global.{Global}
 use Rattle.bs_bits.specs.declared.memory.NoMemory.{NoMemory}
+use Rattle.bs_seen.specs.declared.seen.Seen.{Seen}
 use Rattle.bs_top_plan.specs.declared.diagnostic.Unread.{Unread}
 use Rattle.bs_top_plan.specs.declared.walk.Refusal.{Refusal}
 use Rattle.bs_top_plan.specs.declared.walk.Refusal.TheVariants as Q
-use Rattle.bs_top_plan.specs.Plan.{Reason, exactly}
-use Rattle.bs_top_plan.specs.Diagnostic.{both_of, made, note_refusal, refusal_in, word_refusal}
+use Rattle.bs_top_plan.specs.Plan.{Reason}
+use Rattle.bs_top_plan.specs.Diagnostic.{both_of, note_refusal, word_refusal}
 use Rattle.bs_top_plan.specs.Walks.{Reads}
 use Rattle.bs_top_plan.proofs.TellingLemmas.{word_both}
-use Rattle.bs_top_files.specs.NoteCases.{NoteCase, NoteSays}
+use Rattle.bs_top_files.specs.NoteCases.{NoteSays}
 use Rattle.bs_top_files.specs.Refusals.{CheckSays, Case}
 use Rattle.bs_net.specs.Netlist.{circuit_of}
 use Rattle.bs_net.specs.Parts.{Parts}
@@ -50,22 +51,22 @@ said_note {T} {V} view text wanted result words note unread is e h says =
 
 -- ---- the state
 
-pub state_fits : (r : Parts) (word : List ℕ) (result : Result (List Bool) Refusal) (state : List Bool) → result ≡ Ok state →
-    Reads CheckSays (λ (s : List Bool). s) (state_in r word) result → Reads NoteSays (λ (s : List Bool). s) (state_noted r word) (Ok state)
+pub state_fits : (r : Parts) (word : List ℕ) (result : Result Seen Refusal) (state : Seen) → result ≡ Ok state →
+    Reads CheckSays (λ (s : Seen). s) (state_in r word) result → Reads NoteSays (λ (s : Seen). s) (state_noted r word) (Ok state)
 state_fits r word result state is h =
-    said_right (λ (s : List Bool). s) (state_text word (length (circuit_of r).flops)) (state_in r word) result state is h
+    said_right (λ (s : Seen). s) (state_text word (length (circuit_of r).flops)) (state_in r word) result state is h
 
-pub state_words : (r : Parts) (word : List ℕ) (result : Result (List Bool) Refusal) (words : Refusal) (note : Result (Vec ℕ Global) NoMemory)
-    (unread : Unread) → result ≡ Err words → unread ≡ both_of words note → Reads CheckSays (λ (s : List Bool). s) (state_in r word) result →
-    Reads CheckSays (λ (s : List Bool). s) (state_in r word) (Err (word_refusal unread))
-state_words r word result words note unread is e h = said_words (λ (s : List Bool). s) (state_in r word) result words note unread is e h
+pub state_words : (r : Parts) (word : List ℕ) (result : Result Seen Refusal) (words : Refusal) (note : Result (Vec ℕ Global) NoMemory)
+    (unread : Unread) → result ≡ Err words → unread ≡ both_of words note → Reads CheckSays (λ (s : Seen). s) (state_in r word) result →
+    Reads CheckSays (λ (s : Seen). s) (state_in r word) (Err (word_refusal unread))
+state_words r word result words note unread is e h = said_words (λ (s : Seen). s) (state_in r word) result words note unread is e h
 
-pub state_fails : (r : Parts) (word : List ℕ) (result : Result (List Bool) Refusal) (words : Refusal) (note : Result (Vec ℕ Global) NoMemory)
-    (unread : Unread) → result ≡ Err words → unread ≡ both_of words note → Reads CheckSays (λ (s : List Bool). s) (state_in r word) result →
+pub state_fails : (r : Parts) (word : List ℕ) (result : Result Seen Refusal) (words : Refusal) (note : Result (Vec ℕ Global) NoMemory)
+    (unread : Unread) → result ≡ Err words → unread ≡ both_of words note → Reads CheckSays (λ (s : Seen). s) (state_in r word) result →
     IfOk note (λ n. n.items ≡ state_text word (length (circuit_of r).flops)) →
-    Reads NoteSays (λ (s : List Bool). s) (state_noted r word) (Err (note_refusal unread))
+    Reads NoteSays (λ (s : Seen). s) (state_noted r word) (Err (note_refusal unread))
 state_fails r word result words note unread is e h says =
-    said_note (λ (s : List Bool). s) (state_text word (length (circuit_of r).flops)) (state_in r word) result words note unread is e h says
+    said_note (λ (s : Seen). s) (state_text word (length (circuit_of r).flops)) (state_in r word) result words note unread is e h says
 
 -- ---- the size
 

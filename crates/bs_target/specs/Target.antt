@@ -1,6 +1,7 @@
 -- The netlist, the state and the size of a search, one after the other (docs/FORMATS.md, "Refusal lines").
 use Rattle.std.specs.Prelude.{ℕ, ◌*◌, ◌==◌, nat_le, Bool, true, List, [], length, codes, Option, Some, None, Result, Ok, Err, if◌then◌else◌}
-use Rattle.bs_bits.specs.Text.{bits_of}
+use Rattle.bs_seen.specs.declared.seen.Seen.{Seen}
+use Rattle.bs_seen.specs.SeenText.{seen_of}
 use Rattle.bs_net.specs.Netlist.{circuit_of}
 use Rattle.bs_net.specs.Parts.{Parts}
 use Rattle.bs_top_plan.specs.declared.file.File.TheVariants as files
@@ -13,20 +14,20 @@ use Rattle.bs_top_files.specs.NoteCases.{NoteCase}
 use Rattle.bs_top_files.specs.Refusals.{Case}
 use Rattle.bs_note_calls.specs.Searches.{room_text, state_text}
 
--- a netlist's parts, a state of it, and the most cycles in which the state is to be reached
+-- a netlist's parts, what is known of a state of it, and the most cycles in which the state is to be reached
 pub record Target : Type 0 where
   pub raw : Parts
-  pub state : List Bool
+  pub state : Seen
   pub cycles : ℕ
 
--- bits that are a state: one for each flip-flop
-abbrev pub fitting : Parts → Option (List Bool) → Result (List Bool) (Reason Case)
+-- bits that are a state, known or not: one for each flip-flop
+abbrev pub fitting : Parts → Option Seen → Result Seen (Reason Case)
 fitting raw None = Err (exactly (codes "Width"))
-fitting raw (Some bits) = if length bits == length (circuit_of raw).flops then Ok bits else Err (exactly (codes "Width"))
+fitting raw (Some seen) = if length seen.bits == length (circuit_of raw).flops then Ok seen else Err (exactly (codes "Width"))
 
 -- the state of a word
-abbrev pub state_in : Parts → List ℕ → Result (List Bool) (Reason Case)
-state_in raw word = fitting raw (bits_of word)
+abbrev pub state_in : Parts → List ℕ → Result Seen (Reason Case)
+state_in raw word = fitting raw (seen_of word)
 
 -- whether a time frame for each cycle has few enough variables
 abbrev pub has_room : Parts → ℕ → Bool
@@ -39,9 +40,9 @@ room_in raw cycles = if has_room raw cycles then Ok true else Err (exactly (code
 abbrev pub target_of : (netlist state : List ℕ) → (cycles : ℕ) → Plan Case Target
 target_of netlist state cycles = do
   raw ← netlist_of netlist
-  bits ← read_as files.State (state_in raw state)
+  seen ← read_as files.State (state_in raw state)
   fits ← read_as files.Netlist (room_in raw cycles)
-  end record { raw = raw; state = bits; cycles = cycles }
+  end record { raw = raw; state = seen; cycles = cycles }
 
 -- ---- the same as the notes see it
 
@@ -51,7 +52,7 @@ said_by text (Ok v) = Ok v
 said_by text (Err reason) = Err (exactly text)
 
 -- the state of a word
-abbrev pub state_noted : Parts → List ℕ → Result (List Bool) (Reason NoteCase)
+abbrev pub state_noted : Parts → List ℕ → Result Seen (Reason NoteCase)
 state_noted raw word = said_by (state_text word (length (circuit_of raw).flops)) (state_in raw word)
 
 -- whether a search of so many cycles is small enough
@@ -61,32 +62,32 @@ room_noted raw cycles = said_by (room_text (variables (circuit_of raw) [])) (roo
 abbrev pub target_looked : (netlist state : List ℕ) → (cycles : ℕ) → Plan NoteCase Target
 target_looked netlist state cycles = do
   raw ← netlist_looked netlist
-  bits ← read_as files.State (state_noted raw state)
+  seen ← read_as files.State (state_noted raw state)
   fits ← read_as files.Netlist (room_noted raw cycles)
-  end record { raw = raw; state = bits; cycles = cycles }
+  end record { raw = raw; state = seen; cycles = cycles }
 
 -- ---- what is left of the walk once its first parts are read
 
 -- behind the netlist
 abbrev pub stated_step : Parts → List ℕ → (cycles : ℕ) → Plan Case Target
 stated_step raw state cycles = do
-  bits ← read_as files.State (state_in raw state)
+  seen ← read_as files.State (state_in raw state)
   fits ← read_as files.Netlist (room_in raw cycles)
-  end record { raw = raw; state = bits; cycles = cycles }
+  end record { raw = raw; state = seen; cycles = cycles }
 
 abbrev pub stated_looked : Parts → List ℕ → (cycles : ℕ) → Plan NoteCase Target
 stated_looked raw state cycles = do
-  bits ← read_as files.State (state_noted raw state)
+  seen ← read_as files.State (state_noted raw state)
   fits ← read_as files.Netlist (room_noted raw cycles)
-  end record { raw = raw; state = bits; cycles = cycles }
+  end record { raw = raw; state = seen; cycles = cycles }
 
 -- behind the state
-abbrev pub sized_step : Parts → List Bool → (cycles : ℕ) → Plan Case Target
+abbrev pub sized_step : Parts → Seen → (cycles : ℕ) → Plan Case Target
 sized_step raw state cycles = do
   fits ← read_as files.Netlist (room_in raw cycles)
   end record { raw = raw; state = state; cycles = cycles }
 
-abbrev pub sized_looked : Parts → List Bool → (cycles : ℕ) → Plan NoteCase Target
+abbrev pub sized_looked : Parts → Seen → (cycles : ℕ) → Plan NoteCase Target
 sized_looked raw state cycles = do
   fits ← read_as files.Netlist (room_noted raw cycles)
   end record { raw = raw; state = state; cycles = cycles }

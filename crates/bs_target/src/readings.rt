@@ -11,34 +11,35 @@ ghost use Rattle.bs_top_files.specs.NoteCases.{NoteSays};
 ghost use Rattle.bs_top_plan.specs.Diagnostic.{noted, worded};
 ghost use Rattle.bs_target.specs.Target.{fitting, room_in, room_noted, state_in, state_noted};
 
-use bs_bits::{Bits, NoMemory};
+use bs_bits::NoMemory;
 use bs_net::Netlist;
 use bs_note_calls::{room_note, state_note};
 use bs_reach::size;
 use bs_reach_unrolled::MAX_FRAME_VARIABLES;
+use bs_seen::Seen;
 use bs_top_files::worded;
 use bs_top_plan::{Refusal, Unread, both};
 use std::alloc::Global;
 
-/// Bits that are a state of the netlist: one for each flip-flop.
-fn fitting(alloc: Global, bits: Bits, net: &Netlist) -> Result<Bits, Refusal>
-    ensures reads { Reads CheckSays (λ state. state) (fitting net.now.raw (Some bits)) result }
-    ensures width { IfOk result (λ state. length state ≡ length (circuit net.now).flops) }
+/// Bits that are a state of the netlist, known or not: one for each flip-flop.
+fn fitting(alloc: Global, seen: Seen, net: &Netlist) -> Result<Seen, Refusal>
+    ensures reads { Reads CheckSays (λ state. state) (fitting net.now.raw (Some seen)) result }
+    ensures width { IfOk result (λ state. length state.bits ≡ length (circuit net.now).flops) }
 {
-    if bits.len() == net.raw().flops.len() {
-        Ok(bits)
+    if seen.bits.len() == net.raw().flops.len() {
+        Ok(seen)
     } else {
         Err(worded(alloc, b"Width"))
     }
 }
 
-/// The state of a word: a character 0 or 1 for each flip-flop.
-fn read_state(alloc: Global, word: &str, net: &Netlist) -> Result<Bits, Refusal>
+/// The state of a word: a character 0 or 1 for each flip-flop, or `-` where it is not known.
+fn read_state(alloc: Global, word: &str, net: &Netlist) -> Result<Seen, Refusal>
     ensures reads { Reads CheckSays (λ state. state) (state_in net.now.raw word.now) result }
-    ensures width { IfOk result (λ state. length state ≡ length (circuit net.now).flops) }
+    ensures width { IfOk result (λ state. length state.bits ≡ length (circuit net.now).flops) }
 {
-    match Bits::read_text(alloc, word.as_bytes())? {
-        Some(bits) => fitting(alloc, bits, net),
+    match Seen::read_text(alloc, word.as_bytes())? {
+        Some(seen) => fitting(alloc, seen, net),
         None => Err(worded(alloc, b"Width")),
     }
 }
@@ -68,10 +69,10 @@ fn check_room(alloc: Global, net: &Netlist, cycles: u64) -> Result<(), Refusal>
 
 /// The state of a word, or the diagnostic of it.
 #[tactic(auto, using(crate::proofs::SaidLemmas::state_words, crate::proofs::SaidLemmas::state_fails, crate::proofs::SaidLemmas::state_fits))]
-pub fn state_or_diagnostic(alloc: Global, word: &str, net: &Netlist) -> Result<Bits, Unread>
+pub fn state_or_diagnostic(alloc: Global, word: &str, net: &Netlist) -> Result<Seen, Unread>
     ensures words { Reads CheckSays (λ state. state) (state_in net.now.raw word.now) (worded result) }
     ensures note { Reads NoteSays (λ state. state) (state_noted net.now.raw word.now) (noted result) }
-    ensures width { IfOk result (λ state. length state ≡ length (circuit net.now).flops) }
+    ensures width { IfOk result (λ state. length state.bits ≡ length (circuit net.now).flops) }
 {
     match read_state(alloc, word, net) {
         Ok(state) => Ok(state),

@@ -4,15 +4,16 @@ ghost use Rattle.bs_net.specs.Netlist.{circuit};
 ghost use Rattle.bs_encode.specs.Transition.{variables};
 ghost use Rattle.bs_reach_unrolled.specs.declared.limits.TheConstants.{MAX_FRAME_VARIABLES};
 
-use bs_bits::Bits;
 use bs_net::Netlist;
+use bs_seen::Seen;
 
-/// A netlist, a state with a bit for each of its flip-flops, and the most cycles in which the state is to be reached.
+/// A netlist, what is known of a state with a bit for each of its flip-flops, and the most cycles in which a state that shows it is to be
+/// reached.
 #[derive(Drop)]
 pub struct Target {
     pub net: Netlist,
-    pub state: Bits,
+    pub state: Seen,
     pub cycles: u64,
-    ghost width: { length state ≡ length (circuit net).flops },
+    ghost width: { length state.bits ≡ length (circuit net).flops },
     ghost room: { cycles * variables (circuit net) [] ≤ MAX_FRAME_VARIABLES },
 }

@@ -9,9 +9,9 @@ ghost use Rattle.bs_target.specs.Shown.{target_in};
 
 use crate::readings::{room_or_diagnostic, state_or_diagnostic};
 use crate::target::Target;
-use bs_bits::Bits;
 use bs_net::Netlist;
 use bs_outside::Shelf;
+use bs_seen::Seen;
 use bs_top_files::load_netlist;
 use bs_top_plan::{File, WalkStop, settle_diagnostic};
 use std::alloc::Global;
@@ -24,10 +24,10 @@ fn load_sized<S: Shelf>(
     alloc: Global,
     _shelf: &mut S,
     net: Netlist,
-    state: Bits,
+    state: Seen,
     cycles: u64,
 ) -> Result<Target, WalkStop>
-    requires { length state ≡ length (circuit net).flops }
+    requires { length state.bits ≡ length (circuit net).flops }
     ensures { WalksDiagnosed CheckSays NoteSays S.held S.faults S.leads _shelf.old _shelf.new
         (sized_step net.raw state cycles) (sized_looked net.raw state cycles) target_in target_in result }
 {

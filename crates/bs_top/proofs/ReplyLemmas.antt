@@ -1,7 +1,8 @@
 -- What is answered for a report, a finding, a search or a backtrace, where memory sufficed for its text.
-use Rattle.std.proofs.Common.{◌≡◌, ◌≢◌, ℕ, List, length, Bool, false, Result, Ok, Err, Vec, refl, Option, ap, subst, sym, ◌∙◌}
+use Rattle.std.proofs.Common.{◌≡◌, ◌≢◌, ℕ, length, Bool, false, Result, Ok, Err, Vec, refl, Option, ap, subst, sym, ◌∙◌}
 use Rattle.std.specs.Prelude.{IfOk}
 use Rattle.std.specs.declared.alloc.Global.{Global}
+use Rattle.bs_seen.specs.declared.seen.Seen.{Seen}
 use Rattle.bs_bits.specs.declared.memory.NoMemory.{NoMemory}
 use Rattle.bs_net.specs.Circuit.{Circuit}
 use Rattle.bs_net.specs.Netlist.{circuit_of}
@@ -21,6 +22,7 @@ use Rattle.bs_reach.specs.Text.{reach_text}
 use Rattle.bs_wave.specs.declared.wave.Wave.{Wave}
 use Rattle.bs_wave.specs.Wave.{IsWaveOf}
 use Rattle.bs_wave.specs.WaveText.{wave_text}
+use Rattle.bs_note_calls.specs.Stops.{cut_lists}
 use Rattle.bs_top_answer.specs.declared.note.Note.TheVariants.{Wanting}
 use Rattle.bs_top_answer.specs.declared.note.Response.{Response}
 use Rattle.bs_top_answer.specs.Endings.{is_looked, miss_text_of, rejected_text_if, run_text}
@@ -51,7 +53,7 @@ pub draws_told : {crash : Crash} (raw : Parts) {report : Report} (part : Option 
 draws_told raw part (Ok a) finds status drawn = record { part = part; finds = finds; answered = status; written = drawn }
 draws_told raw part (Err want) finds status drawn = tt
 
-pub answers_told : {c : Circuit} {p : List Bool} {k b : ℕ} (reach : Reach) (r : Result Response NoMemory) → IsReach c p k b reach →
+pub answers_told : {c : Circuit} {p : Seen} {k b : ℕ} (reach : Reach) (r : Result Response NoMemory) → IsReach c p k b reach →
     IfOk r (λ a. a.reply.status ≡ reach_status reach.outcome) → IfOk r (λ a. a.reply.text.items ≡ reach_text reach) →
     IfOk r (λ a. Answers c p k b a.reply.status a.reply.text.items)
 answers_told reach (Ok a) is status text = record { reach = reach; right = is; written = text; answered = status }
@@ -72,7 +74,7 @@ summarises_told number report (Err want) is written = tt
 pub reports_said : (budgets : Budgets) (crash_files : CrashFiles) (report : Report) (cut : Bool) (r : Result Response NoMemory) (before chip : Recording) →
     before ≡ recording_in crash_files.setup → chip ≡ recording_in crash_files.setup → TellsCut before budgets.conflicts report.steps cut →
     IfOk r (λ a. a.reply.text.items ≡ report_text report) →
-    IfOk r (λ a. DueText (run_text chip crash_files.dump crash_files.setup.runs (length report.steps) report.stop cut) a.note) →
+    IfOk r (λ a. DueText (run_text chip crash_files.dump crash_files.setup.runs (length report.steps) report.stop cut (cut_lists report.steps)) a.note) →
     IfOk r (λ a. is_looked (length report.steps) report.stop ≡ false → a.note ≢ Wanting) →
     IfOk r (λ a. RunSaid budgets crash_files a.reply.text.items a.note)
 reports_said budgets crash_files report cut (Ok a) before chip was is tells text says sure = record {
@@ -80,14 +82,14 @@ reports_said budgets crash_files report cut (Ok a) before chip was is tells text
   written = text;
   cut = cut;
   tells = subst (λ (q : Recording). TellsCut q budgets.conflicts report.steps cut) was tells;
-  says = subst (λ (q : Recording). DueText (run_text q crash_files.dump crash_files.setup.runs (length report.steps) report.stop cut) a.note) is says;
+  says = subst (λ (q : Recording). DueText (run_text q crash_files.dump crash_files.setup.runs (length report.steps) report.stop cut (cut_lists report.steps)) a.note) is says;
   sure = sure;
 }
 reports_said budgets crash_files report cut (Err want) before chip was is tells text says sure = tt
 
 -- the dump has the width of a chip of its setup, whatever was asked of it
 pub fits_chip : (c : Circuit) (raw : Parts) (choice : Chosen) (runs : Stimulus) (dump : Dump) (before chip : Recording) → DumpFits c choice dump →
-    c ≡ circuit_of raw → before ≡ recording_of raw choice runs → chip ≡ before → length dump.state ≡ length chip.circuit.flops
+    c ≡ circuit_of raw → before ≡ recording_of raw choice runs → chip ≡ before → length dump.state.bits ≡ length chip.circuit.flops
 fits_chip c raw choice runs dump before chip fits same is still =
     fits.state ∙ ap (λ (q : Circuit). length q.flops) same ∙ ap (λ (q : Recording). length q.circuit.flops) (sym (still ∙ is))
 

@@ -13,10 +13,11 @@ use Rattle.bs_report.specs.declared.report.HitLine.{HitLine}
 use Rattle.bs_report.specs.declared.report.Step.{Step}
 use Rattle.bs_report.specs.declared.report.Report.{Report}
 use Rattle.bs_report_good.specs.Step.{stored_of, listed, IsRightStep, IsCandidate}
-use Rattle.bs_report_good.specs.Trace.{hit_state, input_for}
+use Rattle.bs_report_good.specs.Trace.{hit_state, input_for, trace_end}
 use Rattle.bs_report_good.specs.Good.{IsGood}
 use Rattle.bs_report_good.proofs.ProgressLemmas.{hit_at}
 use Rattle.bs_report_good.proofs.ExecutionLemmas.{cand_for, led_widths}
+use Rattle.bs_trace.proofs.WideLemmas.{end_width}
 use Rattle.bs_wave.specs.Wave.{IsWayOf}
 
 -- as many states as inputs, each of its width
@@ -31,7 +32,7 @@ hit_way crash step hit ss xs right e rest =
     let reached : is_listed (listed step.cands) hit.state ≡ true = (hit_at crash step hit (sym e ∙ right.hit)).reached in
     let f = cand_for (IsCandidate crash.circuit crash.choice step.present (stored_of step)) step.cands hit.state
     (recursion_from_All (IsCandidate crash.circuit crash.choice step.present (stored_of step)) step.cands right.candidates) reached in
-    let widths = led_widths crash.circuit f.cand.state f.cand.input step.present f.right.leads in
+    let widths = led_widths crash.circuit f.cand.state f.cand.input f.right.leads.there f.right.leads.leads in
     let input : input_for step hit.state ≡ Some f.cand.input = ap (option_map (λ (c : Cand). c.input)) f.first in
     let more : Ways crash.circuit (hit.state ∷ ss) (f.cand.input ∷ xs) =
     record { same = ap suc rest.same; wide = (ap length (sym f.state) ∙ widths.0, rest.wide); fed = (widths.1, rest.fed) } in
@@ -64,14 +65,15 @@ way_is crash r fits good =
     let way : Ways c ss xs = steps_way crash r.steps (recursion_from_All (IsRightStep crash) r.steps good.steps) in
     let W : List Bool → Type 0 = λ s. length s ≡ length c.flops in
     let X : List Bool → Type 0 = λ x. length x ≡ length c.inputs in
-    let dumped : List (List Bool) = crash.dump.state ∷ [] in
-    let states : All W (reverse ss ++ dumped) =
-    All-append W (reverse ss) dumped (all_reverse W ss way.wide) (All-from_recursion W dumped (fits.state, tt)) in
+    let last : List Bool = (trace_end crash r.steps).bits in
+    let states : All W (reverse ss ++ last ∷ []) =
+    All-append W (reverse ss) (last ∷ []) (all_reverse W ss way.wide)
+    (All-from_recursion W (last ∷ []) (end_width c crash.dump.state r.steps fits.state, tt)) in
     let inputs : All X (reverse xs) = all_reverse X xs way.fed in
     record {
       one_more =
           ap length good.trace.states
-          ∙ (length-append (reverse ss) dumped
+          ∙ (length-append (reverse ss) (last ∷ [])
           ∙ (ap (λ n. n + 1) (length-reverse ss ∙ (way.same ∙ sym (length-reverse xs))) ∙ ap (λ (l : List (List Bool)). length l + 1) (sym good.trace.inputs)));
       state_widths = subst (λ (l : List (List Bool)). All W l) (sym good.trace.states) states;
       input_widths = subst (λ (l : List (List Bool)). All X l) (sym good.trace.inputs) inputs;

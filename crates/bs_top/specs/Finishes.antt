@@ -1,5 +1,6 @@
 -- The status and the text of work that is done.
-use Rattle.std.specs.Prelude.{◌≡◌, ℕ, Bool, List, Option, None, Ok}
+use Rattle.std.specs.Prelude.{◌≡◌, ℕ, List, Option, None, Ok}
+use Rattle.bs_seen.specs.declared.seen.Seen.{Seen}
 use Rattle.bs_scan.specs.DumpText.{dump_text}
 use Rattle.bs_log.specs.Lean.{IsLean}
 use Rattle.bs_log.specs.Refusal.{history_of}
@@ -107,7 +108,7 @@ reach_status Unreached = S.Unreached
 reach_status (Unknown j) = S.Spent
 
 -- a right answer whether the state is reached in at most k cycles, where each length may take b lemmas
-pub record Answers (c : Circuit) (p : List Bool) (k b : ℕ) (status : Status) (text : List ℕ) : Type 0 where
+pub record Answers (c : Circuit) (p : Seen) (k b : ℕ) (status : Status) (text : List ℕ) : Type 0 where
   pub reach : Reach
   pub right : IsReach c p k b reach
   pub written : text ≡ reach_text reach

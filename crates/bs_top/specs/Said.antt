@@ -5,6 +5,7 @@ use Rattle.bs_loop.specs.Searched.{TellsCut}
 use Rattle.bs_outside.specs.Calls.{FetchCall}
 use Rattle.bs_note_calls.specs.declared.miss.Miss.{Miss}
 use Rattle.bs_note_calls.specs.declared.miss.Miss.TheVariants as M
+use Rattle.bs_note_calls.specs.Stops.{cut_lists}
 use Rattle.bs_note_calls.specs.Words.{IsWordsNote}
 use Rattle.bs_reach.specs.declared.reach.Outcome.{Outcome}
 use Rattle.bs_reach.specs.declared.reach.Outcome.TheVariants.{Reached, Unreached, Unknown}
@@ -65,14 +66,15 @@ paths_of (Search j) = record { netlist = j.netlist; signature = []; stimulus = [
 -- ---- work that is done
 
 -- The text is a report's, and the note tells its stop, where it is not at reset; where no candidate of the first step is hit, it tells
--- what the recorded runs show of the dump. It tells whether the search for a recorded moment was cut in the last step, as it was. Memory
--- may run out for it only where the runs are looked at.
+-- what the recorded runs show of the dump. Where some flip-flops of the dump are not known, it tells how many are in place of that, and also
+-- at a stop at reset. It tells whether the search for a recorded moment was cut in the last step, as it was, and at a stop at the
+-- budget of steps how many lists were cut. Memory may run out for it only where the runs are looked at.
 pub record RunSaid (budgets : Budgets) (crash_files : CrashFiles) (text : List ℕ) (note : Note) : Type 0 where
   pub report : Report
   pub written : text ≡ report_text report
   pub cut : Bool
   pub tells : TellsCut (recording_in crash_files.setup) budgets.conflicts report.steps cut
-  pub says : DueText (run_text (recording_in crash_files.setup) crash_files.dump crash_files.setup.runs (length report.steps) report.stop cut) note
+  pub says : DueText (run_text (recording_in crash_files.setup) crash_files.dump crash_files.setup.runs (length report.steps) report.stop cut (cut_lists report.steps)) note
   pub sure : is_looked (length report.steps) report.stop ≡ false → note ≢ Wanting
 
 abbrev pub is_rejected : Option Part → Bool

@@ -12,8 +12,8 @@ use Rattle.bs_report_good.specs.Valid.{IsValid}
 use Rattle.bs_audit.specs.Finding.{basis_for}
 
 -- The report is good and valid. A trace of at least one step ends an execution from reset under a supplied run's inputs and then
--- the trace's, which ends in the dumped state. Each later finished step hits earlier, so that a finished list without a hit is
--- the first one, and where all are finished the backtrace reaches reset if the budget of steps allows it.
+-- the trace's, which ends in a state that shows the dump's known bits. Each later finished step hits earlier, so that a finished list
+-- without a hit is the first one, and where all are finished the backtrace reaches reset if the budget of steps allows it.
 pub record IsSoundReport (crash : Crash) (r : Report) : Type 0 where
   pub good : IsGood crash r
   pub valid : IsValid crash (basis_for crash r) r

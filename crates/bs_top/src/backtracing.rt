@@ -4,6 +4,7 @@ ghost use Rattle.bs_top_answer.specs.declared.note.Note.TheVariants.{Wanting};
 ghost use Rattle.bs_top_answer.specs.Endings.{is_looked, run_text};
 ghost use Rattle.bs_top_answer.specs.Note.{DueText};
 ghost use Rattle.bs_top_answer.specs.Prepared.{PreparedNoted};
+ghost use Rattle.bs_note_calls.specs.Stops.{cut_lists};
 ghost use Rattle.bs_loop.specs.Budget.{IsBudget};
 ghost use Rattle.bs_loop.specs.Searched.{TellsCut};
 ghost use Rattle.bs_top_files.specs.Ready.{crash_files_in, setup_in};
@@ -22,6 +23,7 @@ use crate::design::means_design;
 use crate::names::run_paths;
 use bs_chip::Chip;
 use bs_loop::backtrace;
+use bs_note_calls::cut_lists;
 use bs_outside::{NoMemory, Shelf};
 use bs_preimage::Preimage;
 use bs_report::{Budgets, Report, Stop};
@@ -131,14 +133,15 @@ fn report_answer(
     crash_files: &CrashFiles,
 ) -> Result<Response, NoMemory>
     requires trace { length report.now.states ≡ length report.now.inputs + 1 }
-    requires dump { length crash_files.now.dump.state ≡ length chip.old.recording.circuit.flops }
+    requires dump { length crash_files.now.dump.state.bits ≡ length chip.old.recording.circuit.flops }
     ensures status { IfOk result (λ answer. answer.reply.status ≡ stop_status report.now.stop) }
     ensures text { IfOk result (λ answer. answer.reply.text.items ≡ report_text report.now) }
-    ensures note { IfOk result (λ answer. DueText (run_text chip.old.recording crash_files.now.dump crash_files.now.setup.runs (length report.now.steps) report.now.stop cut) answer.note) }
+    ensures note { IfOk result (λ answer. DueText (run_text chip.old.recording crash_files.now.dump crash_files.now.setup.runs (length report.now.steps) report.now.stop cut (cut_lists report.now.steps)) answer.note) }
     ensures sure { IfOk result (λ answer. is_looked (length report.now.steps) report.now.stop ≡ false → answer.note ≢ Wanting) }
 {
     let reply = written(alloc, report)?;
     let steps = report.steps.len() as u64;
+    let lists = cut_lists(&report.steps) as u64;
     let note = run_said(
         alloc,
         chip,
@@ -147,6 +150,7 @@ fn report_answer(
         steps,
         report.stop,
         cut,
+        lists,
     );
     Ok(Response { reply, note })
 }
@@ -160,10 +164,10 @@ fn answer_of(
     crash_files: &CrashFiles,
 ) -> Result<Response, NoMemory>
     requires trace { length report.states ≡ length report.inputs + 1 }
-    requires dump { length crash_files.now.dump.state ≡ length chip.old.recording.circuit.flops }
+    requires dump { length crash_files.now.dump.state.bits ≡ length chip.old.recording.circuit.flops }
     ensures status { IfOk result (λ answer. answer.reply.status ≡ stop_status report.stop) }
     ensures text { IfOk result (λ answer. answer.reply.text.items ≡ report_text report) }
-    ensures note { IfOk result (λ answer. DueText (run_text chip.old.recording crash_files.now.dump crash_files.now.setup.runs (length report.steps) report.stop cut) answer.note) }
+    ensures note { IfOk result (λ answer. DueText (run_text chip.old.recording crash_files.now.dump crash_files.now.setup.runs (length report.steps) report.stop cut (cut_lists report.steps)) answer.note) }
     ensures sure { IfOk result (λ answer. is_looked (length report.steps) report.stop ≡ false → answer.note ≢ Wanting) }
 {
     let answer = report_answer(alloc, chip, &report, cut, crash_files);

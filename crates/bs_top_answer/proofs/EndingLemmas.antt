@@ -1,6 +1,7 @@
 -- The moments of recorded runs, and the notes on work that is done.
-use Rattle.std.proofs.Common.{◌≡◌, ◌≢◌, ℕ, suc, ◌+◌, ◌<◌, Bool, true, false, cond, List, [], ◌∷◌, ◌++◌, length, take, Option, Some, None, refl, sym, subst, ◌∙◌, ap, get_or, arith}
-use Rattle.std.specs.Prelude.{option_map, sum_by}
+use Rattle.std.proofs.Common.{◌≡◌, ◌≢◌, ℕ, suc, ◌+◌, ◌<◌, Bool, true, false, cond, List, [], ◌∷◌, ◌++◌, length, take, Option, Some, None, sym, subst, ◌∙◌, ap, get_or, arith}
+use Rattle.std.specs.Prelude.{◌==◌, option_map, sum_by}
+use Rattle.std.specs.Option.{unwrap_or}
 use Rattle.std.proofs.Math.Seq.{take-suc}
 use Rattle.std.proofs.lemmas.List.Sums.{sum_by-append}
 use Rattle.bs_report.specs.declared.report.Stop.{Stop}
@@ -15,7 +16,7 @@ use Rattle.bs_note_calls.specs.declared.miss.Miss.{Miss}
 use Rattle.bs_top_answer.specs.declared.note.Note.{Note}
 use Rattle.bs_top_answer.specs.declared.note.Note.TheVariants.{Silent, Brief, Wanting}
 use Rattle.bs_top_answer.specs.Note.{Due, DueText, SureText}
-use Rattle.bs_top_answer.specs.Endings.{followed_text, is_looked, miss_text_of, rejected_text_if, run_text, stopped_text}
+use Rattle.bs_top_answer.specs.Endings.{followed_text, is_hit, is_looked, miss_text_of, own_text, partly_text, rejected_text_if, run_text, stopped_text, whole_text}
 
 -- the moments of one run
 abbrev pub moments_in : Recorded → ℕ
@@ -58,20 +59,46 @@ brief_sure steps stop said note same not = λ is. let e : Brief said ≡ Wanting
 pub silent_sure : (steps : ℕ) (stop : Stop) (note : Note) → note ≡ Silent → is_looked steps stop ≡ false → note ≢ Wanting
 silent_sure steps stop note same not = λ is. let e : Silent ≡ Wanting = sym same ∙ is in absurd cc
 
--- nothing is said of a run that came to reset
-pub run_silent : (r : Recording) (dump : Dump) (runs : Stimulus) (steps : ℕ) (stop : Stop) (cut : Bool) (note : Note) → text_of steps stop cut ≡ None →
-    note ≡ Silent → DueText (run_text r dump runs steps stop cut) note
-run_silent r dump runs steps stop cut note none silent =
+-- nothing is said of a run that came to reset, from a dump of which all is known
+pub run_silent : (r : Recording) (dump : Dump) (runs : Stimulus) (steps : ℕ) (stop : Stop) (cut : Bool) (lists : ℕ) (note : Note) → text_of steps stop cut lists ≡ None →
+    note ≡ Silent → DueText (whole_text r dump runs steps stop cut lists) note
+run_silent r dump runs steps stop cut lists note none silent =
     subst (λ (t : Option (List ℕ)). DueText (option_map (λ (text : List ℕ). stopped_text r dump steps stop (followed_text runs stop text)) t) note)
     (sym none) silent
 
 -- the note on a stop, from the text of its own
-pub run_due : (r : Recording) (dump : Dump) (runs : Stimulus) (steps : ℕ) (stop : Stop) (cut : Bool) (text : List ℕ) (note : Note) →
-    text_of steps stop cut ≡ Some text → Due (λ n. n ≡ stopped_text r dump steps stop (followed_text runs stop text)) note →
-    DueText (run_text r dump runs steps stop cut) note
-run_due r dump runs steps stop cut text note some says =
+pub run_due : (r : Recording) (dump : Dump) (runs : Stimulus) (steps : ℕ) (stop : Stop) (cut : Bool) (lists : ℕ) (text : List ℕ) (note : Note) →
+    text_of steps stop cut lists ≡ Some text → Due (λ n. n ≡ stopped_text r dump steps stop (followed_text runs stop text)) note →
+    DueText (whole_text r dump runs steps stop cut lists) note
+run_due r dump runs steps stop cut lists text note some says =
     subst (λ (t : Option (List ℕ)). DueText (option_map (λ (text : List ℕ). stopped_text r dump steps stop (followed_text runs stop text)) t) note)
     (sym some) says
+
+-- the text of a stop, and what follows it, if there is one
+pub own_some : (runs : Stimulus) (steps : ℕ) (stop : Stop) (cut : Bool) (lists : ℕ) (text said : List ℕ) → text_of steps stop cut lists ≡ Some text →
+    said ≡ followed_text runs stop text → said ≡ own_text runs steps stop cut lists
+own_some runs steps stop cut lists text said some is =
+    is ∙ ap (λ (t : Option (List ℕ)). unwrap_or (option_map (followed_text runs stop) t) []) (sym some)
+
+pub own_none : (runs : Stimulus) (steps : ℕ) (stop : Stop) (cut : Bool) (lists : ℕ) (said : List ℕ) → text_of steps stop cut lists ≡ None → said ≡ [] →
+    said ≡ own_text runs steps stop cut lists
+own_none runs steps stop cut lists said none is =
+    is ∙ ap (λ (t : Option (List ℕ)). unwrap_or (option_map (followed_text runs stop) t) []) (sym none)
+
+-- the note from a dump of which all is known, or is not
+pub run_whole : (r : Recording) (dump : Dump) (runs : Stimulus) (steps : ℕ) (stop : Stop) (cut : Bool) (lists : ℕ) (note : Note) →
+    (length dump.state.free == 0) ≡ true → DueText (whole_text r dump runs steps stop cut lists) note → DueText (run_text r dump runs steps stop cut lists) note
+run_whole r dump runs steps stop cut lists note all says =
+    subst (λ (b : Bool). DueText (cond b (whole_text r dump runs steps stop cut lists) (Some (own_text runs steps stop cut lists ++ partly_text dump (is_hit steps stop)))) note)
+    (sym all) says
+
+pub run_partly : (r : Recording) (dump : Dump) (runs : Stimulus) (steps : ℕ) (stop : Stop) (cut : Bool) (lists : ℕ) (said : List ℕ) (note : Note) →
+    (length dump.state.free == 0) ≡ false → note ≡ Brief said → said ≡ own_text runs steps stop cut lists ++ partly_text dump (is_hit steps stop) →
+    DueText (run_text r dump runs steps stop cut lists) note
+run_partly r dump runs steps stop cut lists said note some same is =
+    subst (λ (n : Note). DueText (run_text r dump runs steps stop cut lists) n) (sym same)
+    (subst (λ (b : Bool). DueText (cond b (whole_text r dump runs steps stop cut lists) (Some (own_text runs steps stop cut lists ++ partly_text dump (is_hit steps stop)))) (Brief said))
+    (sym some) is)
 
 pub miss_made : (miss : Option Miss) (one : Miss) (said : List ℕ) (note : Note) → miss ≡ Some one → note ≡ Brief said → said ≡ miss_text one →
     SureText (miss_text_of miss) note

@@ -1,5 +1,6 @@
 pub mod TurnedLemmas
 pub mod LookLemmas
+pub mod PartlyLemmas
 pub mod NoteLemmas
 pub mod EndingLemmas
 pub mod AnswerLemmas

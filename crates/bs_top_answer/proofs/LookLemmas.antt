@@ -25,24 +25,24 @@ turned_fits state turned width is fits = ap length is ∙ length-reverse state �
 
 -- the state read backwards stands at a moment
 pub turned_hit : (r : Recording) (d : Dump) (said : List ℕ) (state : List Bool) (m : Moment) (there : Dump) (note : Result (Vec ℕ Global) NoMemory) →
-    state ≡ reverse d.state → moment_in r state ≡ Some m → there ≡ dump_at r m →
+    state ≡ reverse d.state.bits → moment_in r state ≡ Some m → there ≡ dump_at r m →
     IfOk note (λ n. n.items ≡ turned_text m there (fit_of there d)) →
-    IfOk note (λ n. n.items ≡ turned_or r d said (moment_in r (reverse d.state)))
+    IfOk note (λ n. n.items ≡ turned_or r d said (moment_in r (reverse d.state.bits)))
 turned_hit r d said state m there (Ok n) turned is holds says =
     says ∙ ap (λ (t : Dump). turned_text m t (fit_of t d)) holds
     ∙ ap (λ (o : Option Moment). turned_or r d said o) (sym is ∙ ap (moment_in r) turned)
 turned_hit r d said state m there (Err want) turned is holds says = tt
 
 -- it stands at none
-pub turned_never : (r : Recording) (d : Dump) (said : List ℕ) (state : List Bool) (note : Result (Vec ℕ Global) NoMemory) → state ≡ reverse d.state →
+pub turned_never : (r : Recording) (d : Dump) (said : List ℕ) (state : List Bool) (note : Result (Vec ℕ Global) NoMemory) → state ≡ reverse d.state.bits →
     moment_in r state ≡ None → IfOk note (λ n. n.items ≡ never_text said) →
-    IfOk note (λ n. n.items ≡ turned_or r d said (moment_in r (reverse d.state)))
+    IfOk note (λ n. n.items ≡ turned_or r d said (moment_in r (reverse d.state.bits)))
 turned_never r d said state (Ok n) turned none says = says ∙ ap (λ (o : Option Moment). turned_or r d said o) (sym none ∙ ap (moment_in r) turned)
 turned_never r d said state (Err want) turned none says = tt
 
 -- the state stands at a moment
 pub recorded_hit : (r : Recording) (d : Dump) (said : List ℕ) (state : List Bool) (m : Moment) (there : Dump) (note : Result (Vec ℕ Global) NoMemory) →
-    state ≡ d.state → moment_in r state ≡ Some m → there ≡ dump_at r m →
+    state ≡ d.state.bits → moment_in r state ≡ Some m → there ≡ dump_at r m →
     IfOk note (λ n. n.items ≡ recorded_text said m there (fit_of there d)) → IfOk note (λ n. n.items ≡ looked_text r d said)
 recorded_hit r d said state m there (Ok n) same is holds says =
     says ∙ ap (λ (t : Dump). recorded_text said m t (fit_of t d)) holds
@@ -51,9 +51,9 @@ recorded_hit r d said state m there (Err want) same is holds says = tt
 
 -- it stands at none
 pub not_recorded : (r now : Recording) (d : Dump) (said : List ℕ) (state : List Bool) (note : Result (Vec ℕ Global) NoMemory) → now ≡ r →
-    state ≡ d.state → moment_in r state ≡ None →
-    IfOk note (λ n. n.items ≡ turned_or now d said (moment_in now (reverse d.state))) → IfOk note (λ n. n.items ≡ looked_text r d said)
+    state ≡ d.state.bits → moment_in r state ≡ None →
+    IfOk note (λ n. n.items ≡ turned_or now d said (moment_in now (reverse d.state.bits))) → IfOk note (λ n. n.items ≡ looked_text r d said)
 not_recorded r now d said state (Ok n) still same none says =
-    says ∙ ap (λ (q : Recording). turned_or q d said (moment_in q (reverse d.state))) still
+    says ∙ ap (λ (q : Recording). turned_or q d said (moment_in q (reverse d.state.bits))) still
     ∙ ap (λ (o : Option Moment). recorded_or r d said o) (sym none ∙ ap (moment_in r) same)
 not_recorded r now d said state (Err want) still same none says = tt

@@ -64,10 +64,10 @@ turned_or r dump said None = never_text said
 -- by the first moment in the state as it stands
 abbrev pub recorded_or : Recording → Dump → List ℕ → Option Moment → List ℕ
 recorded_or r dump said (Some m) = recorded_text said m (dump_at r m) (fit_of (dump_at r m) dump)
-recorded_or r dump said None = turned_or r dump said (moment_in r (reverse dump.state))
+recorded_or r dump said None = turned_or r dump said (moment_in r (reverse dump.state.bits))
 
 -- The note on a stop, which says this, once the runs were looked at: where a run was in the dump's state, its first such moment and the
 -- signatures there; where none was, the same of the state read backwards; and where none was in that either, that the state was never
 -- recorded. The note's own text stays, unless the dump is found to be read in another order or to have other signatures than the moment.
 abbrev pub looked_text : Recording → Dump → List ℕ → List ℕ
-looked_text r dump said = recorded_or r dump said (moment_in r dump.state)
+looked_text r dump said = recorded_or r dump said (moment_in r dump.state.bits)

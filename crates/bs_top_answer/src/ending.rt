@@ -1,11 +1,13 @@
 //! The notes on work that is done: on the stop of a run, on a search without an execution, and on a report that is not valid.
 ghost use Rattle.std.specs.Prelude.{◌≡◌, ◌≢◌, ◌≤◌, ◌++◌, codes, decimal, false, length};
-ghost use Rattle.bs_top_answer.specs.Endings.{followed_text, is_looked, miss_text_of, moments, rejected_text_if, run_text, searched_text, stopped_text};
+ghost use Rattle.bs_top_answer.specs.Endings.{followed_text, is_hit, is_looked, miss_text_of, moments, own_text, partly_text, rejected_text_if, run_text};
+ghost use Rattle.bs_top_answer.specs.Endings.{searched_text, stopped_text, whole_text};
 ghost use Rattle.bs_top_answer.specs.Looks.{looked_text};
 ghost use Rattle.bs_top_answer.specs.Note.{Due, DueText, SureText};
 
 use crate::look::looked_note;
 use crate::note::{Note, note_made};
+use crate::partly::partly_note;
 use bs_chip::Chip;
 use bs_note_calls::{Brief, Miss, brief_plain, miss_note, rejected_note, stop_note};
 use bs_report::Stop;
@@ -49,7 +51,8 @@ fn searched_note(count: u64) -> Brief
 /// A text, and that sentence.
 fn searched_on(text: Brief, runs: &Runs) -> Brief
     requires { length text ≤ 675 }
-    ensures { result ≡ text ++ searched_text (moments runs.now) }
+    ensures text { result ≡ text ++ searched_text (moments runs.now) }
+    ensures short { length result ≤ 802 }
 {
     let mut note = text;
     let more = searched_note(moments(runs));
@@ -60,7 +63,8 @@ fn searched_on(text: Brief, runs: &Runs) -> Brief
 /// The text of a stop, and what follows it.
 fn followed(text: Brief, runs: &Runs, stop: Stop) -> Brief
     requires { length text ≤ 675 }
-    ensures { result ≡ followed_text runs.now stop text }
+    ensures text { result ≡ followed_text runs.now stop text }
+    ensures short { length result ≤ 802 }
 {
     match stop {
         Stop::Nohit => searched_on(text, runs),
@@ -89,7 +93,7 @@ fn is_looked(steps: u64, stop: Stop) -> bool
 /// The note on a stop in the first step, which says this, once the runs were looked at.
 #[tactic(auto, using(crate::proofs::NoteLemmas::text_due))]
 fn looked(alloc: Global, chip: &mut Chip<'_>, dump: &Dump, said: &[u8]) -> Note
-    requires { length dump.now.state ≡ length chip.old.recording.circuit.flops }
+    requires { length dump.now.state.bits ≡ length chip.old.recording.circuit.flops }
     ensures { Due (λ note. note ≡ looked_text chip.old.recording dump.now said.now) result }
 {
     note_made(looked_note(alloc, chip, dump, said))
@@ -105,7 +109,7 @@ fn stopped(
     stop: Stop,
     text: Brief,
 ) -> Note
-    requires { length dump.now.state ≡ length chip.old.recording.circuit.flops }
+    requires { length dump.now.state.bits ≡ length chip.old.recording.circuit.flops }
     ensures text { Due (λ note. note ≡ stopped_text chip.old.recording dump.now steps stop text) result }
     ensures sure { is_looked steps stop ≡ false → result ≢ Note.Wanting }
 {
@@ -125,7 +129,7 @@ fn noted(
     stop: Stop,
     text: Brief,
 ) -> Note
-    requires width { length dump.now.state ≡ length chip.old.recording.circuit.flops }
+    requires width { length dump.now.state.bits ≡ length chip.old.recording.circuit.flops }
     requires short { length text ≤ 675 }
     ensures text { Due (λ note. note ≡ stopped_text chip.old.recording dump.now steps stop (followed_text runs.now stop text)) result }
     ensures sure { is_looked steps stop ≡ false → result ≢ Note.Wanting }
@@ -134,9 +138,62 @@ fn noted(
     stopped(alloc, chip, dump, steps, stop, text)
 }
 
-/// The note on why a run from a dump stopped after so many steps, where it did not come to reset. The chip is that of the runs. `cut` is
-/// whether the search for a recorded moment was cut in the last step. Memory may run out for the note only where the runs are looked at.
+/// The note on why a run stopped from a dump of which all is known.
 #[tactic(auto, using(crate::proofs::EndingLemmas::run_silent, crate::proofs::EndingLemmas::run_due, crate::proofs::EndingLemmas::silent_sure))]
+fn whole_said(
+    alloc: Global,
+    chip: &mut Chip<'_>,
+    dump: &Dump,
+    runs: &Runs,
+    steps: u64,
+    stop: Stop,
+    cut: bool,
+    lists: u64,
+) -> Note
+    requires { length dump.now.state.bits ≡ length chip.old.recording.circuit.flops }
+    ensures text { DueText (whole_text chip.old.recording dump.now runs.now steps stop cut lists) result }
+    ensures sure { is_looked steps stop ≡ false → result ≢ Note.Wanting }
+{
+    match stop_note(steps, stop, cut, lists) {
+        Some(text) => noted(alloc, chip, dump, runs, steps, stop, text),
+        None => Note::Silent,
+    }
+}
+
+/// The text of a stop, and what follows it, if there is one.
+#[tactic(auto, using(crate::proofs::EndingLemmas::own_some, crate::proofs::EndingLemmas::own_none))]
+fn own_said(runs: &Runs, steps: u64, stop: Stop, cut: bool, lists: u64) -> Brief
+    ensures text { result ≡ own_text runs.now steps stop cut lists }
+    ensures short { length result ≤ 802 }
+{
+    match stop_note(steps, stop, cut, lists) {
+        Some(text) => followed(text, runs, stop),
+        None => Brief::of(b""),
+    }
+}
+
+/// Whether a candidate of the first step was hit.
+fn is_hit(steps: u64, stop: Stop) -> bool
+    ensures { result ≡ is_hit steps stop }
+{
+    let looked = is_looked(steps, stop);
+    0 < steps && !looked
+}
+
+/// The note on why a run stopped from a dump of which some flip-flops are not known.
+fn partly_said(dump: &Dump, runs: &Runs, steps: u64, stop: Stop, cut: bool, lists: u64) -> Brief
+    ensures { result ≡ own_text runs.now steps stop cut lists ++ partly_text dump.now (is_hit steps stop) }
+{
+    let mut note = own_said(runs, steps, stop, cut, lists);
+    let known = partly_note(dump, is_hit(steps, stop));
+    note.push(known.bytes());
+    note
+}
+
+/// The note on why a run from a dump stopped after so many steps, where it did not come to reset, and how many flip-flops of the dump
+/// are known, where some are not. The chip is that of the runs. `cut` is whether the search for a recorded moment was cut in the last
+/// step, `lists` how many of the steps' lists were cut. Memory may run out for the note only where the runs are looked at.
+#[tactic(auto, using(crate::proofs::EndingLemmas::run_whole, crate::proofs::EndingLemmas::run_partly, crate::proofs::EndingLemmas::brief_sure))]
 pub fn run_said(
     alloc: Global,
     chip: &mut Chip<'_>,
@@ -145,15 +202,16 @@ pub fn run_said(
     steps: u64,
     stop: Stop,
     cut: bool,
+    lists: u64,
 ) -> Note
-    requires { length dump.now.state ≡ length chip.old.recording.circuit.flops }
-    ensures text { DueText (run_text chip.old.recording dump.now runs.now steps stop cut) result }
+    requires { length dump.now.state.bits ≡ length chip.old.recording.circuit.flops }
+    ensures text { DueText (run_text chip.old.recording dump.now runs.now steps stop cut lists) result }
     ensures sure { is_looked steps stop ≡ false → result ≢ Note.Wanting }
 {
-    match stop_note(steps, stop, cut) {
-        Some(text) => noted(alloc, chip, dump, runs, steps, stop, text),
-        None => Note::Silent,
+    if dump.state.is_whole() {
+        return whole_said(alloc, chip, dump, runs, steps, stop, cut, lists);
     }
+    Note::Brief(partly_said(dump, runs, steps, stop, cut, lists))
 }
 
 /// The note on a search, where it has no execution. It takes no memory.

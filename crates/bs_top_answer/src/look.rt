@@ -123,11 +123,11 @@ fn unrecorded(
     dump: &Dump,
     said: &[u8],
 ) -> Result<Vec<u8>, NoMemory>
-    requires { length dump.now.state ≡ length chip.old.recording.circuit.flops }
-    ensures text { IfOk result (λ note. note.items ≡ turned_or chip.old.recording dump.now said.now (moment_in chip.old.recording (reverse dump.now.state))) }
+    requires { length dump.now.state.bits ≡ length chip.old.recording.circuit.flops }
+    ensures text { IfOk result (λ note. note.items ≡ turned_or chip.old.recording dump.now said.now (moment_in chip.old.recording (reverse dump.now.state.bits))) }
     ensures chip { chip.new.recording ≡ chip.old.recording }
 {
-    let state = turned(alloc, &dump.state)?;
+    let state = turned(alloc, &dump.state.bits)?;
     match first_in(alloc, chip, state)? {
         Some(hit) => turned_at(alloc, dump, hit),
         None => never_note(alloc, said),
@@ -143,11 +143,11 @@ pub fn looked_note(
     dump: &Dump,
     said: &[u8],
 ) -> Result<Vec<u8>, NoMemory>
-    requires { length dump.now.state ≡ length chip.old.recording.circuit.flops }
+    requires { length dump.now.state.bits ≡ length chip.old.recording.circuit.flops }
     ensures text { IfOk result (λ note. note.items ≡ looked_text chip.old.recording dump.now said.now) }
     ensures chip { chip.new.recording ≡ chip.old.recording }
 {
-    let state = dump.state.copy()?;
+    let state = dump.state.bits.copy()?;
     match first_in(alloc, chip, state)? {
         Some(hit) => recorded_at(alloc, dump, said, hit),
         None => unrecorded(alloc, chip, dump, said),

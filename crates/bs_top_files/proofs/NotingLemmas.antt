@@ -1,5 +1,5 @@
 -- What a reading of a file answers, in the words of a note.
-use Rattle.std.proofs.Common.{◌≡◌, ◌⊎◌, inl, inr, ◌≢◌, ℕ, List, Bool, true, false, Option, Some, None, [], length, Result, Ok, Err, Vec, refl, sym, subst, ap, ◌∙◌}
+use Rattle.std.proofs.Common.{◌≡◌, ◌⊎◌, inl, inr, ◌≢◌, ℕ, List, Bool, true, false, Option, Some, None, Result, Ok, Err, Vec, refl, sym, subst}
 use Rattle.std.specs.Prelude.{IfOk, if◌then◌else◌}
 use Rattle.std.specs.declared.alloc.Global.{Global}
 use Rattle.bs_bits.specs.declared.memory.NoMemory.{NoMemory}
@@ -16,7 +16,6 @@ use Rattle.bs_top_plan.specs.Walks.{Reads}
 use Rattle.bs_note_files.specs.Checks.{IsCheckNote}
 use Rattle.bs_note_files.specs.Kinds.{mistaken_text}
 use Rattle.bs_top_files.specs.NoteCases.{NoteCase, in_netlist, in_ring, in_check, NoteSays, diagnosed_as, HasNote}
-use Rattle.bs_net.specs.Netlist.{circuit_of}
 use Rattle.bs_top_files.specs.Refusals.{CheckSays, HasCheckWords, HasWords, TextFault, with_one, Case as Refused, in_rings}
 use Rattle.bs_top_files.specs.Readings.{text_in}
 use Rattle.bs_top_files.proofs.TextLemmas.{IsRightFault, right_parts, right_faults}
@@ -99,6 +98,40 @@ note_else {T} {V} view holds v text refusal e has =
     wanted = Err (exactly text)
 
     by : (refusal : Refusal) → HasNote (exactly text) refusal → Reads {T = T} NoteSays view wanted (Err refusal)
+    by Q.NoMemory has = tt
+    by (Q.Why why) has = has
+
+-- where it holds, what is wanted there is
+pub words_where : {T V : Type 0} (view : T → V) (holds : Bool) (wanted other : Result V (Reason Refused)) (result : Result T Refusal) → holds ≡ true →
+    Reads CheckSays view wanted result → Reads CheckSays view (if holds then wanted else other) result
+words_where view holds wanted other result e h = subst (λ (b : Bool). Reads CheckSays view (if b then wanted else other) result) (sym e) h
+
+pub note_where : {T V : Type 0} (view : T → V) (holds : Bool) (wanted other : Result V (Reason NoteCase)) (result : Result T Refusal) → holds ≡ true →
+    Reads NoteSays view wanted result → Reads NoteSays view (if holds then wanted else other) result
+note_where view holds wanted other result e h = subst (λ (b : Bool). Reads NoteSays view (if b then wanted else other) result) (sym e) h
+
+-- and where it does not, it is refused, whatever is wanted else
+pub words_not : {T V : Type 0} (view : T → V) (holds : Bool) (wanted : Result V (Reason Refused)) (these : List ℕ) (refusal : Refusal) → holds ≡ false →
+    HasWords these refusal → Reads {T = T} CheckSays view (if holds then wanted else Err (exactly these)) (Err refusal)
+words_not {T} {V} view holds wanted these refusal e has =
+    subst (λ (b : Bool). Reads {T = T} CheckSays view (if b then wanted else Err (exactly these)) (Err refusal)) (sym e) (by refusal has)
+  where
+    refused : Result V (Reason Refused)
+    refused = Err (exactly these)
+
+    by : (refusal : Refusal) → HasWords these refusal → Reads {T = T} CheckSays view refused (Err refusal)
+    by Q.NoMemory has = tt
+    by (Q.Why why) has = has
+
+pub note_not : {T V : Type 0} (view : T → V) (holds : Bool) (wanted : Result V (Reason NoteCase)) (text : List ℕ) (refusal : Refusal) → holds ≡ false →
+    HasNote (exactly text) refusal → Reads {T = T} NoteSays view (if holds then wanted else Err (exactly text)) (Err refusal)
+note_not {T} {V} view holds wanted text refusal e has =
+    subst (λ (b : Bool). Reads {T = T} NoteSays view (if b then wanted else Err (exactly text)) (Err refusal)) (sym e) (by refusal has)
+  where
+    refused : Result V (Reason NoteCase)
+    refused = Err (exactly text)
+
+    by : (refusal : Refusal) → HasNote (exactly text) refusal → Reads {T = T} NoteSays view refused (Err refusal)
     by Q.NoMemory has = tt
     by (Q.Why why) has = has
 

@@ -20,10 +20,10 @@ use Rattle.bs_report.specs.declared.report.Report.{Report}
 use Rattle.bs_top_plan.specs.declared.file.File.TheVariants as files
 use Rattle.bs_top_plan.specs.Plan.{Reason, exactly, any_of}
 use Rattle.bs_top_files.specs.Refusals.{TextFault, with_one, in_rings}
-use Rattle.bs_top_files.specs.Readings.{choice_in, has_moment, is_drawable, text_in}
+use Rattle.bs_top_files.specs.Readings.{choice_in, has_moment, is_drawable, is_known, text_in}
 use Rattle.bs_note_files.specs.declared.dump.Widths.{Widths}
 use Rattle.bs_note_files.specs.Kinds.{mistaken}
-use Rattle.bs_note_calls.specs.Faults.{large_text, range_text}
+use Rattle.bs_note_calls.specs.Faults.{large_text, partial_text, range_text}
 use Rattle.bs_top_files.specs.NoteCases.{NoteCase, in_netlist, in_ring, in_check, in_signature, in_stimulus, in_dump, in_report, diagnosed_as}
 
 -- what a reader's definition wants, with a reason for its fault
@@ -95,5 +95,9 @@ abbrev pub report_noted : List ℕ → List ℕ → Result Report (Reason NoteCa
 report_noted path text = noted_by (report_note_reason path text) (report_in text)
 
 -- whether a waveform of the report's trace has few enough values
+abbrev pub drawable_noted : List ℕ → Parts → Report → Result Bool (Reason NoteCase)
+drawable_noted path r report = if is_drawable r report then Ok true else Err (exactly (large_text path))
+
+-- whether the report's trace has a waveform
 abbrev pub size_noted : List ℕ → Parts → Report → Result Bool (Reason NoteCase)
-size_noted path r report = if is_drawable r report then Ok true else Err (exactly (large_text path))
+size_noted path r report = if is_known report then drawable_noted path r report else Err (exactly (partial_text path))

@@ -1,5 +1,5 @@
 -- What the bytes of a file are to a job: a value, or the reason of their refusal.
-use Rattle.std.specs.Prelude.{ℕ, ◌*◌, ◌&&◌, nat_le, nat_lt, Bool, true, false, List, length, Result, Ok, Err, if◌then◌else◌}
+use Rattle.std.specs.Prelude.{ℕ, ◌*◌, ◌&&◌, ◌==◌, nat_le, nat_lt, Bool, true, false, List, length, Result, Ok, Err, if◌then◌else◌}
 use Rattle.bs_bits.specs.Lines.{lines_of}
 use Rattle.bs_net.specs.Circuit.{reset_state}
 use Rattle.bs_net.specs.Netlist.{circuit_of}
@@ -24,7 +24,7 @@ use Rattle.bs_report.specs.declared.report.Report.{Report}
 use Rattle.bs_report.specs.Reading.{report_in}
 use Rattle.bs_top_plan.specs.Plan.{Reason}
 use Rattle.bs_top_files.specs.Refusals.{Case, TextFault, with_one, in_rings, with_fault, text_reason, check_reason, with_reason}
-use Rattle.bs_top_files.specs.Refusals.{signature_reason, stimulus_reason, dump_reason, range_reason, report_reason, too_large_reason}
+use Rattle.bs_top_files.specs.Refusals.{signature_reason, stimulus_reason, dump_reason, partial_reason, range_reason, report_reason, too_large_reason}
 use Rattle.bs_top_files.specs.declared.limits.TheConstants.{MAX_WAVE_VALUES}
 
 -- what a text of one module is: its parts, or its first fault
@@ -98,5 +98,13 @@ report_read bytes = with_reason report_reason (report_in bytes)
 abbrev pub is_drawable : Parts → Report → Bool
 is_drawable raw report = nat_le (length raw.names * length report.states) MAX_WAVE_VALUES
 
+abbrev pub drawable_in : Parts → Report → Result Bool (Reason Case)
+drawable_in raw report = if is_drawable raw report then Ok true else Err too_large_reason
+
+-- whether all is known of the trace's last state
+abbrev pub is_known : Report → Bool
+is_known report = length report.free == 0
+
+-- whether the report's trace has a waveform
 abbrev pub size_in : Parts → Report → Result Bool (Reason Case)
-size_in raw report = if is_drawable raw report then Ok true else Err too_large_reason
+size_in raw report = if is_known report then drawable_in raw report else Err partial_reason

@@ -104,6 +104,10 @@ range_words = codes "Range"
 abbrev pub too_large_words : List ℕ
 too_large_words = codes "TooLarge"
 
+-- a report whose trace is a state that is known in part
+abbrev pub partial_words : List ℕ
+partial_words = codes "Partial"
+
 -- ---- the check of a netlist
 
 -- the word for what there is too much of
@@ -194,6 +198,9 @@ range_reason = exactly range_words
 
 abbrev pub too_large_reason : Reason Case
 too_large_reason = exactly too_large_words
+
+abbrev pub partial_reason : Reason Case
+partial_reason = exactly partial_words
 
 -- what a reader's definition wants, with a reason for its fault
 abbrev pub with_reason : {V F : Type 0} → (F → Reason Case) → Result V F → Result V (Reason Case)

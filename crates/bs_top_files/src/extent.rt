@@ -2,19 +2,19 @@
 ghost use Rattle.std.specs.Prelude.{◌≡◌, true, IfOk};
 ghost use Rattle.bs_scan.specs.Moments.{IsMoment};
 ghost use Rattle.bs_stim.specs.Runs.{inputs_of};
-ghost use Rattle.bs_note_calls.specs.Faults.{large_text, range_text};
+ghost use Rattle.bs_note_calls.specs.Faults.{large_text, partial_text, range_text};
 ghost use Rattle.bs_top_plan.specs.Plan.{exactly};
 ghost use Rattle.bs_top_plan.specs.Diagnostic.{note_refusal, noted, word_refusal, worded};
 ghost use Rattle.bs_top_plan.specs.Walks.{Reads};
 ghost use Rattle.bs_top_files.specs.NoteCases.{HasNote, NoteSays};
-ghost use Rattle.bs_top_files.specs.Noting.{moment_noted, size_noted};
-ghost use Rattle.bs_top_files.specs.Readings.{moment_in, size_in};
-ghost use Rattle.bs_top_files.specs.Refusals.{CheckSays, HasWords, range_words, too_large_words};
+ghost use Rattle.bs_top_files.specs.Noting.{drawable_noted, moment_noted, size_noted};
+ghost use Rattle.bs_top_files.specs.Readings.{drawable_in, moment_in, size_in};
+ghost use Rattle.bs_top_files.specs.Refusals.{CheckSays, HasWords, partial_words, range_words, too_large_words};
 
-use crate::readings::{has_moment, is_drawable};
-use crate::refusals::{range_refusal, too_large_refusal};
+use crate::readings::{has_moment, is_drawable, is_known};
+use crate::refusals::{partial_refusal, range_refusal, too_large_refusal};
 use bs_net::Netlist;
-use bs_note_calls::{large_note, range_note};
+use bs_note_calls::{large_note, partial_note, range_note};
 use bs_report::Report;
 use bs_scan::Moment;
 use bs_stim::Runs;
@@ -64,8 +64,37 @@ fn size_diagnostic(alloc: Global, path: &str) -> Unread
     both(words, note)
 }
 
+/// The diagnostic of a report whose trace is a state that is known in part.
+#[tactic(auto, using(crate::proofs::NotingLemmas::both_words, crate::proofs::NotingLemmas::both_these))]
+pub fn partial_diagnostic(alloc: Global, path: &str) -> Unread
+    ensures words { HasWords partial_words (word_refusal result) }
+    ensures note { HasNote (exactly (partial_text path.now)) (note_refusal result) }
+{
+    let words = partial_refusal(alloc);
+    let note = partial_note(alloc, path);
+    both(words, note)
+}
+
 /// Whether a waveform of the report's trace is small enough, or the diagnostic of it.
 #[tactic(auto, using(crate::proofs::NotingLemmas::words_else, crate::proofs::NotingLemmas::note_else))]
+fn drawable_or_diagnostic(
+    alloc: Global,
+    path: &str,
+    net: &Netlist,
+    report: &Report,
+) -> Result<(), Unread>
+    ensures words { Reads CheckSays (λ _. true) (drawable_in net.now.raw report.now) (worded result) }
+    ensures note { Reads NoteSays (λ _. true) (drawable_noted path.now net.now.raw report.now) (noted result) }
+{
+    if is_drawable(net, report) {
+        Ok(())
+    } else {
+        Err(size_diagnostic(alloc, path))
+    }
+}
+
+/// Whether the report's trace has a waveform, or the diagnostic of it.
+#[tactic(auto, using(crate::proofs::NotingLemmas::words_where, crate::proofs::NotingLemmas::note_where, crate::proofs::NotingLemmas::words_not, crate::proofs::NotingLemmas::note_not))]
 pub fn size_or_diagnostic(
     alloc: Global,
     path: &str,
@@ -75,9 +104,9 @@ pub fn size_or_diagnostic(
     ensures words { Reads CheckSays (λ _. true) (size_in net.now.raw report.now) (worded result) }
     ensures note { Reads NoteSays (λ _. true) (size_noted path.now net.now.raw report.now) (noted result) }
 {
-    if is_drawable(net, report) {
-        Ok(())
+    if is_known(report) {
+        drawable_or_diagnostic(alloc, path, net, report)
     } else {
-        Err(size_diagnostic(alloc, path))
+        Err(partial_diagnostic(alloc, path))
     }
 }

@@ -18,14 +18,14 @@ mod ready;
 mod refusals;
 mod texts;
 
-pub use extent::{moment_or_diagnostic, size_or_diagnostic};
+pub use extent::{moment_or_diagnostic, partial_diagnostic, size_or_diagnostic};
 pub use limits::MAX_WAVE_VALUES;
 pub use loading::{
     load_audit_files, load_crash_files, load_drawn, load_dump, load_moment_files, load_netlist,
     load_report, load_setup, load_signature, load_stimulus,
 };
 pub use netlist::netlist_or_diagnostic;
-pub use readings::read_choice;
+pub use readings::{is_known, read_choice};
 pub use ready::{AuditFiles, CrashFiles, FileNames, MomentFiles, Setup};
 pub use refusals::worded;
 pub use texts::{

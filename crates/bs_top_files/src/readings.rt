@@ -6,7 +6,7 @@ ghost use Rattle.bs_bits.specs.Reading.{Answers};
 ghost use Rattle.bs_top_plan.specs.declared.limits.TheConstants.{MAX_SIGNATURE_BYTES};
 ghost use Rattle.bs_stim.specs.declared.limits.TheConstants.{MAX_CYCLES, MAX_RUNS};
 ghost use Rattle.bs_stim.specs.Runs.{run_at};
-ghost use Rattle.bs_top_files.specs.Readings.{choice_in, has_moment, is_drawable};
+ghost use Rattle.bs_top_files.specs.Readings.{choice_in, has_moment, is_drawable, is_known};
 
 use crate::limits::MAX_WAVE_VALUES;
 use bs_net::Netlist;
@@ -36,6 +36,13 @@ pub fn has_moment(runs: &Runs, run: u64, cycle: u64) -> bool
         return false;
     }
     cycle <= u64::from(runs.cycles(run as u32))
+}
+
+/// Whether all is known of the trace's last state.
+pub fn is_known(report: &Report) -> bool
+    ensures { result ≡ is_known report.now }
+{
+    report.free.len() == 0
 }
 
 /// Whether a waveform of the report's trace has few enough values.

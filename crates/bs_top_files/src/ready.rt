@@ -6,7 +6,7 @@ ghost use Rattle.bs_stim.specs.Runs.{inputs_of};
 ghost use Rattle.bs_scan.specs.Crash.{DumpFits};
 ghost use Rattle.bs_scan.specs.Moments.{IsMoment};
 ghost use Rattle.std.proofs.Props.{props};
-ghost use Rattle.bs_top_files.specs.Props.{depth_prop};
+ghost use Rattle.bs_top_files.specs.Props.{depth_prop, seen_prop};
 
 use bs_net::Netlist;
 use bs_report::Report;
@@ -44,7 +44,7 @@ pub struct MomentFiles {
 pub struct CrashFiles {
     pub setup: Setup,
     pub dump: Dump,
-    ghost fits: { DumpFits (circuit setup.net) setup.choice dump } by { Prim.hlevel (props, depth_prop) },
+    ghost fits: { DumpFits (circuit setup.net) setup.choice dump } by { Prim.hlevel (props, depth_prop, seen_prop) },
 }
 
 /// A crash and a report of its backtrace.

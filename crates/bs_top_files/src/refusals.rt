@@ -14,7 +14,7 @@ ghost use Rattle.bs_stim.specs.declared.fault.StimFault.TheVariants.{NoMemory as
 ghost use Rattle.bs_report.specs.declared.fault.ReportFault.TheVariants.{NoMemory as ReportWant};
 ghost use Rattle.bs_top_plan.specs.declared.walk.Refusal.TheVariants.{NoMemory as Want};
 ghost use Rattle.bs_top_files.specs.Refusals.{HasCheckWords, HasWords, check_words, count_word, dump_words, flat_words, gate_piece, key_of, name_piece, netlist_text_words};
-ghost use Rattle.bs_top_files.specs.Refusals.{range_words, report_words, signature_words, stimulus_words, too_large_words, too_many_words, unsupported_words};
+ghost use Rattle.bs_top_files.specs.Refusals.{partial_words, range_words, report_words, signature_words, stimulus_words, too_large_words, too_many_words, unsupported_words};
 
 use bs_bits::{List, NoMemory, push_number, push_piece};
 use bs_flat_meaning::FlatFault;
@@ -336,6 +336,13 @@ pub fn range_refusal(alloc: Global) -> Refusal
     ensures { HasWords range_words result }
 {
     worded(alloc, b"Range")
+}
+
+/// The refusal of a report whose trace is a state that is known in part.
+pub fn partial_refusal(alloc: Global) -> Refusal
+    ensures { HasWords partial_words result }
+{
+    worded(alloc, b"Partial")
 }
 
 /// The refusal of a report whose trace has too large a waveform.

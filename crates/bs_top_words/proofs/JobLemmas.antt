@@ -7,8 +7,12 @@ use Rattle.std.specs.List.{flat_map, list_all}
 use Rattle.std.specs.Option.{option_map, option_and_then, unwrap_or}
 use Rattle.std.specs.Str.{bytes_eq}
 use Rattle.std.proofs.lemmas.Slice.Eq.{bytes_eq-Decides}
-use Rattle.std.proofs.lemmas.Bool.{and_parts, eqb-true}
-use Rattle.bs_bits.specs.Text.{digit_of, bits_text}
+use Rattle.std.proofs.lemmas.Bool.{and_from, and_parts, eqb-true}
+use Rattle.bs_bits.specs.Text.{bits_of, digit_of, bits_text}
+use Rattle.bs_bits.proofs.TextLemmas.{bits_again}
+use Rattle.bs_seen.specs.declared.seen.Seen.{Seen}
+use Rattle.bs_seen.specs.SeenText.{filled, filled_in, free_in, marked, seen_of, seen_text}
+use Rattle.bs_seen.proofs.TextLemmas.{partly_text, seen_exact}
 use Rattle.bs_stim.specs.declared.limits.TheConstants.{MAX_RUNS, MAX_CYCLES}
 use Rattle.bs_top_words.specs.declared.limits.TheConstants.{DEFAULT_STEPS, DEFAULT_CANDIDATES, DEFAULT_CONFLICTS, MAX_BOUND}
 use Rattle.bs_top_words.specs.declared.options.BudgetKind.{BudgetKind}
@@ -17,7 +21,7 @@ use Rattle.bs_top_words.specs.Options.{number_between}
 use Rattle.bs_top_words.specs.CommandLine.{CommandLine, plain, read_line}
 use Rattle.bs_top_words.proofs.Taking.{Plain, state, read_all, start, same_line}
 use Rattle.bs_top_words.specs.Job.{RunJob, AuditJob, DumpJob, ReachJob, Job, Run, Audit, Dump, Demo, Wave, Reach}
-use Rattle.bs_top_words.specs.Job.{is_bit, is_state, reach_of, reach_at, reach_if, reach_job, wave_at, wave_job, run_at, run_job, audit_at, audit_job}
+use Rattle.bs_top_words.specs.Job.{is_bit, is_mark, is_state, reach_of, reach_at, reach_if, reach_job, wave_at, wave_job, run_at, run_job, audit_at, audit_job}
 use Rattle.bs_top_words.specs.Job.{dump_of, dump_at}
 use Rattle.bs_top_words.specs.Job.{dump_job, demo_at, demo_job, job_of}
 use Rattle.bs_top_words.specs.Spelling.{spelling, positions_of, options_of, given, values_of, listed, IsLine, IsRun, IsDump, IsDemo}
@@ -130,21 +134,54 @@ digits (c ∷ cs) e =
     let others : cs ≡ map digit_of (map (λ (c : ℕ). c == 49) cs) = digits cs parts.1 in
     λ i. first i ∷ others i
 
+-- with 0 in place of each -
+filled_digit : (c : ℕ) → is_mark c ≡ true → is_bit (filled_in c) ≡ true
+filled_digit c e = by (c == 45) refl e
+  where
+    or_nothing : (b : Bool) → (b || false) ≡ b
+    or_nothing true = refl
+    or_nothing false = refl
+
+    by : (dash : Bool) → (c == 45) ≡ dash → (is_bit c || dash) ≡ true → is_bit (cond dash 48 c) ≡ true
+    by true is e = refl
+    by false is e = sym (or_nothing (is_bit c)) ∙ e
+
+filled_digits : (word : List ℕ) → list_all is_mark word ≡ true → list_all is_bit (filled word) ≡ true
+filled_digits [] e = refl
+filled_digits (c ∷ cs) e =
+    let parts = and_parts (is_mark c) (list_all is_mark cs) e in
+    and_from (is_bit (filled_in c)) (list_all is_bit (filled cs)) (filled_digit c parts.0) (filled_digits cs parts.1)
+
 state_word : (word : List ℕ) → is_state word ≡ true → IsStateWord word
 state_word [] e = absurd cc
-state_word (c ∷ cs) e = record { bits = map (λ (c : ℕ). c == 49) (c ∷ cs); some = λ none. cc; spelled = digits (c ∷ cs) e }
+state_word (c ∷ cs) e =
+    let bits : List Bool = map (λ (c : ℕ). c == 49) (filled (c ∷ cs)) in
+    let seen : Seen = record { bits = bits; free = free_in (c ∷ cs) } in
+    let text : filled (c ∷ cs) ≡ bits_text bits = digits (filled (c ∷ cs)) (filled_digits (c ∷ cs) e) in
+    let read : seen_of (c ∷ cs) ≡ Some seen =
+    ap (option_map (λ (bits : List Bool). record { bits = bits; free = free_in (c ∷ cs) })) (ap bits_of text ∙ bits_again bits) in
+    let exact = seen_exact (c ∷ cs) seen read in
+    record { seen = seen; some = λ none. cc; sound = exact.0; spelled = sym exact.1 }
 
-all_bits : (bits : List Bool) → list_all is_bit (map digit_of bits) ≡ true
-all_bits [] = refl
-all_bits (true ∷ bits) = all_bits bits
-all_bits (false ∷ bits) = all_bits bits
+all_marks : (bits : List Bool) → list_all is_mark (map digit_of bits) ≡ true
+all_marks [] = refl
+all_marks (true ∷ bits) = all_marks bits
+all_marks (false ∷ bits) = all_marks bits
+
+marked_marks : (free bits : List Bool) → list_all is_mark (marked free (map digit_of bits)) ≡ true
+marked_marks [] bits = all_marks bits
+marked_marks (f ∷ free) [] = refl
+marked_marks (true ∷ free) (b ∷ bits) = marked_marks free bits
+marked_marks (false ∷ free) (true ∷ bits) = marked_marks free bits
+marked_marks (false ∷ free) (false ∷ bits) = marked_marks free bits
 
 state_again : (word : List ℕ) → IsStateWord word → is_state word ≡ true
-state_again word h = ap is_state h.spelled ∙ again h.bits h.some
+state_again word h = ap is_state h.spelled ∙ again h.seen.free h.seen.bits h.some
   where
-    again : (bits : List Bool) → bits ≢ [] → is_state (bits_text bits) ≡ true
-    again [] some = absurd (some refl)
-    again (b ∷ bits) some = all_bits (b ∷ bits)
+    again : (free bits : List Bool) → bits ≢ [] → is_state (seen_text (record { bits = bits; free = free })) ≡ true
+    again free [] some = absurd (some refl)
+    again [] (b ∷ bits) some = all_marks (b ∷ bits)
+    again (f ∷ free) (b ∷ bits) some = ap is_state (partly_text f free (b ∷ bits)) ∙ marked_marks (f ∷ free) (b ∷ bits)
 
 -- ---- from what is read to the job
 

@@ -5,7 +5,7 @@ use Rattle.std.specs.Str.{bytes_eq}
 use Rattle.bs_top_words.specs.declared.options.BudgetKind.{BudgetKind}
 use Rattle.bs_top_words.specs.declared.options.BudgetKind.TheVariants.{Steps, Candidates, Conflicts}
 use Rattle.bs_top_words.specs.declared.flags.Flag.{Flag}
-use Rattle.bs_top_words.specs.declared.flags.Flag.TheVariants.{Budget, All, Only, Clock, Scope, Map, Bits, From, Time, Cycle, Signature, Csv, Most, At, Depth, Flops, Step}
+use Rattle.bs_top_words.specs.declared.flags.Flag.TheVariants.{Budget, All, Only, Clock, Scope, Map, Bits, From, To, Last, Time, Cycle, Signature, Csv, Most, At, Depth, Flops, Step, Partial}
 use Rattle.bs_top_words.specs.declared.given.Awaited.{Awaited}
 use Rattle.bs_top_words.specs.declared.given.Awaited.TheVariants as A
 use Rattle.bs_top_words.specs.Options.{has_dash, is_option, rest_of, value_in}
@@ -141,6 +141,8 @@ set_behind (s ∷ ss) l word = by s.flag (λ k. set_behind ss k word)
     by Map later = refl
     by Bits later = refl
     by From later = refl
+    by To later = refl
+    by Last later = refl
     by Time later = refl
     by Cycle later = refl
     by Signature later = refl
@@ -150,6 +152,7 @@ set_behind (s ∷ ss) l word = by s.flag (λ k. set_behind ss k word)
     by Depth later = refl
     by Flops later = refl
     by Step later = refl
+    by Partial later = refl
 
 -- an option that comes last
 set_last : (ss : List Setting) (l : CommandLine) (s : Setting) →

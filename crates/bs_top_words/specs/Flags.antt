@@ -7,7 +7,7 @@ use Rattle.bs_top_words.specs.Options.{rest_of}
 use Rattle.bs_top_words.specs.declared.options.BudgetKind.{BudgetKind}
 use Rattle.bs_top_words.specs.declared.options.BudgetKind.TheVariants.{Steps, Candidates, Conflicts}
 use Rattle.bs_top_words.specs.declared.flags.Flag.{Flag}
-use Rattle.bs_top_words.specs.declared.flags.Flag.TheVariants.{Budget, All, Only, Clock, Scope, Map, Bits, From, Time, Cycle, Signature, Csv, Most, At, Depth, Flops, Step}
+use Rattle.bs_top_words.specs.declared.flags.Flag.TheVariants.{Budget, All, Only, Clock, Scope, Map, Bits, From, To, Last, Time, Cycle, Signature, Csv, Most, At, Depth, Flops, Step, Partial}
 
 -- the name of a budget
 abbrev pub kind_name : BudgetKind → List ℕ
@@ -25,6 +25,8 @@ name_of Scope = codes "--scope"
 name_of Map = codes "--map"
 name_of Bits = codes "--bits"
 name_of From = codes "--from"
+name_of To = codes "--to"
+name_of Last = codes "--last"
 name_of Time = codes "--time"
 name_of Cycle = codes "--cycle"
 name_of Signature = codes "--signature"
@@ -34,12 +36,14 @@ name_of At = codes "--at"
 name_of Depth = codes "--depth"
 name_of Flops = codes "--flops"
 name_of Step = codes "--step"
+name_of Partial = codes "--partial"
 
--- every option has a value but `--all`, `--csv` and `--flops`
+-- every option has a value but `--all`, `--csv`, `--flops` and `--partial`
 abbrev pub has_value : Flag → Bool
 has_value All = false
 has_value Csv = false
 has_value Flops = false
+has_value Partial = false
 has_value _ = true
 
 -- whether two budgets, or options, are the same
@@ -58,6 +62,8 @@ is_flag Scope Scope = true
 is_flag Map Map = true
 is_flag Bits Bits = true
 is_flag From From = true
+is_flag To To = true
+is_flag Last Last = true
 is_flag Time Time = true
 is_flag Cycle Cycle = true
 is_flag Signature Signature = true
@@ -67,6 +73,7 @@ is_flag At At = true
 is_flag Depth Depth = true
 is_flag Flops Flops = true
 is_flag Step Step = true
+is_flag Partial Partial = true
 is_flag _ _ = false
 
 -- ---- the tables

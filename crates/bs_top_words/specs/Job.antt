@@ -106,13 +106,16 @@ wave_at _ = None
 abbrev pub wave_job : CommandLine → Option Job
 wave_job line = wave_at line.positions
 
--- a state: one or more characters 0 and 1
+-- a state: one or more characters 0, 1 and -, which says that a bit is not known
 abbrev pub is_bit : ℕ → Bool
 is_bit c = c == 48 || c == 49
 
+abbrev pub is_mark : ℕ → Bool
+is_mark c = is_bit c || c == 45
+
 abbrev pub is_state : List ℕ → Bool
 is_state [] = false
-is_state (c ∷ cs) = list_all is_bit (c ∷ cs)
+is_state (c ∷ cs) = list_all is_mark (c ∷ cs)
 
 -- where the word is a state and the number one of cycles
 abbrev pub reach_of : List ℕ → List ℕ → ℕ → Bool → Option ℕ → Option Job

@@ -2,7 +2,9 @@
 use Rattle.std.specs.Prelude.{◌≡◌, ◌≢◌, ◌⊎◌, ℕ, ◌≤◌, ◌<◌, ◌^◌, Bool, false, List, [], ◌∷◌, ◌++◌, codes, decimal, Option, Some, None, ◌↔◌}
 use Rattle.std.specs.List.{AllByRecursion, flat_map}
 use Rattle.std.specs.Option.{unwrap_or}
-use Rattle.bs_bits.specs.Text.{bits_text}
+use Rattle.bs_seen.specs.declared.seen.Seen.{Seen}
+use Rattle.bs_seen.specs.Seen.{IsSeen}
+use Rattle.bs_seen.specs.SeenText.{seen_text}
 use Rattle.bs_stim.specs.declared.limits.TheConstants.{MAX_RUNS, MAX_CYCLES}
 use Rattle.bs_top_words.specs.declared.limits.TheConstants.{DEFAULT_STEPS, DEFAULT_CANDIDATES, DEFAULT_CONFLICTS, MAX_BOUND}
 use Rattle.bs_top_words.specs.declared.options.BudgetKind.{BudgetKind}
@@ -110,11 +112,12 @@ pub record IsDump (words : List (List ℕ)) (job : DumpJob) : Type 0 where
 abbrev pub IsDemo : List (List ℕ) → ℕ → Type 0
 IsDemo words number = IsLine words (plain (decimal number ∷ [])) × (number < 2 ^ 64)
 
--- a state of one or more bits
+-- a state of one or more bits, known or not
 pub record IsStateWord (word : List ℕ) : Type 0 where
-  pub bits : List Bool
-  pub some : bits ≢ []
-  pub spelled : word ≡ bits_text bits
+  pub seen : Seen
+  pub some : seen.bits ≢ []
+  pub sound : IsSeen seen
+  pub spelled : word ≡ seen_text seen
 
 -- `reach`: a file name, a state and a number of cycles, and the budget of lemmas, which has its default where none is given
 pub record IsReach (words : List (List ℕ)) (job : ReachJob) : Type 0 where

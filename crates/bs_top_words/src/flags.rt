@@ -22,8 +22,12 @@ pub enum Flag {
     Map,
     /// A number of items.
     Bits,
-    /// The cycle at which a waveform begins.
+    /// The cycle at which a waveform begins, or the first state that is told.
     From,
+    /// The last state that is told.
+    To,
+    /// How many states before the end are told.
+    Last,
     /// A time of a simulation.
     Time,
     /// A cycle of a simulation.
@@ -42,6 +46,8 @@ pub enum Flag {
     Flops,
     /// The number of a step.
     Step,
+    /// Bits that are not known may be; it has no value.
+    Partial,
 }
 
 /// The name of a budget.
@@ -68,6 +74,8 @@ fn name_of(flag: Flag) -> &'static str
         Flag::Map => "--map",
         Flag::Bits => "--bits",
         Flag::From => "--from",
+        Flag::To => "--to",
+        Flag::Last => "--last",
         Flag::Time => "--time",
         Flag::Cycle => "--cycle",
         Flag::Signature => "--signature",
@@ -77,6 +85,7 @@ fn name_of(flag: Flag) -> &'static str
         Flag::Depth => "--depth",
         Flag::Flops => "--flops",
         Flag::Step => "--step",
+        Flag::Partial => "--partial",
     }
 }
 
@@ -85,7 +94,7 @@ pub fn has_value(flag: Flag) -> bool
     ensures { result ≡ has_value flag }
 {
     match flag {
-        Flag::All | Flag::Csv | Flag::Flops => false,
+        Flag::All | Flag::Csv | Flag::Flops | Flag::Partial => false,
         _ => true,
     }
 }
@@ -115,6 +124,8 @@ pub fn is_flag(one: Flag, other: Flag) -> bool
         (Flag::Map, Flag::Map) => true,
         (Flag::Bits, Flag::Bits) => true,
         (Flag::From, Flag::From) => true,
+        (Flag::To, Flag::To) => true,
+        (Flag::Last, Flag::Last) => true,
         (Flag::Time, Flag::Time) => true,
         (Flag::Cycle, Flag::Cycle) => true,
         (Flag::Signature, Flag::Signature) => true,
@@ -124,6 +135,7 @@ pub fn is_flag(one: Flag, other: Flag) -> bool
         (Flag::Depth, Flag::Depth) => true,
         (Flag::Flops, Flag::Flops) => true,
         (Flag::Step, Flag::Step) => true,
+        (Flag::Partial, Flag::Partial) => true,
         _ => false,
     }
 }

@@ -2,7 +2,7 @@
 ghost use Rattle.std.specs.Prelude.{◌≡◌, map, string_bytes, IfOk, MatchOption};
 ghost use Rattle.std.specs.List.{list_all};
 ghost use Rattle.bs_top_words.specs.Options.{number_between};
-ghost use Rattle.bs_top_words.specs.Job.{audit_job, command_job, demo_job, dump_job, has_budget, is_bit, is_state, job_of, reach_at, reach_job, reach_of, run_job, wave_job};
+ghost use Rattle.bs_top_words.specs.Job.{audit_job, command_job, demo_job, dump_job, has_budget, is_mark, is_state, job_of, reach_at, reach_job, reach_of, run_job, wave_job};
 ghost use Rattle.bs_top_words.specs.Shown.{line_in, shown_job};
 ghost use Rattle.bs_top_words.specs.Spelling.{IsJob, IsNoJob};
 
@@ -44,7 +44,7 @@ pub struct DumpJob<'a> {
     pub cycle: u64,
 }
 
-/// `reach`: the name of its file, and a state, a number of cycles and a budget. The state is one or more characters 0 and 1.
+/// `reach`: the name of its file, and a state, a number of cycles and a budget. The state is one or more characters 0, 1 and -.
 #[derive(Clone, Copy)]
 pub struct ReachJob<'a> {
     pub netlist: &'a str,
@@ -152,21 +152,21 @@ fn wave_job<'a>(line: &CommandLine<'a>) -> Option<Job<'a>>
     }
 }
 
-/// Whether all characters are 0 or 1.
-fn are_bits(word: &[u8]) -> bool
-    ensures { result ≡ list_all is_bit word.now }
+/// Whether all characters are 0, 1 or -.
+fn are_marks(word: &[u8]) -> bool
+    ensures { result ≡ list_all is_mark word.now }
 {
-    word.iter().all(|&c| c == b'0' || c == b'1')
+    word.iter().all(|&c| c == b'0' || c == b'1' || c == b'-')
 }
 
-/// Whether a word is a state: one or more characters 0 and 1.
+/// Whether a word is a state: one or more characters 0, 1 and -.
 fn is_state(word: &str) -> bool
     ensures { result ≡ is_state word.now }
 {
-    let bits = are_bits(word.as_bytes());
+    let marks = are_marks(word.as_bytes());
     match word.as_bytes() {
         [] => false,
-        _ => bits,
+        _ => marks,
     }
 }
 

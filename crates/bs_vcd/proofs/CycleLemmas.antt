@@ -1,5 +1,5 @@
 -- The lines of a cycle and of those before it.
-use Rattle.std.proofs.Common.{◌≡◌, ℕ, zero, suc, ◌<◌, ◌≤◌, ◌+◌, ◌-◌, Bool, true, false, cond, nat_lt, nat_le, List, [], ◌∷◌, ◌++◌, length, map, take, drop, slice_get, Option, Some, None, Result, Ok, Err, refl, arith, subst, ap, sym, ◌∙◌}
+use Rattle.std.proofs.Common.{◌≡◌, ℕ, zero, suc, ◌<◌, ◌≤◌, ◌+◌, ◌-◌, Bool, true, false, cond, nat_lt, nat_le, List, [], ◌∷◌, ◌++◌, length, map, take, drop, slice_get, slice_index_or, Option, Some, None, Result, Ok, Err, refl, arith, subst, ap, sym, ◌∙◌}
 use Rattle.std.specs.Borrow.{Bor}
 use Rattle.std.specs.List.{All, position}
 use Rattle.std.proofs.lemmas.Bool.{le-leb, le-ltb, lt-ltb, ltb-true, and_from}
@@ -16,11 +16,13 @@ use Rattle.bs_vcd_header.specs.Sources.{input_at, inputs_from, or_fault, scope_o
 use Rattle.bs_vcd_header.specs.Tokens.{tokens_from}
 use Rattle.bs_vcd.specs.declared.cycles.When.{When}
 use Rattle.bs_vcd.specs.declared.sampling.SampledLines.{SampledLines}
+use Rattle.bs_vcd.specs.declared.sampling.Unknowns.{Unknowns}
+use Rattle.bs_vcd.specs.declared.sampling.Unknowns.TheVariants.{Refused, Low, Marked}
 use Rattle.bs_vcd.specs.History.{History, history_of}
 use Rattle.bs_vcd.specs.Levels.{Known, is_bit, is_unknown, known_by, level}
-use Rattle.bs_vcd.specs.Sampled.{SamplingRequest, Cut, is_within, line_at, line_or, lines_asked, numbered_lines, stops_of, timed_lines, wanted, or_fault as or_end}
+use Rattle.bs_vcd.specs.Sampled.{SamplingRequest, Cut, asked_line, is_within, line_by, line_or, lines_asked, numbered_lines, stops_of, timed_lines, unknowns_of, or_fault as or_end}
 use Rattle.bs_vcd.specs.Stimulus.{ClockAndInputs, sampling_of}
-use Rattle.bs_vcd.specs.Cycles.{begin_in, cycle_ends, cycle_in, is_late, states_at, states_in, states_of, states_when, window, window_of}
+use Rattle.bs_vcd.specs.Cycles.{begin_in, cycle_ends, cycle_in, is_late, states_at, states_by, states_of, states_when, window, window_of}
 
 abbrev Lines : Type 0
 Lines = List (List Bool)
@@ -38,6 +40,10 @@ between_more lines own line first i le e is =
     ∙ (sym (drop-append-le first (take i lines) (line ∷ []) (omega (arith, le, within, length-take-le i lines (omega (arith, within)))))
     ∙ (ap (λ (x : List Bool). drop first (take i lines ++ x ∷ [])) (sym (get_or_from_slice_get lines i line line is))
     ∙ ap (drop first) (sym (take_more lines i line within))))
+
+-- the first of some lines
+pub first_of : (lines : Lines) (line : List Bool) → slice_get lines 0 ≡ Some line → line ≡ slice_index_or lines 0 []
+first_of lines line e = sym (get_or_from_slice_get lines 0 line [] e)
 
 -- ---- the lines of a cycle
 
@@ -98,8 +104,10 @@ line_wide : (time : ℕ) (known : Known) (inputs : List BitSource) (o : Option �
 line_wide time known inputs (Some k) = gives_err (IsLong (length inputs)) _
 line_wide time known inputs None = gives_ok (IsLong (length inputs)) _ (length-map inputs (λ s. is_bit true (level known s)))
 
-line_at_wide : (inputs : List BitSource) (c : Cut) → Gives (IsLong (length inputs)) (line_at inputs c)
-line_at_wide inputs c = line_wide c.moment.time (known_by c.earlier) inputs (position (is_unknown (known_by c.earlier)) inputs)
+line_by_wide : (u : Unknowns) (time : ℕ) (known : Known) (inputs : List BitSource) → Gives (IsLong (length inputs)) (line_by u time known inputs)
+line_by_wide Refused time known inputs = line_wide time known inputs (position (is_unknown known) inputs)
+line_by_wide Low time known inputs = gives_ok (IsLong (length inputs)) _ (length-map inputs (λ s. is_bit true (level known s)))
+line_by_wide Marked time known inputs = gives_ok (IsLong (length inputs)) _ (length-map inputs (is_unknown known))
 
 -- lines from one number on up to another
 abbrev WideIn : ℕ → ℕ → ℕ → Lines → Type 0
@@ -109,9 +117,11 @@ WideIn width first behind lines = All (λ s. length s ≡ width) (drop first (ta
 record Within (a : SamplingRequest) (n first behind : ℕ) : Type 0 where
   is : (j : ℕ) → first ≤ j → j < behind → is_within a.span (n + j) ≡ true
 
-here_wide : (a : SamplingRequest) (n : ℕ) (c : Cut) → is_within a.span n ≡ true → Gives (IsLong (length a.inputs)) (line_at (wanted a n) c)
+here_wide : (a : SamplingRequest) (n : ℕ) (c : Cut) → is_within a.span n ≡ true → Gives (IsLong (length a.inputs)) (asked_line a n c)
 here_wide a n c e =
-    subst (λ (b : Bool). Gives (IsLong (length a.inputs)) (line_at (cond b a.inputs []) c)) (sym e) (line_at_wide a.inputs c)
+    let u : Unknowns = unknowns_of a n in
+    subst (λ (b : Bool). Gives (IsLong (length a.inputs)) (line_by u c.moment.time (known_by c.earlier) (cond b a.inputs []))) (sym e)
+    (line_by_wide u c.moment.time (known_by c.earlier) a.inputs)
 
 none_wide : (width first behind : ℕ) → WideIn width first behind []
 none_wide width zero zero = All-nil (λ (s : List Bool). length s ≡ width)
@@ -142,21 +152,21 @@ lines_wide : (a : SamplingRequest) (cuts : List Cut) (n first behind : ℕ) → 
 lines_wide a [] n first behind w = gives_ok (WideIn (length a.inputs) first behind) [] (none_wide (length a.inputs) first behind)
 lines_wide a (c ∷ cs) n first zero w =
     let P = WideIn (length a.inputs) first zero in
-    gives_then (λ _. Unit {0}) P (line_at (wanted a n) c) (later a n cs) (gives_any (line_at (wanted a n) c))
+    gives_then (λ _. Unit {0}) P (asked_line a n c) (later a n cs) (gives_any (asked_line a n c))
     (λ x u.
     gives_then (λ _. Unit {0}) P (numbered_lines a (n + 1) cs) (λ xs. Ok (x ∷ xs)) (gives_any (numbered_lines a (n + 1) cs))
     (λ xs v. gives_ok P (x ∷ xs) (up_to_none (length a.inputs) first (x ∷ xs))))
 lines_wide a (c ∷ cs) n zero (suc behind) w =
     let width : ℕ = length a.inputs in
     let here : is_within a.span n ≡ true = subst (λ (k : ℕ). is_within a.span k ≡ true) (omega arith) (w.is 0 (omega arith) (omega arith)) in
-    gives_then (IsLong width) (WideIn width zero (suc behind)) (line_at (wanted a n) c) (later a n cs) (here_wide a n c here)
+    gives_then (IsLong width) (WideIn width zero (suc behind)) (asked_line a n c) (later a n cs) (here_wide a n c here)
     (λ x one.
     gives_then (WideIn width zero behind) (WideIn width zero (suc behind)) (numbered_lines a (n + 1) cs) (λ xs. Ok (x ∷ xs))
     (lines_wide a cs (n + 1) zero behind (after_within a n behind w))
     (λ xs all. gives_ok (WideIn width zero (suc behind)) (x ∷ xs) (All-cons (λ (s : List Bool). length s ≡ width) x (take behind xs) one all)))
 lines_wide a (c ∷ cs) n (suc first) (suc behind) w =
     let width : ℕ = length a.inputs in
-    gives_then (λ _. Unit {0}) (WideIn width (suc first) (suc behind)) (line_at (wanted a n) c) (later a n cs) (gives_any (line_at (wanted a n) c))
+    gives_then (λ _. Unit {0}) (WideIn width (suc first) (suc behind)) (asked_line a n c) (later a n cs) (gives_any (asked_line a n c))
     (λ x u.
     gives_then (WideIn width first behind) (WideIn width (suc first) (suc behind)) (numbered_lines a (n + 1) cs) (λ xs. Ok (x ∷ xs))
     (lines_wide a cs (n + 1) first behind (next_within a n first behind w))
@@ -167,10 +177,10 @@ end_wide P None s p = gives_ok P s p
 end_wide P (Some fault) s p = gives_err P fault
 
 -- the lines of a cycle and of so many before it
-asked_wide : (s : ClockAndInputs) (h : History) (cycle back : ℕ) →
-    Gives (λ (t : SampledLines). WideIn (length s.inputs) (cycle - back) (cycle + 1) t.lines) (lines_asked (cycle_ends s cycle back) h)
-asked_wide s h cycle back =
-    let a : SamplingRequest = cycle_ends s cycle back in
+asked_wide : (u : Unknowns) (s : ClockAndInputs) (h : History) (cycle back : ℕ) →
+    Gives (λ (t : SampledLines). WideIn (length s.inputs) (cycle - back) (cycle + 1) t.lines) (lines_asked (cycle_ends u s cycle back) h)
+asked_wide u s h cycle back =
+    let a : SamplingRequest = cycle_ends u s cycle back in
     let P : Lines → Type 0 = WideIn (length s.inputs) (cycle - back) (cycle + 1) in
     let Q : SampledLines → Type 0 = λ (t : SampledLines). P t.lines in
     let cuts : List Cut = stops_of a [] 0 h in
@@ -199,13 +209,13 @@ window_wide width cycle back s all = by (nat_lt cycle (length s.lines)) refl
         there_wide width cycle back s (some, all) (is_late cycle back s)
     by false e = gives_err (AreStates width) (NoCycle (length s.lines - 1))
 
-when_wide : (s : ClockAndInputs) (h : History) (at : When) (back : ℕ) → Gives (AreStates (length s.inputs)) (states_when s h at back)
-when_wide s h at back =
+when_wide : (u : Unknowns) (s : ClockAndInputs) (h : History) (at : When) (back : ℕ) → Gives (AreStates (length s.inputs)) (states_when u s h at back)
+when_wide u s h at back =
     let R = AreStates (length s.inputs) in
-    gives_then (λ _. Unit {0}) R (cycle_in s.clock h at) (λ cycle. states_at s h back cycle) (gives_any (cycle_in s.clock h at))
-    (λ cycle u.
-    gives_then (λ (t : SampledLines). WideIn (length s.inputs) (cycle - back) (cycle + 1) t.lines) R (lines_asked (cycle_ends s cycle back) h)
-    (λ t. window cycle back t) (asked_wide s h cycle back)
+    gives_then (λ _. Unit {0}) R (cycle_in s.clock h at) (λ cycle. states_at u s h back cycle) (gives_any (cycle_in s.clock h at))
+    (λ cycle w.
+    gives_then (λ (t : SampledLines). WideIn (length s.inputs) (cycle - back) (cycle + 1) t.lines) R (lines_asked (cycle_ends u s cycle back) h)
+    (λ t. window cycle back t) (asked_wide u s h cycle back)
     (λ t all. window_wide (length s.inputs) cycle back t all))
 
 -- a source for each name
@@ -233,23 +243,23 @@ sampling_each d scope clock keys =
     gives_then (IsLong (length keys)) R (inputs_from 0 d path keys) _ (sources_each 0 d path keys)
     (λ inputs e. gives_ok R (record { clock = source; inputs = inputs }) e)))
 
-states_are : (text : List ℕ) (scope : Option (List ℕ)) (clock : List ℕ) (keys : List (List ℕ)) (at : When) (back : ℕ) →
-    Gives (AreStates (length keys)) (states_in text scope clock keys at back)
-states_are text scope clock keys at back =
+states_are : (u : Unknowns) (text : List ℕ) (scope : Option (List ℕ)) (clock : List ℕ) (keys : List (List ℕ)) (at : When) (back : ℕ) →
+    Gives (AreStates (length keys)) (states_by u text scope clock keys at back)
+states_are u text scope clock keys at back =
     let R = AreStates (length keys) in
-    gives_then (λ _. Unit {0}) R (header_of (tokens_from 1 text)) (λ h. states_of h scope clock keys at back) (gives_any (header_of (tokens_from 1 text)))
-    (λ h u.
-    gives_then (λ (s : ClockAndInputs). length s.inputs ≡ length keys) R (sampling_of h.declared scope clock keys) (λ s. states_when s (history_of h.rest) at back)
+    gives_then (λ _. Unit {0}) R (header_of (tokens_from 1 text)) (λ h. states_of u h scope clock keys at back) (gives_any (header_of (tokens_from 1 text)))
+    (λ h w.
+    gives_then (λ (s : ClockAndInputs). length s.inputs ≡ length keys) R (sampling_of h.declared scope clock keys) (λ s. states_when u s (history_of h.rest) at back)
     (sampling_each h.declared scope clock keys)
-    (λ s e. subst (λ (n : ℕ). Gives (AreStates n) (states_when s (history_of h.rest) at back)) e (when_wide s (history_of h.rest) at back)))
+    (λ s e. subst (λ (n : ℕ). Gives (AreStates n) (states_when u s (history_of h.rest) at back)) e (when_wide u s (history_of h.rest) at back)))
 
-pub states_some : (text : List ℕ) (scope : Option (List ℕ)) (clock : List ℕ) (keys : List (List ℕ)) (at : When) (back : ℕ) (states : List (List Bool)) →
-    states_in text scope clock keys at back ≡ Ok states → 0 < length states
-states_some text scope clock keys at back states e = ((states_are text scope clock keys at back).is states e).0
+pub states_some : (u : Unknowns) (text : List ℕ) (scope : Option (List ℕ)) (clock : List ℕ) (keys : List (List ℕ)) (at : When) (back : ℕ) (states : List (List Bool)) →
+    states_by u text scope clock keys at back ≡ Ok states → 0 < length states
+states_some u text scope clock keys at back states e = ((states_are u text scope clock keys at back).is states e).0
 
-pub states_wide : (text : List ℕ) (scope : Option (List ℕ)) (clock : List ℕ) (keys : List (Bor (List ℕ))) (at : When) (back : ℕ)
-    (states : List (List Bool)) → states_in text scope clock (map (λ key. key.now) keys) at back ≡ Ok states → All (λ s. length s ≡ length keys) states
-states_wide text scope clock keys at back states e =
+pub states_wide : (u : Unknowns) (text : List ℕ) (scope : Option (List ℕ)) (clock : List ℕ) (keys : List (Bor (List ℕ))) (at : When) (back : ℕ)
+    (states : List (List Bool)) → states_by u text scope clock (map (λ key. key.now) keys) at back ≡ Ok states → All (λ s. length s ≡ length keys) states
+states_wide u text scope clock keys at back states e =
     let shown : List (List ℕ) = map (λ key. key.now) keys in
     subst (λ (n : ℕ). All (λ s. length s ≡ n) states) (length-map keys (λ (key : Bor (List ℕ)). key.now))
-    ((states_are text scope clock shown at back).is states e).1
+    ((states_are u text scope clock shown at back).is states e).1

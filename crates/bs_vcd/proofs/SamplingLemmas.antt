@@ -11,7 +11,7 @@ use Rattle.bs_vcd_header.specs.Tokens.{VcdToken}
 use Rattle.bs_vcd.specs.declared.sampling.SampledLines.{SampledLines}
 use Rattle.bs_vcd.specs.History.{ValueChange, Moment, History, WordPlace, Plain, Value, Skip, Remark, WordEffect, Goes, Changes, Begins, Stops, begin_of, last_of, step, stepped, history_from, history_of, before, stopped, moment, time_if}
 use Rattle.bs_vcd.specs.Levels.{Known, known_by}
-use Rattle.bs_vcd.specs.Sampled.{SamplingRequest, Cut, all_edges, all_ok, cuts_from, is_edge, is_stop, is_until, line_at, line_of, lines_asked, numbered_lines, or_fault, rises, sampled, stops_of, tail_of, timed_lines, wanted}
+use Rattle.bs_vcd.specs.Sampled.{SamplingRequest, Cut, all_edges, all_ok, asked_line, cuts_from, is_edge, is_stop, is_until, line_at, line_by, lines_asked, numbered_lines, or_fault, rises, sampled, stops_of, tail_of, timed_lines, unknowns_of, wanted}
 use Rattle.bs_vcd.specs.Watching.{SamplingState, with_line, closed, lined, tailed, next_watch, moved, took, watched_from, nothing_watched}
 use Rattle.bs_vcd.proofs.LevelLemmas.{known_append}
 
@@ -67,7 +67,7 @@ ends_by : (a : SamplingRequest) (first : Option ℕ) (earlier : List ValueChange
     ≡ ((cond b (lined a now.time (known_by earlier) lines) (Ok lines)) >>= λ more. goes_on a first (earlier ++ now.changes) now.time more h)
 ends_by a first earlier now lines h false = refl
 ends_by a first earlier now lines h true =
-    line_first a (line_at (wanted a (length lines)) (cut earlier now)) (stops_of a (earlier ++ now.changes) now.time h) h.fault
+    line_first a (asked_line a (length lines) (cut earlier now)) (stops_of a (earlier ++ now.changes) now.time h) h.fault
     (spanned first now.time h.moments) lines
 
 or_assoc : (x y z : Option ℕ) → option_or x (option_or y z) ≡ option_or (option_or x y) z
@@ -102,7 +102,7 @@ tail_by : (a : SamplingRequest) (earlier : List ValueChange) (time : ℕ) (lines
     (cond b (lined a time (known_by earlier) lines) (Ok lines))
     ≡ (numbered_lines a (length lines) (cond b (cut earlier (moment time) ∷ []) []) >>= λ later. Ok (lines ++ later))
 tail_by a earlier time lines false = ap Ok (sym (append-nil lines))
-tail_by a earlier time lines true = tail_line lines (line_of time (known_by earlier) (wanted a (length lines)))
+tail_by a earlier time lines true = tail_line lines (line_by (unknowns_of a (length lines)) time (known_by earlier) (wanted a (length lines)))
 
 put_behind : (lines : List (List Bool)) (put : List (List Bool) → SampledLines) (r : Lines) →
     ((r >>= λ later. Ok (lines ++ later)) >>= λ all. Ok (put all)) ≡ (r >>= λ later. Ok (put (lines ++ later)))

@@ -1,6 +1,6 @@
 -- The states of a cycle and of those before it (docs/FORMATS.md, "Value changes (VCD)"). Each rising edge of the clock ends a cycle,
 -- and the end of the text ends the last one.
-use Rattle.std.specs.Prelude.{ℕ, ◌+◌, ◌-◌, nat_lt, ◌&&◌, Bool, true, false, List, [], length, drop, take, Option, Some, None, Result, Ok, Err, if◌then◌else◌}
+use Rattle.std.specs.Prelude.{ℕ, ◌+◌, ◌-◌, nat_lt, ◌&&◌, Bool, true, false, List, [], length, drop, take, slice_index_or, Option, Some, None, Result, Ok, Err, if◌then◌else◌}
 use Rattle.std.specs.Option.{unwrap_or}
 use Rattle.bs_bits.specs.Reading.{◌>>=◌}
 use Rattle.bs_vcd_header.specs.declared.fault.VcdFault.{VcdFault}
@@ -12,13 +12,16 @@ use Rattle.bs_vcd.specs.declared.cycles.When.{When}
 use Rattle.bs_vcd.specs.declared.cycles.When.TheVariants.{Time, Cycle}
 use Rattle.bs_vcd.specs.declared.sampling.LineSpan.{LineSpan}
 use Rattle.bs_vcd.specs.declared.sampling.SampledLines.{SampledLines}
+use Rattle.bs_vcd.specs.declared.sampling.Unknowns.{Unknowns}
+use Rattle.bs_vcd.specs.declared.sampling.Unknowns.TheVariants.{Refused, Low, Marked}
+use Rattle.bs_vcd.specs.declared.cycles.MarkedStates.{MarkedStates}
 use Rattle.bs_vcd.specs.History.{History, history_of}
 use Rattle.bs_vcd.specs.Sampled.{SamplingRequest, lines_asked}
 use Rattle.bs_vcd.specs.Stimulus.{ClockAndInputs, sampling_of}
 
 -- the edges up to a time
 abbrev pub edges_until : BitSource → ℕ → SamplingRequest
-edges_until clock time = record { clock = clock; inputs = []; span = None; until = Some time; tail = false }
+edges_until clock time = record { clock = clock; inputs = []; span = None; unknowns = Refused; until = Some time; tail = false }
 
 -- how many edges there are up to a time, which is not behind the last one
 abbrev pub edges_counted : ℕ → SampledLines → Result ℕ VcdFault
@@ -33,8 +36,9 @@ abbrev pub span : ℕ → ℕ → LineSpan
 span cycle back = record { first = cycle - back; last = cycle }
 
 -- the end of each cycle, and the bits of these sources at those of a cycle and so many before it
-abbrev pub cycle_ends : ClockAndInputs → ℕ → ℕ → SamplingRequest
-cycle_ends s cycle back = record { clock = s.clock; inputs = s.inputs; span = Some (span cycle back); until = None; tail = true }
+abbrev pub cycle_ends : Unknowns → ClockAndInputs → ℕ → ℕ → SamplingRequest
+cycle_ends u s cycle back =
+    record { clock = s.clock; inputs = s.inputs; span = Some (span cycle back); unknowns = u; until = None; tail = true }
 
 -- the time of the first change, or 0 where there is none
 abbrev pub begin_in : SampledLines → ℕ
@@ -54,20 +58,37 @@ window cycle back s =
     if nat_lt cycle (length s.lines) then (if is_late cycle back s then Err (Late (begin_in s)) else Ok (window_of cycle back s))
     else Err (NoCycle (length s.lines - 1))
 
-abbrev pub states_at : ClockAndInputs → History → ℕ → ℕ → Result (List (List Bool)) VcdFault
-states_at s h back cycle = lines_asked (cycle_ends s cycle back) h >>= λ sampled. window cycle back sampled
+abbrev pub states_at : Unknowns → ClockAndInputs → History → ℕ → ℕ → Result (List (List Bool)) VcdFault
+states_at u s h back cycle = lines_asked (cycle_ends u s cycle back) h >>= λ sampled. window cycle back sampled
 
-abbrev pub states_when : ClockAndInputs → History → When → ℕ → Result (List (List Bool)) VcdFault
-states_when s h at back = cycle_in s.clock h at >>= λ cycle. states_at s h back cycle
+abbrev pub states_when : Unknowns → ClockAndInputs → History → When → ℕ → Result (List (List Bool)) VcdFault
+states_when u s h at back = cycle_in s.clock h at >>= λ cycle. states_at u s h back cycle
 
-abbrev pub states_of : Header → Option (List ℕ) → List ℕ → List (List ℕ) → When → ℕ → Result (List (List Bool)) VcdFault
-states_of h scope clock keys at back = sampling_of h.declared scope clock keys >>= λ s. states_when s (history_of h.rest) at back
+abbrev pub states_of : Unknowns → Header → Option (List ℕ) → List ℕ → List (List ℕ) → When → ℕ → Result (List (List Bool)) VcdFault
+states_of u h scope clock keys at back = sampling_of h.declared scope clock keys >>= λ s. states_when u s (history_of h.rest) at back
 
 -- The bits of these names in a scope at the end of a cycle, and before them those of so many cycles before it, or of as many as there
--- are. Or the first fault: of the declarations, of the names, or of the value changes.
-abbrev pub states_in : List ℕ → Option (List ℕ) → List ℕ → List (List ℕ) → When → ℕ → Result (List (List Bool)) VcdFault
-states_in text scope clock keys at back = header_of (tokens_from 1 text) >>= λ h. states_of h scope clock keys at back
+-- are. Or the first fault: of the declarations, of the names, or of the value changes. What the last of them are where some bits are not
+-- known is asked for.
+abbrev pub states_by : Unknowns → List ℕ → Option (List ℕ) → List ℕ → List (List ℕ) → When → ℕ → Result (List (List Bool)) VcdFault
+states_by u text scope clock keys at back = header_of (tokens_from 1 text) >>= λ h. states_of u h scope clock keys at back
 
 -- the same, where so much is read of the declarations
-abbrev pub states_from : HeaderState → List VcdToken → Option (List ℕ) → List ℕ → List (List ℕ) → When → ℕ → Result (List (List Bool)) VcdFault
-states_from b tokens scope clock keys at back = header_from b tokens >>= λ h. states_of h scope clock keys at back
+abbrev pub states_from : Unknowns → HeaderState → List VcdToken → Option (List ℕ) → List ℕ → List (List ℕ) → When → ℕ →
+    Result (List (List Bool)) VcdFault
+states_from u b tokens scope clock keys at back = header_from b tokens >>= λ h. states_of u h scope clock keys at back
+
+-- the same, where each bit is to be known
+abbrev pub states_in : List ℕ → Option (List ℕ) → List ℕ → List (List ℕ) → When → ℕ → Result (List (List Bool)) VcdFault
+states_in text scope clock keys at back = states_by Refused text scope clock keys at back
+
+-- whether each bit at the end of a cycle is not known
+abbrev pub marks_in : List ℕ → Option (List ℕ) → List ℕ → List (List ℕ) → When → Result (List Bool) VcdFault
+marks_in text scope clock keys at = states_by Marked text scope clock keys at 0 >>= λ lines. Ok (slice_index_or lines 0 [])
+
+-- the same, where each bit before the last state is to be known: in the last state 0 stands for one that is not, and a mark for each
+abbrev pub marked_in : List ℕ → Option (List ℕ) → List ℕ → List (List ℕ) → When → ℕ → Result MarkedStates VcdFault
+marked_in text scope clock keys at back = do
+  states ← states_by Low text scope clock keys at back
+  marks ← marks_in text scope clock keys at
+  Ok record { states = states; marks = marks }

@@ -1,5 +1,5 @@
 -- The lines of a run: the inputs just before each rising edge of a clock (docs/FORMATS.md, "Value changes (VCD)").
-use Rattle.std.specs.Prelude.{ℕ, ◌+◌, nat_le, Bool, true, false, not, ◌&&◌, ◌||◌, List, [], ◌∷◌, ◌++◌, map, filter, Option, Some, None, Result, Ok, Err, if◌then◌else◌}
+use Rattle.std.specs.Prelude.{ℕ, ◌+◌, ◌==◌, nat_le, Bool, true, false, not, ◌&&◌, ◌||◌, List, [], ◌∷◌, ◌++◌, map, filter, Option, Some, None, Result, Ok, Err, if◌then◌else◌}
 use Rattle.std.specs.List.{position}
 use Rattle.bs_bits.specs.Reading.{◌>>=◌}
 use Rattle.bs_vcd_header.specs.declared.fault.VcdFault.{VcdFault}
@@ -7,6 +7,8 @@ use Rattle.bs_vcd_header.specs.declared.fault.VcdFault.TheVariants.{Unknown}
 use Rattle.bs_vcd_header.specs.declared.sources.BitSource.{BitSource}
 use Rattle.bs_vcd.specs.declared.sampling.LineSpan.{LineSpan}
 use Rattle.bs_vcd.specs.declared.sampling.SampledLines.{SampledLines}
+use Rattle.bs_vcd.specs.declared.sampling.Unknowns.{Unknowns}
+use Rattle.bs_vcd.specs.declared.sampling.Unknowns.TheVariants.{Refused, Low, Marked}
 use Rattle.bs_vcd.specs.declared.sampling.SamplingRequest.{SamplingRequest as CodeSamplingRequest}
 use Rattle.bs_vcd.specs.History.{ValueChange, Moment, History, begin_of, last_of}
 use Rattle.bs_vcd.specs.Levels.{Known, known_by, level, is_bit, is_given, is_unknown}
@@ -67,17 +69,19 @@ sampled clock inputs h = lines_of clock inputs [] h.moments >>= λ lines. or_fau
 
 -- ---- the same of some edges
 
--- The edges of a clock, up to a time, where one is given, and the end of the text, where that is asked for; and the sources whose bits
--- stand in the lines of a span, or in all.
+-- The edges of a clock, up to a time, where one is given, and the end of the text, where that is asked for; the sources whose bits
+-- stand in the lines of a span, or in all; and what the last line of the span is where some bits are not known.
 pub record SamplingRequest : Type 0 where
   pub clock : BitSource
   pub inputs : List BitSource
   pub span : Option LineSpan
+  pub unknowns : Unknowns
   pub until : Option ℕ
   pub tail : Bool
 
 abbrev pub asked_in : CodeSamplingRequest → SamplingRequest
-asked_in a = record { clock = a.clock; inputs = a.inputs.now; span = a.span; until = a.until; tail = a.tail }
+asked_in a =
+    record { clock = a.clock; inputs = a.inputs.now; span = a.span; unknowns = a.unknowns; until = a.until; tail = a.tail }
 
 -- the number of a line lies in a span
 abbrev pub is_within : Option LineSpan → ℕ → Bool
@@ -92,6 +96,25 @@ is_until (Some until) time = nat_le time until
 -- the sources whose bits stand in the line with this number; a line outside the span has none
 abbrev pub wanted : SamplingRequest → ℕ → List BitSource
 wanted a n = if is_within a.span n then a.inputs else []
+
+-- a line is the last one of a span
+abbrev pub is_last : Option LineSpan → ℕ → Bool
+is_last None n = false
+is_last (Some s) n = n == s.last
+
+-- what the line with this number is where some bits are not known
+abbrev pub unknowns_of : SamplingRequest → ℕ → Unknowns
+unknowns_of a n = if is_last a.span n then a.unknowns else Refused
+
+-- the line of some sources: the bit of each, or the first that is not known; with 0 for each that is not known; or whether each is not known
+abbrev pub line_by : Unknowns → ℕ → Known → List BitSource → Result (List Bool) VcdFault
+line_by Refused time known inputs = line_of time known inputs
+line_by Low time known inputs = Ok (map (λ s. is_bit true (level known s)) inputs)
+line_by Marked time known inputs = Ok (map (is_unknown known) inputs)
+
+-- the line with this number, just before a moment
+abbrev pub asked_line : SamplingRequest → ℕ → Cut → Result (List Bool) VcdFault
+asked_line a n cut = line_by (unknowns_of a n) cut.moment.time (known_by cut.earlier) (wanted a n)
 
 -- an edge that is asked for
 abbrev pub is_stop : SamplingRequest → Cut → Bool
@@ -113,7 +136,7 @@ stops_of a earlier time h = filter (is_stop a) (cuts_from earlier h.moments) ++ 
 -- the lines of these, the first of which has this number
 abbrev pub numbered_lines : SamplingRequest → ℕ → List Cut → Result (List (List Bool)) VcdFault
 numbered_lines a n [] = Ok []
-numbered_lines a n (cut ∷ cuts) = line_at (wanted a n) cut >>= λ x. numbered_lines a (n + 1) cuts >>= λ xs. Ok (x ∷ xs)
+numbered_lines a n (cut ∷ cuts) = asked_line a n cut >>= λ x. numbered_lines a (n + 1) cuts >>= λ xs. Ok (x ∷ xs)
 
 -- The lines that are asked for, in order; or the first fault in the order of the text.
 abbrev pub lines_asked : SamplingRequest → History → Result SampledLines VcdFault
@@ -121,4 +144,4 @@ lines_asked a h = numbered_lines a 0 (stops_of a [] 0 h) >>= λ lines. or_fault 
 
 -- all edges of a clock, and the bits of these sources in each line
 abbrev pub all_edges : BitSource → List BitSource → SamplingRequest
-all_edges clock inputs = record { clock = clock; inputs = inputs; span = None; until = None; tail = false }
+all_edges clock inputs = record { clock = clock; inputs = inputs; span = None; unknowns = Refused; until = None; tail = false }

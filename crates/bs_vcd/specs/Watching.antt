@@ -9,7 +9,7 @@ use Rattle.bs_vcd.specs.declared.sampling.SamplingState.{SamplingState as CodeSa
 use Rattle.bs_vcd_header.specs.Tokens.{VcdToken}
 use Rattle.bs_vcd.specs.History.{ValueChange, WordPlace, Plain, Value, Skip, Remark, WordEffect, Goes, Changes, Begins, Stops, change_in, step}
 use Rattle.bs_vcd.specs.Levels.{Known, latest, known_in}
-use Rattle.bs_vcd.specs.Sampled.{SamplingRequest, is_until, rises, line_of, wanted}
+use Rattle.bs_vcd.specs.Sampled.{SamplingRequest, is_until, line_by, rises, unknowns_of, wanted}
 
 -- the time of the moment under way, that of the first change so far, what is known before the moment, its changes so far, and the lines
 -- so far
@@ -29,7 +29,8 @@ with_line lines line = lines ++ line ∷ []
 
 -- the lines with one more
 abbrev pub lined : SamplingRequest → ℕ → Known → List (List Bool) → Result (List (List Bool)) VcdFault
-lined a time known lines = line_of time known (wanted a (length lines)) >>= λ line. Ok (with_line lines line)
+lined a time known lines =
+    line_by (unknowns_of a (length lines)) time known (wanted a (length lines)) >>= λ line. Ok (with_line lines line)
 
 -- the lines at the end of a moment
 abbrev pub closed : SamplingRequest → ℕ → Known → List ValueChange → List (List Bool) → Result (List (List Bool)) VcdFault

@@ -1,16 +1,16 @@
 //! The states of a cycle and of those before it, out of the text of a VCD.
-ghost use Rattle.std.specs.Prelude.{◌≡◌, ◌<◌, ◌≤◌, ◌+◌, ◌^◌, ◌∷◌, ◌++◌, [], drop, length, map, option_map, take, All, IfOk, OnOk};
+ghost use Rattle.std.specs.Prelude.{◌≡◌, ◌<◌, ◌≤◌, ◌+◌, ◌^◌, ◌∷◌, ◌++◌, [], drop, length, map, option_map, slice_index_or, take, All, IfOk, OnOk};
 ghost use Rattle.bs_bits.specs.Reading.{Answers};
 ghost use Rattle.bs_vcd_header.specs.declared.fault.VcdFault.TheVariants.{NoMemory as Want};
 ghost use Rattle.bs_vcd_header.specs.Header.{begun_in, header_in};
 ghost use Rattle.bs_vcd_header.specs.Tokens.{tokens_from};
-ghost use Rattle.bs_vcd.specs.Cycles.{begin_in, cycle_ends, cycle_in, edges_counted, edges_until, is_late, states_at, states_from, states_in, states_of, states_when, window};
+ghost use Rattle.bs_vcd.specs.Cycles.{begin_in, cycle_ends, cycle_in, edges_counted, edges_until, is_late, marked_in, marks_in, states_at, states_by, states_from, states_in, states_of, states_when, window};
 ghost use Rattle.bs_vcd.specs.History.{history_of};
 ghost use Rattle.bs_vcd.specs.Sampled.{lines_asked};
 ghost use Rattle.bs_vcd.specs.Stimulus.{sampling_in};
 
 use crate::edges::{ClockAndInputs, sampling_of};
-use crate::sampling::{LineSpan, SampledLines, SamplingRequest, watch_lines};
+use crate::sampling::{LineSpan, SampledLines, SamplingRequest, Unknowns, watch_lines};
 use bs_bits::{Bits, List, NoMemory};
 use bs_vcd_header::{
     Behind, BitSource, HeaderDeclarations, HeaderState, VcdFault, nothing, take_words,
@@ -38,6 +38,7 @@ fn edges_until(
         clock,
         inputs: &[],
         span: None,
+        unknowns: Unknowns::Refused,
         until: Some(time),
         tail: false,
     };
@@ -73,13 +74,14 @@ fn cycle_in(alloc: Global, clock: BitSource, behind: Behind<'_>, at: When) -> Re
 /// The end of each cycle, with bits at those of a cycle and of so many before it.
 fn cycle_ends(
     alloc: Global,
+    unknowns: Unknowns,
     sampling: &ClockAndInputs,
     behind: Behind<'_>,
     back: u64,
     cycle: u64,
 ) -> Result<SampledLines, VcdFault>
     requires { behind.line + length behind.rest.now < 2 ^ 64 }
-    ensures { Answers Want (λ sampled. sampled) result (lines_asked (cycle_ends (sampling_in sampling.now) cycle back) (history_of (tokens_from behind.entry.line behind.entry.rest.now))) }
+    ensures { Answers Want (λ sampled. sampled) result (lines_asked (cycle_ends unknowns (sampling_in sampling.now) cycle back) (history_of (tokens_from behind.entry.line behind.entry.rest.now))) }
 {
     let asked = SamplingRequest {
         clock: sampling.clock,
@@ -88,6 +90,7 @@ fn cycle_ends(
             first: cycle.saturating_sub(back),
             last: cycle,
         }),
+        unknowns,
         until: None,
         tail: true,
     };
@@ -166,15 +169,16 @@ fn window(
 /// The states of a cycle and of so many before it.
 fn states_at(
     alloc: Global,
+    unknowns: Unknowns,
     sampling: &ClockAndInputs,
     behind: Behind<'_>,
     back: u64,
     cycle: u64,
 ) -> Result<List<Bits>, VcdFault>
     requires { behind.line + length behind.rest.now < 2 ^ 64 }
-    ensures { Answers Want (λ states. states) result (states_at (sampling_in sampling.now) (history_of (tokens_from behind.entry.line behind.entry.rest.now)) back cycle) }
+    ensures { Answers Want (λ states. states) result (states_at unknowns (sampling_in sampling.now) (history_of (tokens_from behind.entry.line behind.entry.rest.now)) back cycle) }
 {
-    let sampled = cycle_ends(alloc, sampling, behind, back, cycle)?;
+    let sampled = cycle_ends(alloc, unknowns, sampling, behind, back, cycle)?;
     let states = window(alloc, &sampled, back, cycle)?;
     Ok(states)
 }
@@ -182,22 +186,24 @@ fn states_at(
 /// The same by when it is.
 fn states_when(
     alloc: Global,
+    unknowns: Unknowns,
     sampling: &ClockAndInputs,
     behind: Behind<'_>,
     at: When,
     back: u64,
 ) -> Result<List<Bits>, VcdFault>
     requires { behind.line + length behind.rest.now < 2 ^ 64 }
-    ensures { Answers Want (λ states. states) result (states_when (sampling_in sampling.now) (history_of (tokens_from behind.entry.line behind.entry.rest.now)) at back) }
+    ensures { Answers Want (λ states. states) result (states_when unknowns (sampling_in sampling.now) (history_of (tokens_from behind.entry.line behind.entry.rest.now)) at back) }
 {
     let cycle = cycle_in(alloc, sampling.clock, behind, at)?;
-    let states = states_at(alloc, sampling, behind, back, cycle)?;
+    let states = states_at(alloc, unknowns, sampling, behind, back, cycle)?;
     Ok(states)
 }
 
 /// The same by what is declared and the text behind that.
 fn states_of(
     alloc: Global,
+    unknowns: Unknowns,
     declared: &HeaderDeclarations<'_>,
     behind: Behind<'_>,
     scope: Option<&[u8]>,
@@ -207,16 +213,17 @@ fn states_of(
     back: u64,
 ) -> Result<List<Bits>, VcdFault>
     requires { behind.line + length behind.rest.now < 2 ^ 64 }
-    ensures { Answers Want (λ states. states) result (states_of (header_in behind.entry declared.now) (option_map (λ path. path.now) scope.entry) clock.now (map (λ key. key.now) keys.now) at back) }
+    ensures { Answers Want (λ states. states) result (states_of unknowns (header_in behind.entry declared.now) (option_map (λ path. path.now) scope.entry) clock.now (map (λ key. key.now) keys.now) at back) }
 {
     let sampling = sampling_of(alloc, declared, scope, clock, keys)?;
-    let states = states_when(alloc, &sampling, behind, at, back)?;
+    let states = states_when(alloc, unknowns, &sampling, behind, at, back)?;
     Ok(states)
 }
 
 /// The same, where so much is read of the declarations.
 fn states_from<'a>(
     alloc: Global,
+    unknowns: Unknowns,
     text: &'a [u8],
     scope: Option<&[u8]>,
     clock: &[u8],
@@ -226,16 +233,27 @@ fn states_from<'a>(
     begun: &mut HeaderState<'a>,
 ) -> Result<List<Bits>, VcdFault>
     requires { length text.now < 2 ^ 63 }
-    ensures { Answers Want (λ states. states) result (states_from (begun_in begun.old) (tokens_from 1 text.now) (option_map (λ path. path.now) scope.entry) clock.now (map (λ key. key.now) keys.now) at back) }
+    ensures { Answers Want (λ states. states) result (states_from unknowns (begun_in begun.old) (tokens_from 1 text.now) (option_map (λ path. path.now) scope.entry) clock.now (map (λ key. key.now) keys.now) at back) }
 {
     let behind = take_words(alloc, 1, text, begun)?;
-    let states = states_of(alloc, &begun.declared, behind, scope, clock, keys, at, back)?;
+    let states = states_of(
+        alloc,
+        unknowns,
+        &begun.declared,
+        behind,
+        scope,
+        clock,
+        keys,
+        at,
+        back,
+    )?;
     Ok(states)
 }
 
 /// The states of a cycle and of so many before it, out of a text.
-fn read_states(
+fn taken_states(
     alloc: Global,
+    unknowns: Unknowns,
     text: &[u8],
     scope: Option<&[u8]>,
     clock: &[u8],
@@ -244,17 +262,39 @@ fn read_states(
     back: u64,
 ) -> Result<List<Bits>, VcdFault>
     requires { length text.now < 2 ^ 63 }
-    ensures { Answers Want (λ states. states) result (states_in text.now (option_map (λ path. path.now) scope.entry) clock.now (map (λ key. key.now) keys.now) at back) }
+    ensures { Answers Want (λ states. states) result (states_by unknowns text.now (option_map (λ path. path.now) scope.entry) clock.now (map (λ key. key.now) keys.now) at back) }
 {
     let mut begun = nothing(alloc)?;
-    let states = states_from(alloc, text, scope, clock, keys, at, back, &mut begun)?;
+    let states = states_from(
+        alloc, unknowns, text, scope, clock, keys, at, back, &mut begun,
+    )?;
+    Ok(states)
+}
+
+/// The same: there is one at least, and each has a bit for each name.
+#[tactic(auto, using(crate::proofs::CycleLemmas::states_some, crate::proofs::CycleLemmas::states_wide))]
+fn read_states(
+    alloc: Global,
+    unknowns: Unknowns,
+    text: &[u8],
+    scope: Option<&[u8]>,
+    clock: &[u8],
+    keys: &[&[u8]],
+    at: When,
+    back: u64,
+) -> Result<List<Bits>, VcdFault>
+    requires { length text.now < 2 ^ 63 }
+    ensures is { Answers Want (λ states. states) result (states_by unknowns text.now (option_map (λ path. path.now) scope.entry) clock.now (map (λ key. key.now) keys.now) at back) }
+    ensures some { IfOk result (λ states. 0 < length states) }
+    ensures wide { IfOk result (λ states. All (λ s. length s ≡ length keys.now) states) }
+{
+    let states = taken_states(alloc, unknowns, text, scope, clock, keys, at, back)?;
     Ok(states)
 }
 
 /// The bits of these names at the end of a cycle of the text of a VCD, and before them those of so many cycles before it, or of as many
 /// as there are where the values begin at time 0, in the scope with this path or else in that of the first variable that has the clock (docs/FORMATS.md, "Value changes
 /// (VCD)"). The names are keys. It takes one pass over the text, and for a time two.
-#[tactic(auto, using(crate::proofs::CycleLemmas::states_some, crate::proofs::CycleLemmas::states_wide))]
 pub fn states(
     alloc: Global,
     text: &[u8],
@@ -269,6 +309,59 @@ pub fn states(
     ensures some { IfOk result (λ states. 0 < length states) }
     ensures wide { IfOk result (λ states. All (λ s. length s ≡ length keys.now) states) }
 {
-    let states = read_states(alloc, text, scope, clock, keys, at, back)?;
-    Ok(states)
+    read_states(alloc, Unknowns::Refused, text, scope, clock, keys, at, back)
+}
+
+/// States, and whether each bit of the last one is not known.
+#[derive(Drop)]
+pub struct MarkedStates {
+    pub states: List<Bits>,
+    pub marks: Bits,
+}
+
+/// The first of some lines.
+#[tactic(auto, using(crate::proofs::CycleLemmas::first_of))]
+fn first_of(lines: &List<Bits>) -> &Bits
+    requires { 0 < length lines.now }
+    ensures { result.now ≡ slice_index_or lines.now 0 [] }
+{
+    lines.get(0)
+}
+
+/// Whether each bit at the end of a cycle is not known.
+fn marks(
+    alloc: Global,
+    text: &[u8],
+    scope: Option<&[u8]>,
+    clock: &[u8],
+    keys: &[&[u8]],
+    at: When,
+) -> Result<Bits, VcdFault>
+    requires { length text.now < 2 ^ 63 }
+    ensures { Answers Want (λ marks. marks) result (marks_in text.now (option_map (λ path. path.now) scope.entry) clock.now (map (λ key. key.now) keys.now) at) }
+{
+    let lines = read_states(alloc, Unknowns::Marked, text, scope, clock, keys, at, 0)?;
+    let marks = first_of(&lines).copy()?;
+    Ok(marks)
+}
+
+/// The same as `states`, where bits at the end of the cycle may be unknown: these are 0, and a mark for each bit says whether it is not
+/// known. It takes one pass more, and for a time two.
+pub fn marked_states(
+    alloc: Global,
+    text: &[u8],
+    scope: Option<&[u8]>,
+    clock: &[u8],
+    keys: &[&[u8]],
+    at: When,
+    back: u64,
+) -> Result<MarkedStates, VcdFault>
+    requires { length text.now < 2 ^ 63 }
+    ensures is { Answers Want (λ marked. marked) result (marked_in text.now (option_map (λ path. path.now) scope.entry) clock.now (map (λ key. key.now) keys.now) at back) }
+    ensures some { IfOk result (λ marked. 0 < length marked.states) }
+    ensures wide { IfOk result (λ marked. All (λ s. length s ≡ length keys.now) marked.states) }
+{
+    let states = read_states(alloc, Unknowns::Low, text, scope, clock, keys, at, back)?;
+    let marks = marks(alloc, text, scope, clock, keys, at)?;
+    Ok(MarkedStates { states, marks })
 }

@@ -113,6 +113,21 @@ pub fn high_bits(
     Ok(bits)
 }
 
+/// Which sources are not known.
+pub fn unknown_bits(
+    alloc: Global,
+    known: &HashMap<u64, &[u8]>,
+    inputs: &[BitSource],
+) -> Result<Bits, NoMemory>
+    ensures { IfOk result (λ bits. bits ≡ map (is_unknown (known_in known.now)) inputs.now) }
+{
+    let mut bits = Bits::new(alloc);
+    'inputs: for input in inputs {
+        bits.push(is_unknown(known, *input))?;
+    }
+    Ok(bits)
+}
+
 /// The bits of the last of these changes that has this code.
 #[tactic(auto, using(crate::proofs::LevelLemmas::latest_other, crate::proofs::LevelLemmas::latest_same))]
 fn latest<'a>(changes: &[ValueChange<'a>], id: u64) -> Option<&'a [u8]>

@@ -6,11 +6,11 @@ ghost use Rattle.bs_vcd_header.specs.declared.fault.VcdFault.TheVariants.{NoMemo
 ghost use Rattle.bs_vcd_header.specs.Tokens.{tokens_from};
 ghost use Rattle.bs_vcd.specs.History.{Plain, change_in, history_of, mode_in, step};
 ghost use Rattle.bs_vcd.specs.Levels.{known_in};
-ghost use Rattle.bs_vcd.specs.Sampled.{asked_in, is_until, is_within, line_of, lines_asked, rises, sampled, wanted};
+ghost use Rattle.bs_vcd.specs.Sampled.{asked_in, is_last, is_until, is_within, line_by, line_of, lines_asked, rises, sampled, unknowns_of, wanted};
 ghost use Rattle.bs_vcd.specs.Watching.{closed, ended, finished, known_after, lined, may_end, moved, nothing_watched, tailed, timed, took, watch_in, watched_from, with_change, with_times};
 
 use crate::changes::{ValueChange, WordEffect, WordPlace, word_step};
-use crate::levels::{apply, first_unknown, high_bits, rises};
+use crate::levels::{apply, first_unknown, high_bits, rises, unknown_bits};
 use bs_bits::{Bits, List, NoMemory};
 use bs_vcd_header::{BitSource, VcdFault, next_token};
 use std::alloc::Global;
@@ -23,13 +23,25 @@ pub struct LineSpan {
     pub last: u64,
 }
 
-/// The edges of a clock, up to a time, where one is given, and the end of the text, where that is asked for; and the sources whose
-/// bits stand in the lines of a span, or in all.
+/// What the last line of a span is where some of its bits are not known. Each line before it is refused there.
+#[derive(Clone, Copy, Debug, PartialEq, Eq)]
+pub enum Unknowns {
+    /// The line is refused.
+    Refused,
+    /// Each such bit is 0.
+    Low,
+    /// Each bit says whether it is not known.
+    Marked,
+}
+
+/// The edges of a clock, up to a time, where one is given, and the end of the text, where that is asked for; the sources whose
+/// bits stand in the lines of a span, or in all; and what the last line of the span is where some bits are not known.
 #[derive(Clone, Copy)]
 pub struct SamplingRequest<'a> {
     pub clock: BitSource,
     pub inputs: &'a [BitSource],
     pub span: Option<LineSpan>,
+    pub unknowns: Unknowns,
     pub until: Option<u64>,
     pub tail: bool,
 }
@@ -99,6 +111,27 @@ fn wanted<'a>(asked: &SamplingRequest<'a>, number: u64) -> &'a [BitSource]
     }
 }
 
+/// Whether a line is the last one of a span.
+fn is_last(span: Option<LineSpan>, number: u64) -> bool
+    ensures { result ≡ is_last span number }
+{
+    match span {
+        None => false,
+        Some(span) => number == span.last,
+    }
+}
+
+/// What the line with this number is where some bits are not known.
+fn unknowns_of(asked: &SamplingRequest<'_>, number: u64) -> Unknowns
+    ensures { result ≡ unknowns_of (asked_in asked.now) number }
+{
+    if is_last(asked.span, number) {
+        asked.unknowns
+    } else {
+        Unknowns::Refused
+    }
+}
+
 /// The bit of each input by what is known.
 fn line_of(
     alloc: Global,
@@ -117,6 +150,29 @@ fn line_of(
     }
 }
 
+/// The line of some inputs by what is known.
+fn line_by(
+    alloc: Global,
+    unknowns: Unknowns,
+    time: u64,
+    known: &HashMap<u64, &[u8]>,
+    inputs: &[BitSource],
+) -> Result<Bits, VcdFault>
+    ensures { Answers Want (λ bits. bits) result (line_by unknowns time (known_in known.now) inputs.now) }
+{
+    match unknowns {
+        Unknowns::Refused => line_of(alloc, time, known, inputs),
+        Unknowns::Low => {
+            let bits = high_bits(alloc, known, inputs)?;
+            Ok(bits)
+        }
+        Unknowns::Marked => {
+            let bits = unknown_bits(alloc, known, inputs)?;
+            Ok(bits)
+        }
+    }
+}
+
 /// Puts a line behind the lines.
 fn add_line(
     alloc: Global,
@@ -127,8 +183,9 @@ fn add_line(
 ) -> Result<(), VcdFault>
     ensures { Answers Want (λ _. lines.new) result (lined (asked_in asked.now) time (known_in known.now) lines.old) }
 {
-    let inputs = wanted(asked, lines.len() as u64);
-    let line = line_of(alloc, time, known, inputs)?;
+    let number = lines.len() as u64;
+    let inputs = wanted(asked, number);
+    let line = line_by(alloc, unknowns_of(asked, number), time, known, inputs)?;
     lines.push(line)?;
     Ok(())
 }
@@ -399,6 +456,7 @@ pub fn sample(
         clock,
         inputs,
         span: None,
+        unknowns: Unknowns::Refused,
         until: None,
         tail: false,
     };

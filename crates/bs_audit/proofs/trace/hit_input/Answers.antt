@@ -1,4 +1,4 @@
 use Rattle.bs_audit.proofs.trace.hit_input.Goals as goal
 
 pub returns-in-Some : goal.returns-in-Some
-returns-in-Some c = rw c.in-Some.is (rw c.slice.ensures at c.input_of.ensures)
+returns-in-Some c = rw c.in-Some.is c.input_for.ensures

@@ -1,9 +1,9 @@
 use Rattle.std.proofs.Common.{ap, refl}
 use Rattle.bs_inspect_words.specs.Asked.{request_in}
 use Rattle.bs_inspect_words.specs.Request.{Help, Version}
-use Rattle.bs_inspect.specs.Sources.{source_of, sources_of}
-use Rattle.bs_inspect.specs.Work.{to_help, to_version}
-use Rattle.bs_inspect.proofs.WorkLemmas.{noted_asked, diagnosed_alone}
+use Rattle.bs_inspect_plans.specs.Sources.{source_of, sources_of}
+use Rattle.bs_inspect_plans.specs.Work.{to_help, to_version}
+use Rattle.bs_inspect_plans.proofs.WorkLemmas.{noted_asked, diagnosed_alone}
 use Rattle.bs_inspect.proofs.asking.request_answer.Goals as goal
 
 pub returns-in-Help : goal.returns-in-Help
@@ -22,6 +22,9 @@ returns-in-Stimulus g c = noted_asked _ _ _ (ap request_in c.in-Stimulus.is) c.s
 
 pub returns-in-Wave : goal.returns-in-Wave
 returns-in-Wave g c = noted_asked _ _ _ (ap request_in c.in-Wave.is) c.wave.ensures
+
+pub returns-in-Gtkw : goal.returns-in-Gtkw
+returns-in-Gtkw g c = noted_asked _ _ _ (ap request_in c.in-Gtkw.is) c.gtkw.ensures
 
 pub returns-in-Signature : goal.returns-in-Signature
 returns-in-Signature g c = noted_asked _ _ _ (ap request_in c.in-Signature.is) c.signature.ensures
@@ -44,8 +47,14 @@ returns-in-TraceTable g c = noted_asked _ _ _ (ap request_in c.in-TraceTable.is)
 pub returns-in-StepsTable : goal.returns-in-StepsTable
 returns-in-StepsTable g c = noted_asked _ _ _ (ap request_in c.in-StepsTable.is) c.steps_table.ensures
 
+pub returns-in-Lists : goal.returns-in-Lists
+returns-in-Lists g c = noted_asked _ _ _ (ap request_in c.in-Lists.is) c.lists.ensures
+
 pub returns-in-Keys : goal.returns-in-Keys
 returns-in-Keys g c = noted_asked _ _ _ (ap request_in c.in-Keys.is) c.keys.ensures
+
+pub returns-in-Seen : goal.returns-in-Seen
+returns-in-Seen g c = noted_asked _ _ _ (ap request_in c.in-Seen.is) c.seen.ensures
 
 pub returns-in-Unscan : goal.returns-in-Unscan
 returns-in-Unscan g c = noted_asked _ _ _ (ap request_in c.in-Unscan.is) c.unscan.ensures
@@ -71,8 +80,14 @@ returns-in-ReachLrat g c = noted_asked _ _ _ (ap request_in c.in-ReachLrat.is) c
 pub returns-in-Novel : goal.returns-in-Novel
 returns-in-Novel g c = noted_asked _ _ _ (ap request_in c.in-Novel.is) c.novel.ensures
 
+pub returns-in-Near : goal.returns-in-Near
+returns-in-Near g c = noted_asked _ _ _ (ap request_in c.in-Near.is) c.near.ensures
+
 pub returns-in-Why : goal.returns-in-Why
 returns-in-Why g c = noted_asked _ _ _ (ap request_in c.in-Why.is) c.why.ensures
 
 pub returns-in-Check : goal.returns-in-Check
 returns-in-Check g c = noted_asked _ _ _ (ap request_in c.in-Check.is) c.check.ensures
+
+pub returns-in-Bench : goal.returns-in-Bench
+returns-in-Bench g c = noted_asked _ _ _ (ap request_in c.in-Bench.is) c.bench.ensures

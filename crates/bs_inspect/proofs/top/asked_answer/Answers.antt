@@ -2,7 +2,7 @@ use Rattle.std.proofs.Common.{map, ap, sym}
 use Rattle.std.specs.Prelude.{string_bytes}
 use Rattle.bs_top_answer.proofs.AnswerLemmas.{noted_words}
 use Rattle.bs_inspect_words.specs.Asked.{shown_request}
-use Rattle.bs_inspect.proofs.WorkLemmas.{noted_words_as}
+use Rattle.bs_inspect_plans.proofs.WorkLemmas.{noted_words_as}
 use Rattle.bs_inspect.proofs.top.asked_answer.Goals as goal
 
 pub returns-in-Some : goal.returns-in-Some

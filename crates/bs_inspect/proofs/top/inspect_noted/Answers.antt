@@ -2,8 +2,8 @@ use Rattle.bs_top_plan.proofs.Clauses.{answered, answered_as_told, call_by_call,
 use Rattle.bs_top_plan.proofs.Clauses.{refuses_first_of, words_only}
 use Rattle.bs_top_plan.proofs.Clauses.{calls_wanting}
 use Rattle.bs_top_answer.proofs.AnswerLemmas.{call_noted}
-use Rattle.bs_inspect.specs.Work.{plan_of}
-use Rattle.bs_inspect.proofs.WorkLemmas.{is_work}
+use Rattle.bs_inspect_plans.specs.Work.{plan_of}
+use Rattle.bs_inspect_plans.proofs.WorkLemmas.{is_work}
 use Rattle.bs_inspect.proofs.top.inspect_noted.Goals as goal
 
 pub returns-in-Ok-clause-answered : goal.returns-in-Ok-clause-answered

@@ -2,7 +2,7 @@ use Rattle.std.proofs.Common.{map}
 use Rattle.std.specs.Prelude.{string_bytes}
 use Rattle.bs_top_answer.proofs.AnswerLemmas.{noted_nothing}
 use Rattle.bs_inspect_words.specs.Request.{request_of}
-use Rattle.bs_inspect.proofs.WorkLemmas.{noted_words_as}
+use Rattle.bs_inspect_plans.proofs.WorkLemmas.{noted_words_as}
 use Rattle.bs_inspect.proofs.top.prepare.Goals as goal
 
 pub returns-in-Ok : goal.returns-in-Ok

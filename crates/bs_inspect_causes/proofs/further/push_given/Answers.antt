@@ -6,5 +6,5 @@ push_fact-requires c = given_there c.args.account.now.block.given c.slice-fact-i
 
 pub given-preserved : goal.given-preserved
 given-preserved c =
-    asks_more c.args.drivers.now c.args.account.now c.args.facts.now.items c.given.facts.items c.push_fact.new.facts.items c.given.invariant
+    asks_more c.args.basis.now.drivers.now c.args.account.now c.args.facts.now.items c.given.facts.items c.push_fact.new.facts.items c.given.invariant
     c.in_ok-push_fact.ensures

@@ -8,9 +8,9 @@ account_by-requires c = c.in_ok-block.ensures.is
 
 pub returns : goal.returns
 returns c =
-    let m = c.args.scene.now.moments.now in
+    let m = c.args.basis.now.scene.now.moments.now in
     IfOk-weaker c.account_by.result (λ a. IsAccountBy m c.in_ok-block.block c.args.layer a) (λ a. IsUnitAccount m c.args.facts.now c.args.layer a)
     (λ a by.
-    unit_account m c.args.drivers.now c.args.at c.args.flop c.args.facts.now c.args.layer a c.in_ok-block.block c.requires.unit
+    unit_account m c.args.basis.now.drivers.now c.args.unit.at c.args.unit.flop c.args.facts.now c.args.layer a c.in_ok-block.block c.requires.unit
     c.in_ok-block.ensures.of_bits c.in_ok-block.ensures.ends by)
     c.account_by.ensures

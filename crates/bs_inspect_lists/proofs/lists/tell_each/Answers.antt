@@ -13,7 +13,7 @@ moments-init c = record {
   about = ap (λ (p : PreimageState). p.circuit) c.requires.preimage;
   chosen = ap (λ (p : PreimageState). p.choice) c.requires.preimage;
   calls = omega (arith, ap (λ (p : PreimageState). p.calls) c.requires.preimage);
-  so = tells_none (circuit c.args.net.now) c.args.choice.now (inputs_of c.args.runs.now) c.new-counts.result.items c.new-counts.ensures.items;
+  so = tells_none c.args.aim (circuit c.args.net.now) c.args.choice.now (inputs_of c.args.runs.now) c.new-counts.result.items c.new-counts.ensures.items;
 }
 
 pub moments-preserved : goal.moments-preserved
@@ -23,8 +23,8 @@ moments-preserved c = record {
   chosen = c.in_ok-one.ensures.choice ∙ c.moments.invariant.chosen;
   calls = omega (arith, c.in_ok-one.ensures.calls, c.moments.invariant.calls);
   so =
-      tells_more (circuit c.args.net.now) c.args.choice.now (inputs_of c.args.runs.now) c.moments.counts.items c.push.new.self.items c.in_ok-one.one
+      tells_more c.args.aim (circuit c.args.net.now) c.args.choice.now (inputs_of c.args.runs.now) c.moments.counts.items c.push.new.self.items c.in_ok-one.one
       c.moment_taken-moment.result c.moments.spent c.weight_of-spent.result c.room_of-room.result c.moments.k c.moments.invariant.so
       c.in_ok-one.ensures.counts c.in_ok-one.ensures.moment c.moment_taken-moment.ensures.is c.weight_of-spent.ensures.weight
-      (omega (arith, c.if-spent-room.false)) (c.room_of-room.ensures.room ∙ ap room_of c.width.ensures) c.in_ok-push.ensures.items;
+      (omega (arith, c.if-spent-room.false)) (c.room_of-room.ensures.room ∙ ap (room_of c.args.aim) c.width.ensures) c.in_ok-push.ensures.items;
 }

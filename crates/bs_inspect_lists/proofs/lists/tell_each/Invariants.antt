@@ -10,5 +10,5 @@ invariant-moments l = record {
   about : l.preimage.circuit ≡ circuit l.net;
   chosen : l.preimage.choice ≡ l.choice;
   calls : l.preimage.calls ≤ l.k;
-  so : TellsSo (circuit l.net) l.choice (inputs_of l.runs) l.counts.items l.spent l.k;
+  so : TellsSo l.aim (circuit l.net) l.choice (inputs_of l.runs) l.counts.items l.spent l.k;
 }

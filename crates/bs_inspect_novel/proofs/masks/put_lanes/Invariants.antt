@@ -3,4 +3,4 @@ use Rattle.bs_inspect_novel.proofs.MaskLemmas.{MaskSo}
 use Rattle.bs_inspect_novel.proofs.masks.put_lanes.Given as goal
 
 abbrev pub invariant-lanes : goal.invariant-lanes
-invariant-lanes l = MaskSo (inputs_of l.runs) l.first l.number l.cycle l.k l.words.items
+invariant-lanes l = MaskSo (inputs_of l.run.runs.now) l.first l.run.number l.cycle l.k l.words.items

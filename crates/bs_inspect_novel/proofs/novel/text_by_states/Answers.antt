@@ -6,6 +6,6 @@ use Rattle.bs_inspect_novel.proofs.novel.text_by_states.Goals as goal
 
 pub returns : goal.returns
 returns c =
-    tells_of (circuit c.args.net.now) (inputs_of c.args.runs.now) c.args.number c.args.most c.args.signals.now c.in_ok-novelties.novelties.items
+    tells_of (circuit c.args.run.now.net.now) (inputs_of c.args.run.now.runs.now) c.args.run.now.number c.args.most c.args.signals.now c.in_ok-novelties.novelties.items
     c.in_ok-ordered.ordered.items c.first_of-first.result.now c.in_ok-text.text.items c.in_ok-novelties.ensures c.in_ok-ordered.ensures.same
     c.in_ok-ordered.ensures.sorted (c.first_of-first.ensures ∙ ap (take c.args.most) c.as_slice.ensures.value) c.in_ok-text.ensures

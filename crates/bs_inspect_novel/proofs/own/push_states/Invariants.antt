@@ -6,9 +6,9 @@ use Rattle.bs_inspect_novel.proofs.own.push_states.Given as goal
 
 abbrev pub invariant-cycles : goal.invariant-cycles
 invariant-cycles l = record {
-  machine : l.pass.circuit ≡ circuit l.net;
-  runs : l.pass.runs ≡ inputs_of l.runs;
+  machine : l.pass.circuit ≡ circuit l.run.net.now;
+  runs : l.pass.runs ≡ inputs_of l.run.runs.now;
   behind : l.pass.cycle ≤ l.cycle;
   near : l.cycle ≤ l.pass.cycle + 1;
-  own : OwnSo (circuit l.net) (inputs_of l.runs) l.number l.cycle l.own;
+  own : OwnSo (circuit l.run.net.now) (inputs_of l.run.runs.now) l.run.number l.cycle l.own;
 }

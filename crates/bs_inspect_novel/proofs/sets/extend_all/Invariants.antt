@@ -5,4 +5,4 @@ use Rattle.bs_inspect_novelty.specs.Known.{all_places}
 use Rattle.bs_inspect_novel.proofs.sets.extend_all.Given as goal
 
 abbrev pub invariant-signals : goal.invariant-signals
-invariant-signals l = AreSets (circuit l.net) (inputs_of l.runs) l.number (all_places l.signals) l.cycle l.i l.first 64 l.sets.items
+invariant-signals l = AreSets (circuit l.run.net.now) (inputs_of l.run.runs.now) l.run.number (all_places l.signals) l.column.cycle l.i l.column.first 64 l.sets.items

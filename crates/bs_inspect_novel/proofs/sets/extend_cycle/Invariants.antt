@@ -7,6 +7,6 @@ use Rattle.bs_inspect_novel.proofs.sets.extend_cycle.Given as goal
 
 abbrev pub invariant-words : goal.invariant-words
 invariant-words l = record {
-  size : length l.words.items ≡ length (circuit l.net).flops;
-  sets : AreSets (circuit l.net) (inputs_of l.runs) l.number (all_places l.signals) l.cycle 0 (l.word * 64) 0 l.sets.items;
+  size : length l.words.items ≡ length (circuit l.run.net.now).flops;
+  sets : AreSets (circuit l.run.net.now) (inputs_of l.run.runs.now) l.run.number (all_places l.signals) l.cycle 0 (l.word * 64) 0 l.sets.items;
 }

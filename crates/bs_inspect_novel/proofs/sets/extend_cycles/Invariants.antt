@@ -7,10 +7,10 @@ use Rattle.bs_inspect_novel.proofs.sets.extend_cycles.Given as goal
 
 abbrev pub invariant-cycles : goal.invariant-cycles
 invariant-cycles l = record {
-  machine : l.pass.circuit ≡ circuit l.net;
-  runs : l.pass.runs ≡ inputs_of l.runs;
+  machine : l.pass.circuit ≡ circuit l.run.net.now;
+  runs : l.pass.runs ≡ inputs_of l.run.runs.now;
   behind : l.pass.cycle ≤ l.cycle;
   near : l.cycle ≤ l.pass.cycle + 1;
-  size : length l.words.items ≡ length (circuit l.net).flops;
-  sets : AreSets (circuit l.net) (inputs_of l.runs) l.number (all_places l.signals) l.cycle 0 0 0 l.sets.items;
+  size : length l.words.items ≡ length (circuit l.run.net.now).flops;
+  sets : AreSets (circuit l.run.net.now) (inputs_of l.run.runs.now) l.run.number (all_places l.signals) l.cycle 0 0 0 l.sets.items;
 }

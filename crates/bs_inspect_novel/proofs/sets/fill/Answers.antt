@@ -5,5 +5,5 @@ use Rattle.bs_inspect_novel.proofs.sets.fill.Goals as goal
 
 pub extend_cycles-done-requires-clause-sets : goal.extend_cycles-done-requires-clause-sets
 extend_cycles-done-requires-clause-sets c =
-    sets_none (circuit c.args.net.now) (inputs_of c.args.runs.now) c.args.number c.args.signals.now c.push_empty.new.sets.items
+    sets_none (circuit c.args.run.now.net.now) (inputs_of c.args.run.now.runs.now) c.args.run.now.number c.args.signals.now c.push_empty.new.sets.items
     c.in_ok-push_empty.ensures.long c.in_ok-push_empty.ensures.empty

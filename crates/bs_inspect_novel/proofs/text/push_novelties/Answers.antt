@@ -8,6 +8,6 @@ use Rattle.bs_inspect_novel.proofs.text.push_novelties.Goals as goal
 
 pub novelties-preserved : goal.novelties-preserved
 novelties-preserved c =
-    lines_more (novelty_line (circuit c.args.net.now) (inputs_of c.args.runs.now) c.args.number (map signal_in c.args.signals.now)) c.args.novelties.now
+    lines_more (novelty_line (circuit c.args.run.now.net.now) (inputs_of c.args.run.now.runs.now) c.args.run.now.number (map signal_in c.args.signals.now)) c.args.novelties.now
     c.novelties.novelty-index _ c.args.text.now.items c.novelties.text.items c.push_novelty.new.text.items c.novelties-test.true c.novelties.invariant
     c.in_ok-push_novelty.ensures

@@ -8,4 +8,4 @@ use Rattle.bs_inspect_novel.proofs.text.push_novelties.Given as goal
 
 abbrev pub invariant-novelties : goal.invariant-novelties
 invariant-novelties l = l.text.items ≡ l.initial.text.items ++
-    flat_map (novelty_line (circuit l.net) (inputs_of l.runs) l.number (map signal_in l.signals)) (take l.novelty-index l.novelties)
+    flat_map (novelty_line (circuit l.run.net.now) (inputs_of l.run.runs.now) l.run.number (map signal_in l.signals)) (take l.novelty-index l.novelties)

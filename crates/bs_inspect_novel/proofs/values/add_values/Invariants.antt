@@ -4,4 +4,4 @@ use Rattle.bs_inspect_novel.proofs.ValueLemmas.{SetSo}
 use Rattle.bs_inspect_novel.proofs.values.add_values.Given as goal
 
 abbrev pub invariant-values : goal.invariant-values
-invariant-values l = SetSo (circuit l.net) (inputs_of l.runs) l.number l.places l.initial.values l.counter l.values
+invariant-values l = SetSo (circuit l.run.net.now) (inputs_of l.run.runs.now) l.run.number l.places l.initial.values l.counter l.values

@@ -7,6 +7,7 @@ use Rattle.std.specs.declared.alloc.Global.{Global}
 use Rattle.bs_inspect_notes.specs.declared.name.Subject.TheVariants.{Flops}
 use Rattle.bs_top_plan.specs.declared.file.File.TheVariants as files
 use Rattle.bs_top_plan.proofs.TellingLemmas.{diagnosed_read, diagnosed_then}
+use Rattle.bs_vcd.specs.declared.cycles.MarkedStates.{MarkedStates}
 use Rattle.bs_inspect_values.specs.Saying.{names_noted}
 use Rattle.bs_inspect_values.specs.Simulated.{names_read}
 use Rattle.bs_inspect_values.specs.Dumped.{states_looked, states_of, taking_in}
@@ -17,8 +18,8 @@ use Rattle.bs_inspect_values.proofs.dumping.load_by_names.Goals as goal
 pub returns-in-Ok-clause-walks : goal.returns-in-Ok-clause-walks
 returns-in-Ok-clause-walks g c =
     let keys : List (List ℕ) = map (λ k. k.now) c.args.keys.now in
-    let plan : List (List ℕ) → Plan Case (List (List Bool)) = λ ns. states_of keys ns (taking_in c.args.taking) in
-    let looked : List (List ℕ) → Plan NoteCase (List (List Bool)) = λ ns. states_looked keys ns (taking_in c.args.taking) in
+    let plan : List (List ℕ) → Plan Case MarkedStates = λ ns. states_of keys ns (taking_in c.args.taking) in
+    let looked : List (List ℕ) → Plan NoteCase MarkedStates = λ ns. states_looked keys ns (taking_in c.args.taking) in
     let view : Vec (Bor (List ℕ)) Global → List (List ℕ) = λ v. map (λ n. n.now) v.items in
     diagnosed_then {view = view} {seen = view} plan looked
     (diagnosed_read {view = view} {seen = view} files.Map (names_read keys c.args.text.now) (names_noted Flops c.args.path.now keys c.args.text.now) (Ok c.in-Ok.names) refl c.in-Ok.ensures.words c.in-Ok.ensures.note)
@@ -33,8 +34,8 @@ returns-in-Ok-clause-wide g c =
 pub returns-in-Err-clause-walks : goal.returns-in-Err-clause-walks
 returns-in-Err-clause-walks g c =
     let keys : List (List ℕ) = map (λ k. k.now) c.args.keys.now in
-    let plan : List (List ℕ) → Plan Case (List (List Bool)) = λ ns. states_of keys ns (taking_in c.args.taking) in
-    let looked : List (List ℕ) → Plan NoteCase (List (List Bool)) = λ ns. states_looked keys ns (taking_in c.args.taking) in
+    let plan : List (List ℕ) → Plan Case MarkedStates = λ ns. states_of keys ns (taking_in c.args.taking) in
+    let looked : List (List ℕ) → Plan NoteCase MarkedStates = λ ns. states_looked keys ns (taking_in c.args.taking) in
     let view : Vec (Bor (List ℕ)) Global → List (List ℕ) = λ v. map (λ n. n.now) v.items in
     rw c.settle_diagnostic.ensures
     (diagnosed_refused view view files.Map (names_read keys c.args.text.now) (names_noted Flops c.args.path.now keys c.args.text.now) plan looked c.in-Err.unread

@@ -6,6 +6,7 @@ use Rattle.bs_top_files.specs.Refusals.{Case}
 use Rattle.std.proofs.lemmas.Result.{err_from_is_err_and}
 use Rattle.bs_top_plan.proofs.TellingLemmas.{diagnosed_fetch_stop}
 use Rattle.bs_inspect_report.specs.Keys.{flop_keys}
+use Rattle.bs_vcd.specs.declared.cycles.MarkedStates.{MarkedStates}
 use Rattle.bs_inspect_values.specs.Dumped.{states_step, states_step_looked, taking_in}
 use Rattle.bs_inspect_values.proofs.WalkLemmas.{diagnosed_fetch_then}
 use Rattle.bs_inspect_values.proofs.dumping.load_named.Goals as goal
@@ -13,14 +14,14 @@ use Rattle.bs_inspect_values.proofs.dumping.load_named.Goals as goal
 pub returns-in_err-bytes-clause-walks : goal.returns-in_err-bytes-clause-walks
 returns-in_err-bytes-clause-walks g c =
     let keys : List (List ℕ) = flop_keys c.args.net.now.raw in
-    let f : List ℕ → Plan Case (List (List Bool)) = λ t. states_step keys t (taking_in c.args.taking) in
-    let h : List ℕ → Plan NoteCase (List (List Bool)) = λ t. states_step_looked c.args.file.now keys t (taking_in c.args.taking) in
+    let f : List ℕ → Plan Case MarkedStates = λ t. states_step keys t (taking_in c.args.taking) in
+    let h : List ℕ → Plan NoteCase MarkedStates = λ t. states_step_looked c.args.file.now keys t (taking_in c.args.taking) in
     let p = err_from_is_err_and c.from_residual.result c.from_residual.ensures.1 in
     rw (p.1, p.2) (diagnosed_fetch_stop f h c.in_err-bytes.ensures)
 
 pub returns-clause-walks : goal.returns-clause-walks
 returns-clause-walks g c =
     let keys : List (List ℕ) = flop_keys c.args.net.now.raw in
-    let f : List ℕ → Plan Case (List (List Bool)) = λ t. states_step keys t (taking_in c.args.taking) in
-    let h : List ℕ → Plan NoteCase (List (List Bool)) = λ t. states_step_looked c.args.file.now keys t (taking_in c.args.taking) in
+    let f : List ℕ → Plan Case MarkedStates = λ t. states_step keys t (taking_in c.args.taking) in
+    let h : List ℕ → Plan NoteCase MarkedStates = λ t. states_step_looked c.args.file.now keys t (taking_in c.args.taking) in
     diagnosed_fetch_then f h c.deref.result.now c.deref.ensures.value c.in_ok-bytes.ensures c.load_renamed.ensures.walks

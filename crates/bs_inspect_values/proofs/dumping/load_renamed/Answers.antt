@@ -4,6 +4,7 @@ use Rattle.bs_top_plan.specs.Plan.{Plan}
 use Rattle.bs_top_files.specs.NoteCases.{NoteCase}
 use Rattle.bs_top_files.specs.Refusals.{Case}
 use Rattle.bs_inspect_report.specs.Keys.{flop_keys}
+use Rattle.bs_vcd.specs.declared.cycles.MarkedStates.{MarkedStates}
 use Rattle.bs_inspect_values.specs.Dumped.{states_step, states_step_looked, taking_in}
 use Rattle.bs_inspect_values.proofs.DumpedLemmas.{flops_wide}
 use Rattle.bs_inspect_values.proofs.WalkLemmas.{diagnosed_want, diagnosed_with}
@@ -11,8 +12,8 @@ use Rattle.bs_inspect_values.proofs.dumping.load_renamed.Goals as goal
 
 pub returns-in-Ok-clause-walks : goal.returns-in-Ok-clause-walks
 returns-in-Ok-clause-walks g c =
-    let plan : List (List ℕ) → Plan Case (List (List Bool)) = λ ks. states_step ks c.args.text.now (taking_in c.args.taking) in
-    let looked : List (List ℕ) → Plan NoteCase (List (List Bool)) = λ ks. states_step_looked c.args.path.now ks c.args.text.now (taking_in c.args.taking) in
+    let plan : List (List ℕ) → Plan Case MarkedStates = λ ks. states_step ks c.args.text.now (taking_in c.args.taking) in
+    let looked : List (List ℕ) → Plan NoteCase MarkedStates = λ ks. states_step_looked c.args.path.now ks c.args.text.now (taking_in c.args.taking) in
     diagnosed_with plan looked (map (λ k. k.now) c.as_slice-keys.result.now) (flop_keys c.args.net.now.raw)
     (ap (λ (ks : List (Bor (List ℕ))). map (λ k. k.now) ks) c.as_slice-keys.ensures.value ∙ c.in-Ok.ensures) c.load_by_names.ensures.walks
 

@@ -6,14 +6,15 @@ use Rattle.bs_top_files.specs.Refusals.{Case}
 use Rattle.bs_scan.specs.Choice.{Chosen}
 use Rattle.bs_inspect_report.specs.Keys.{flop_keys}
 use Rattle.bs_top_plan.proofs.TellingLemmas.{diagnosed_end, diagnosed_stop, diagnosed_then}
+use Rattle.bs_vcd.specs.declared.cycles.MarkedStates.{MarkedStates}
 use Rattle.bs_inspect_values.specs.Dumped.{Dumped, Taking, files_in, taken_looked, taken_of, taking_of}
 use Rattle.bs_inspect_values.proofs.WalkLemmas.{diagnosed_with}
 use Rattle.bs_inspect_values.proofs.dumping.load_signed.Goals as goal
 
 pub returns-in-Ok : goal.returns-in-Ok
 returns-in-Ok g c =
-    let f : List (List Bool) → Plan Case Dumped = λ states. end record { choice = Some c.args.choice; states = states } in
-    let h : List (List Bool) → Plan NoteCase Dumped = λ states. end record { choice = Some c.args.choice; states = states } in
+    let f : MarkedStates → Plan Case Dumped = λ taken. end record { choice = Some c.args.choice; taken = taken } in
+    let h : MarkedStates → Plan NoteCase Dumped = λ taken. end record { choice = Some c.args.choice; taken = taken } in
     let keys : List (List ℕ) = flop_keys c.args.net.now.raw in
     let names : Option (List ℕ) = option_map (λ s. s.now) c.args.files.names in
     diagnosed_then f h
@@ -22,8 +23,8 @@ returns-in-Ok g c =
 
 pub returns-in-Err : goal.returns-in-Err
 returns-in-Err g c =
-    let f : List (List Bool) → Plan Case Dumped = λ states. end record { choice = Some c.args.choice; states = states } in
-    let h : List (List Bool) → Plan NoteCase Dumped = λ states. end record { choice = Some c.args.choice; states = states } in
+    let f : MarkedStates → Plan Case Dumped = λ taken. end record { choice = Some c.args.choice; taken = taken } in
+    let h : MarkedStates → Plan NoteCase Dumped = λ taken. end record { choice = Some c.args.choice; taken = taken } in
     let keys : List (List ℕ) = flop_keys c.args.net.now.raw in
     let names : Option (List ℕ) = option_map (λ s. s.now) c.args.files.names in
     diagnosed_stop f h

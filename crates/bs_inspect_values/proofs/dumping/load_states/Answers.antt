@@ -5,6 +5,7 @@ use Rattle.std.specs.Option.{option_map}
 use Rattle.std.proofs.lemmas.Result.{err_from_is_err_and}
 use Rattle.bs_top_plan.specs.declared.file.File.TheVariants as files
 use Rattle.bs_top_plan.proofs.TellingLemmas.{diagnosed_fetch_stop, diagnosed_reads}
+use Rattle.bs_vcd.specs.declared.cycles.MarkedStates.{MarkedStates}
 use Rattle.bs_inspect_values.specs.Saying.{states_noted}
 use Rattle.bs_inspect_values.specs.Dumped.{states_read}
 use Rattle.bs_inspect_values.proofs.WalkLemmas.{settled_if}
@@ -21,17 +22,17 @@ returns-clause-walks g c =
     let names : List (List ℕ) = map (λ n. n.now) c.args.names.now in
     let scope : Option (List ℕ) = option_map (λ s. s.now) c.args.taking.scope in
     let clock : List ℕ = c.args.taking.clock.now in
-    diagnosed_reads (states_read keys names scope clock c.args.taking.at c.args.taking.back)
-    (states_noted c.args.taking.vcd.now keys names scope clock c.args.taking.at c.args.taking.back) _ _
+    diagnosed_reads (states_read keys names scope clock c.args.taking.at c.args.taking.back c.args.taking.partial)
+    (states_noted c.args.taking.vcd.now keys names scope clock c.args.taking.at c.args.taking.back c.args.taking.partial) _ _
     c.deref.ensures.value c.settle_diagnostic.ensures c.in_ok-bytes.ensures c.states_or_diagnostic.ensures.words c.states_or_diagnostic.ensures.note
 
 pub returns-clause-some : goal.returns-clause-some
 returns-clause-some g c =
-    subst (λ r. IfOk r (λ states. 0 < length states)) (sym c.settle_diagnostic.ensures)
-    (settled_if (λ (states : List (List Bool)). 0 < length states) files.Vcd c.states_or_diagnostic.result c.states_or_diagnostic.ensures.some)
+    subst (λ r. IfOk r (λ taken. 0 < length taken.states)) (sym c.settle_diagnostic.ensures)
+    (settled_if (λ (taken : MarkedStates). 0 < length taken.states) files.Vcd c.states_or_diagnostic.result c.states_or_diagnostic.ensures.some)
 
 pub returns-clause-wide : goal.returns-clause-wide
 returns-clause-wide g c =
-    subst (λ r. IfOk r (λ states. All (λ s. length s ≡ length c.args.names.now) states)) (sym c.settle_diagnostic.ensures)
-    (settled_if (λ (states : List (List Bool)). All (λ s. length s ≡ length c.args.names.now) states) files.Vcd c.states_or_diagnostic.result
+    subst (λ r. IfOk r (λ taken. All (λ s. length s ≡ length c.args.names.now) taken.states)) (sym c.settle_diagnostic.ensures)
+    (settled_if (λ (taken : MarkedStates). All (λ s. length s ≡ length c.args.names.now) taken.states) files.Vcd c.states_or_diagnostic.result
     c.states_or_diagnostic.ensures.wide)

@@ -37,7 +37,7 @@ record IsTold (chip : Recording) (dump : Dump) (budgets : Budgets) (r : Report) 
   lean : IsLean (basis_of chip.circuit chip.choice (map present_of r.steps)).problem (history_of r.log)
 
 told : (chip : Recording) (dump : Dump) (budgets : Budgets) (s : PreimageState) (report r : Report) → IsRecording chip →
-    DumpFits chip.circuit chip.choice dump → IsBudget budgets → IsOfWay dump budgets report.steps report.stop report →
+    DumpFits chip.circuit chip.choice dump → IsBudget budgets → IsOfWay (crash_of chip dump) budgets report.steps report.stop report →
     HasEnded (crash_of chip dump) budgets report.steps s report.stop → IsWithLog s report r → IsTold chip dump budgets r
 told chip dump budgets s report r recording fits asked way ended with_log =
     let of : IsReportOf (crash_of chip dump) budgets s r = report_is chip dump budgets s report r fits ended way with_log.alike with_log.lines in
@@ -48,7 +48,7 @@ told chip dump budgets s report r recording fits asked way ended with_log =
       valid = is_valid chip dump budgets s r recording fits of with_log.accepted;
       progress = report_goes_back (crash_of chip dump) budgets s r (crash_is chip dump recording fits) of good;
       bound = has_bound (crash_of chip dump) budgets s r of;
-      readable_is = readable chip dump budgets s r recording asked of with_log.texts with_log.few;
+      readable_is = readable chip dump budgets s r recording fits.seen asked of with_log.texts with_log.few;
       trace = one_state_more (crash_of chip dump) r good;
       lean = is_lean (crash_of chip dump) budgets s r of with_log.lean;
     }

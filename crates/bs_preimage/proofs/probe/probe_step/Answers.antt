@@ -24,7 +24,7 @@ probe_once-requires-clause-distinct c =
 pub probe_once-requires-clause-present : goal.probe_once-requires-clause-present
 probe_once-requires-clause-present c =
     next_width (circuit c.args.net.now) c.args.choice.now c.args.encoding.now c.requires.about.encoding c.encodings_are_tidy.ensures
-    (length c.args.asked.now.present.now) c.requires.present
+    (length c.args.asked.now.present.now.bits) c.requires.present
 
 pub probe_once-requires-clause-stored : goal.probe_once-requires-clause-stored
 probe_once-requires-clause-stored c =

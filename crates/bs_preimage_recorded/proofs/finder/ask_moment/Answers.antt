@@ -9,7 +9,7 @@ use Rattle.bs_preimage_recorded.proofs.finder.ask_moment.Goals as goal
 pub ask-requires-clause-state : goal.ask-requires-clause-state
 ask-requires-clause-state c =
     let r = c.args.chip.now.recording in
-    ap (λ (d : Dump). length d.state) c.in_ok-dump.ensures.dump
+    ap (λ (d : Dump). length d.state.bits) c.in_ok-dump.ensures.dump
     ∙ (length_state r.circuit (run_of r.runs c.args.run) c.args.cycle ∙ sym (ap (λ (p : Prober). length p.circuit.flops) c.requires.prober))
 
 pub returns-clause-said : goal.returns-clause-said
@@ -18,4 +18,4 @@ returns-clause-said c =
     c.args.query.now.older) (state_at c.args.chip.now.recording.circuit (run_of c.args.chip.now.recording.runs c.args.run) c.args.cycle)
     c.args.query.now.b c.in_ok-said.said) c.requires.prober
     (subst (λ (s : List Bool). IsProbed c.args.probe.now.circuit c.args.probe.now.choice c.args.query.now.present.now c.args.query.now.stored.now (option_map
-    (λ bits. bits.now) c.args.query.now.older) s c.args.query.now.b c.in_ok-said.said) (ap (λ (d : Dump). d.state) c.in_ok-dump.ensures.dump) c.in_ok-said.ensures.probed)
+    (λ bits. bits.now) c.args.query.now.older) s c.args.query.now.b c.in_ok-said.said) (ap (λ (d : Dump). d.state.bits) c.in_ok-dump.ensures.dump) c.in_ok-said.ensures.probed)

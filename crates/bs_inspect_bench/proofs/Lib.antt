@@ -1,0 +1,4 @@
+pub mod WayLemmas
+pub mod DriveLemmas
+pub mod TextLemmas
+pub mod LawLemmas

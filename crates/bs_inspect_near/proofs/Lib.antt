@@ -1,0 +1,10 @@
+pub mod CounterLemmas
+pub mod CountLemmas
+pub mod LaneLemmas
+pub mod SearchLemmas
+pub mod StateLemmas
+pub mod EachLemmas
+pub mod HintLemmas
+pub mod MomentLemmas
+pub mod TextLemmas
+pub mod NearLemmas

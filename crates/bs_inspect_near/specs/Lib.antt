@@ -1,0 +1,9 @@
+-- what public contracts rest on
+pub mod Counters
+pub mod Distance
+pub mod Nearest
+pub mod Hints
+pub mod Tells
+-- what inner functions promise each other
+pub mod Seen
+pub mod Told

@@ -1,0 +1,24 @@
+-- The state of a dump, by its first line alone, or the reason of the refusal (docs/FORMATS.md, "Texts of `backspace_inspect`").
+use Rattle.std.specs.Prelude.{ℕ, Bool, List, codes, slice_get, Result}
+use Rattle.bs_bits.specs.Lines.{lines_of}
+use Rattle.bs_scan.specs.DumpText.{bits_line}
+use Rattle.bs_scan.specs.declared.fault.DumpFault.{DumpFault}
+use Rattle.bs_note_files.specs.declared.dump.Widths.{Widths}
+use Rattle.bs_top_plan.specs.Plan.{Reason}
+use Rattle.bs_top_files.specs.NoteCases.{NoteCase}
+use Rattle.bs_top_files.specs.Noting.{dump_note_reason, noted_by}
+use Rattle.bs_top_files.specs.Refusals.{Case, dump_reason, with_reason}
+
+-- the bits of the first line, as many as there are flip-flops, or the fault of that line
+abbrev pub state_line : ℕ → List ℕ → Result (List Bool) DumpFault
+state_line width text = bits_line (codes "state ") 1 width (slice_get (lines_of text) 0)
+
+abbrev pub state_read : ℕ → List ℕ → Result (List Bool) (Reason Case)
+state_read width text = with_reason dump_reason (state_line width text)
+
+-- what a dump is due to have, where nothing but its state is read
+abbrev pub widths_for : ℕ → Widths
+widths_for width = record { flops = width; depth = 1; items = 0 }
+
+abbrev pub state_noted : ℕ → (path text : List ℕ) → Result (List Bool) (Reason NoteCase)
+state_noted width path text = noted_by (dump_note_reason (widths_for width) path text) (state_line width text)

@@ -1,0 +1,19 @@
+use Rattle.std.proofs.Common.{refl}
+use Rattle.bs_inspect_values.specs.Dumped.{dumped_looked, dumped_of}
+use Rattle.bs_inspect_plans.specs.Asked.{dump_files}
+use Rattle.bs_inspect_words.specs.Asked.{dump_in}
+use Rattle.bs_inspect_words.specs.Request.{Dump as Asked}
+use Rattle.bs_inspect_plans.specs.Sources.{source_of, sources_of}
+use Rattle.bs_inspect_plans.specs.Work.{to_dump}
+use Rattle.bs_inspect_plans.proofs.WorkLemmas.{walked_done, walked_stop}
+use Rattle.bs_inspect_netlist_requests.proofs.asking.dump.Goals as goal
+
+pub returns-in-Ok : goal.returns-in-Ok
+returns-in-Ok g c =
+    walked_done (dumped_of (dump_files (dump_in c.args.asked.now))) (dumped_looked (dump_files (dump_in c.args.asked.now))) to_dump
+    (source_of (sources_of (Asked (dump_in c.args.asked.now)))) _ _ c.silent.ensures refl c.in-Ok.ensures c.tell_dump.ensures
+
+pub returns-in-Err : goal.returns-in-Err
+returns-in-Err g c =
+    walked_stop (dumped_of (dump_files (dump_in c.args.asked.now))) (dumped_looked (dump_files (dump_in c.args.asked.now))) to_dump
+    _ (sources_of (Asked (dump_in c.args.asked.now))) _ c.dump_sources.ensures c.in-Err.ensures c.stop_at.ensures.reply c.stop_at.ensures.note

@@ -1,0 +1,21 @@
+//! The options behind a command of the companion, and their values.
+//!
+//! Modules: `given` (the words behind a command, parted by bs_top_words), `settings` (which options are given, and their values),
+//! `numbers` (the numbers that options take), `window` (which states of a trace). Used above: `fit`, `is_given`, `value_of` and
+//! `values_of` answer the definitions of their names (`specs/Settings`), and each reader of a number its own (`specs/Numbers`);
+//! `given_words` answers `read_all all_flags`. An option: a variant of `Flag` (bs_top_words), and a place in `all_flags` and in
+//! `given_words`.
+#![tactic(auto)]
+
+mod given;
+mod numbers;
+mod settings;
+mod window;
+
+pub use given::given_words;
+pub use numbers::{
+    DEFAULT_DEPTH, DEFAULT_DRAWN, MAX_DEPTH, MAX_DRAWN, MAX_LINES, MAX_STEP, drawn_most, items_in,
+    layers, length_of, most_lines, step_in,
+};
+pub use settings::{fit, is_given, value_of, values_of};
+pub use window::{TraceWindow, cycle_at, from_of, window_of};

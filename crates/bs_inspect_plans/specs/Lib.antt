@@ -1,0 +1,6 @@
+pub mod Usage
+pub mod Asked
+pub mod Work
+pub mod Sources
+pub mod Finishes
+pub mod Said

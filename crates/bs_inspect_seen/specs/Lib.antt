@@ -1,0 +1,5 @@
+pub mod Value
+pub mod Given
+pub mod State
+pub mod Readings
+pub mod Taken
