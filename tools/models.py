@@ -657,52 +657,72 @@ def first_lines(lines, most=16):
     return "".join(line + "\n" for line in lines[:most]) + (f"and {len(lines) - most} more\n" if len(lines) > most else "")
 
 
+def differences(groups, run, vcd):
+    """A line for each of these signals in which a run and a VCD differ, where the VCD has the bit."""
+    lines = []
+    for name, high, low, places in groups:
+        if any(vcd[place] in "01" and vcd[place] != run[place] for place in places):
+            seen = "".join(vcd[place] for place in places)
+            seen = signal_value(vcd, places) if set(seen) <= set("01") else "0b" + seen
+            lines.append(f"{rtl_name(name, high, low)} run {signal_value(run, places)} vcd {seen}")
+    return lines
+
+
+def given_text(chip, runs, number, given):
+    """What `check` writes of the data inputs of a run and those of its VCD before each edge."""
+    if any(set(row) - set("01") for row in given):
+        return f"run {number} inputs unknown\n"
+    inputs, groups = runs[number - 1], signals([chip.keys[net] for net in chip.inputs])
+    for cycle, pair in enumerate(zip(inputs, given)):
+        if lines := differences(groups, *pair):
+            like = next((f"run {number} inputs of run {at}\n" for at, run in enumerate(runs, 1) if list(run) == given), "")
+            return f"run {number} inputs differ {cycle}\n" + first_lines(lines) + like
+    return ""
+
+
 def check_text(chip, runs, vcds, clock, scope):
-    """What `check` writes of these runs, each beside the text of its VCD."""
+    """What `check` writes of these runs, each beside a VCD: the run's name, the name of the file and its text."""
     keys, text, missing = chip.flop_keys(), "", set()
     groups = signals(keys)
-    for number, (inputs, vcd) in enumerate(zip(runs, vcds), 1):
+    for number, (inputs, (name, file, vcd)) in enumerate(zip(runs, vcds), 1):
         values, states = Values(vcd), states_of(chip, inputs)
         ends = list(values.ends(scope, clock, keys))
         missing.update(place for place, one in enumerate(ends[0]) if one == "-")
-        other = lambda state, end, place: end[place] in "01" and end[place] != state[place]
-        same = lambda state, end: not any(other(state, end, place) for place in range(len(keys)))
-        count = next((at for at, pair in enumerate(zip(states, ends)) if not same(*pair)), min(len(states), len(ends)))
+        count = next((at for at, pair in enumerate(zip(states, ends)) if differences(groups, *pair)), min(len(states), len(ends)))
         differs = count < min(len(states), len(ends))
         unknown = sum(end.count("x") for end in ends[:count])
         text += f"run {number} " + (f"differ {count}" if differs else f"agree 0..{count - 1}")
-        text += f" flops {sum(one != '-' for one in ends[0])} unknown {unknown}\n"
+        text += f" flops {sum(one != '-' for one in ends[0])} unknown {unknown} name {name} vcd {file}\n"
         if len(inputs) != len(ends) - 1:
             text += f"run {number} cycles {len(inputs)} edges {len(ends) - 1}\n"
         if values.begin():
             text += f"run {number} begin {values.begin()}\n"
         if differs:
-            state, end, lines = states[count], ends[count], []
-            for name, high, low, places in groups:
-                if any(other(state, end, place) for place in places):
-                    seen = "".join(end[place] for place in places)
-                    seen = signal_value(end, places) if set(seen) <= set("01") else "0b" + seen
-                    lines.append(f"{rtl_name(name, high, low)} netlist {signal_value(state, places)} vcd {seen}")
-            text += first_lines(lines)
+            text += first_lines(differences(groups, states[count], ends[count]))
+        text += given_text(chip, runs, number, list(values.ends(scope, clock, [chip.keys[net] for net in chip.inputs]))[:-1])
     lacking = [f"missing {rtl_name(*group[:3])}" for group in groups if missing & set(group[3])]
     return text + first_lines(lacking)
 
 
 def near_text(chip, runs, state):
-    """What `near` writes of the state of a dump and the states of these runs."""
-    nearest = lambda other: min(
-        ((int(one, 2) ^ int(other, 2)).bit_count(), run, cycle) for run, states in enumerate(runs, 1) for cycle, one in enumerate(states))
-    count, run, cycle = nearest(state)
-    text = f"run {run} cycle {cycle} differ {count} of {len(state)}\n"
+    """What `near` writes of the state of a dump, with - for a bit that is not known, and the states of these runs."""
+    known = [at for at, bit in enumerate(state) if bit != "-"]
+    mask = sum(1 << len(state) - 1 - at for at in known)
+    number = lambda row: sum(1 << len(state) - 1 - at for at, bit in zip(known, row) if bit == "1")
+    nearest = lambda row: min(
+        (((int(one, 2) & mask) ^ row).bit_count(), run, cycle) for run, states in enumerate(runs, 1) for cycle, one in enumerate(states))
+    row = "".join(state[at] for at in known)
+    count, run, cycle = nearest(number(row))
+    text = f"run {run} cycle {cycle} differ {count} of {len(row)}\n"
     if count == 0:
         return text
     recorded = zip(chip.flop_keys(), runs[run - 1][cycle], state)
-    text += first_lines([f"{key} run {one} dump {other}" for key, one, other in recorded if one != other], 8)
+    text += first_lines([f"{key} run {one} dump {other}" for key, one, other in recorded if other not in ("-", one)], 8)
     text += "hint cell\n" * (count == 1)
     text += "hint held\n" * all(one == chip.reset_state() for states in runs for one in states)
-    inverse = state.translate(str.maketrans("01", "10"))
-    shifts = [state[1:] + "0", state[1:] + "1", "0" + state[:-1], "1" + state[:-1]]
+    inverse = row.translate(str.maketrans("01", "10"))
+    shifts = [row[1:] + "0", row[1:] + "1", "0" + row[:-1], "1" + row[:-1]]
     for word, likes in (("inverted", [inverse]), ("shifted", shifts)):
-        found = [moment for differ, *moment in map(nearest, likes) if differ == 0]
+        found = [moment for differ, *moment in map(nearest, map(number, likes)) if differ == 0]
         text += f"hint {word} run {found[0][0]} cycle {found[0][1]}\n" if found else ""
-    return text + "hint order\n" * (1 < count and len(state) <= 4 * count)
+    return text + "hint order\n" * (1 < count and len(row) <= 4 * count)

@@ -121,6 +121,12 @@ def said(*sentences):
     return "".join(f"note: {sentence}\n" for sentence in sentences)
 
 
+def lacking(keys, width):
+    """The note on an order of a scan chain that has no line for these flip-flops."""
+    named = " ".join(f"`{key}`" for key in keys[:8]) + " .." * (len(keys) > 8)
+    return said(f"the order has no line for {len(keys)} of {width} flip-flops: `-` stands for each of them", f"their keys: {named}")
+
+
 def shown(line):
     return "".join(chr(byte) if 32 <= byte <= 126 else f"\\x{byte:02x}" for byte in as_bytes(line)[:160])
 
@@ -396,6 +402,11 @@ HERE_NOT = (
     "what begins here cannot stand here",
     "is a `;` missing before it? is this RTL or SystemVerilog? synthesize it, as by examples/yosys/synth.sh (docs/FORMATS.md, Netlists)",
 )
+RTL = (
+    "this is a word of SystemVerilog RTL, and no cell",
+    "synthesize and map it, as examples/yosys/synth.sh does; in a netlist write wire in place of logic",
+)
+BEHAVIOUR = ("behavioural Verilog is left out", "synthesize it, and map it to gates and flip-flops, as examples/yosys/synth.sh does both")
 ENDS = (
     "the text ends before its module does",
     "is the netlist cut short, or `endmodule` missing? is it empty, as by a shell's `> FILE` of the file that is read?",
@@ -417,8 +428,7 @@ NETLISTS = [
     (NETLIST.replace("dff f1(ck", "\\not f1(ck"), "Unsupported {} Hierarchy", "\\not f1", (
         "an escaped name is no gate and no cell: `\\not` is another name than `not`",
         "map cells to gates and take the `\\` out of their names: examples/yosys/synth.sh does both")),
-    (NETLIST.replace("dff f0(", "always f0("), "Unsupported {} Behaviour", "always", (
-        "behavioural Verilog is left out", "synthesize it, and map it to gates and flip-flops, as examples/yosys/synth.sh does both")),
+    (NETLIST.replace("dff f0(", "always f0("), "Unsupported {} Behaviour", "always", BEHAVIOUR),
     (NETLIST.replace("dff f0(", "dff #(1) f0("), "Unsupported {} Parameter", "#", ("parameters are left out", "let synthesis settle them")),
     (NETLIST.replace("input ck, a;", "input ck, a; tri z;"), "Unsupported {} NetType", "tri z", (
         "net types other than wire, supply0 and supply1 are left out", "is this RTL? synthesize and map it, as examples/yosys/synth.sh does; else write wire")),
@@ -433,10 +443,14 @@ NETLISTS = [
         "a whole vector or a part of it is left out", "name one bit, as a[0]")),
     (NETLIST.replace("q1, q0)", "q1, 2'b01)"), "Unsupported {} Constant", "2'b01", ("a constant here is 1'b0 or 1'b1", "x, z and wider constants are left out")),
     (NETLIST.replace("q1, q0)", "q1, 1'bx)"), "Unsupported {} Constant", "1'bx", ("a constant here is 1'b0 or 1'b1", "x, z and wider constants are left out")),
-    (NETLIST.replace("input ck, a;", "input ck, a; logic r;"), "Unsupported {} Hierarchy", "logic r;", ("no cell of this name is known", CELL)),
+    (NETLIST.replace("input ck, a;", "input ck, a; logic r;"), "Unsupported {} Hierarchy", "logic r;", RTL),
+    (NETLIST.replace("input ck, a;", "input ck, a; typedef logic r;"), "Unsupported {} Hierarchy", "typedef", RTL),
+    (NETLIST.replace("input ck, a;", "input ck, a; enum {I, J} s;"), "Unsupported {} Hierarchy", "enum", RTL),
+    (NETLIST.replace("dff f0(ck", "logic_f f0(ck"), "Unsupported {} Hierarchy", "logic_f", ("no cell of this name is known", CELL)),
+    *[(NETLIST.replace("  dff f1", f"  {word} begin end\n  dff f1"), "Unsupported {} Hierarchy", word, BEHAVIOUR) for word in ("always_ff", "always_comb", "always_latch")],
     (NETLIST.replace("f1(ck, q1, q0);", "f1;"), "Syntax {}", ";\nendmodule", (
         "a `;` cannot stand here",
-        "is something missing before it, as an instance's terminals? is this SystemVerilog, as `logic r;`? synthesize it, as by examples/yosys/synth.sh")),
+        "is something missing before it, as an instance's terminals?")),
     (NETLIST.replace("  dff f1", "`define x\n  dff f1"), "Unsupported {} Directive", "`define", (
         "this compiler directive is left out", "take it out, or run a preprocessor first")),
     (NETLIST.replace("ck, a;", "ck, a"), "Syntax {}", "dff f0", HERE_NOT),
@@ -939,7 +953,10 @@ def proposals(it):
     predecessors = lambda run, cycle, items: 2 ** (3 - models.rank(items, lost))
     it.tried("backspace_inspect", ["signature", "busy.v", "small.t", "--bits", "4"], 0, models.signature_text(chip, states, 4, predecessors))
     inverse, shifted = states[2][-7].translate(str.maketrans("01", "10")), states[1][-11][1:] + "1"
-    for state in (states[1][len(states[1]) // 3], inverse, shifted, "".join(draws.choice("01") for _ in chip.flop_keys())):
+    drawn = "".join(draws.choice("01") for _ in chip.flop_keys())
+    # each third bit is not known
+    partly = lambda state: "".join("-" if at % 3 == 1 else bit for at, bit in enumerate(state))
+    for state in (states[1][len(states[1]) // 3], inverse, shifted, drawn, partly(states[0][-9]), partly(inverse), partly(drawn)):
         it.write("near.d", f"state {state}\n")
         it.tried("backspace_inspect", ["near", "busy.v", "small.t", "near.d"], 0, models.near_text(chip, states, state))
 
@@ -1296,35 +1313,43 @@ def beside(it, tell, text):
     net, stimulus, vcd = "ex/yosys/netlist.v", "ex/yosys/stimulus.txt", "ex/yosys/sim.vcd"
     chip, runs = models.Netlist(text[net]), models.runs_of(text[stimulus])
     scope = ["--scope", "tb.dut"]
-    tell(["check", net, stimulus, vcd, *scope], 0, "run 1 agree 0..89 flops 37 unknown 0\n")
-    tell(["check", net, stimulus, vcd, "--clock=ck", *scope], 0, "run 1 agree 0..89 flops 37 unknown 0\n")
+    agree = "run 1 agree 0..89 flops 37 unknown 0 name sim vcd"
+    tell(["check", net, stimulus, vcd, *scope], 0, f"{agree} {vcd}\n")
+    tell(["check", net, stimulus, vcd, "--clock=ck", *scope], 0, f"{agree} {vcd}\n")
     # other values at reset, and one of them unknown
+    other = "run 1 differ 0 flops 37 unknown 0 name sim vcd other.vcd\n"
     it.write("other.vcd", text[vcd].replace("\nb11 2\n", "\nb0 2\n", 1))
-    tell(["check", net, stimulus, "other.vcd", *scope], 11, "run 1 differ 0 flops 37 unknown 0\nseen[1:0] netlist 0x3 vcd 0x0\n")
+    tell(["check", net, stimulus, "other.vcd", *scope], 11, other + "seen[1:0] run 0x3 vcd 0x0\n")
     it.write("other.vcd", text[vcd].replace("\nb11 2\n", "\nb0x 2\n", 1))
-    tell(["check", net, stimulus, "other.vcd", *scope], 11, "run 1 differ 0 flops 37 unknown 0\nseen[1:0] netlist 0x3 vcd 0b0x\n")
+    tell(["check", net, stimulus, "other.vcd", *scope], 11, other + "seen[1:0] run 0x3 vcd 0b0x\n")
     # values that begin late: what stood before time 400 is given there
     head, changes = text[vcd].split("$enddefinitions $end\n")
     early, late = changes.split("#400\n")
     known = {words[-1]: line for line in early.splitlines() for words in [line.split() if line[0] in "bB" else [line[1:]]] if line[0] in "01xzbB"}
-    it.write("late.vcd", head + "$enddefinitions $end\n#400\n$dumpvars\n" + "".join(line + "\n" for line in known.values()) + "$end\n" + late)
-    moved = "phase[1:0] netlist 0x0 vcd 0x3\nshift[7:0] netlist 0x00 vcd 0x35\ntick[1:0] netlist 0x0 vcd 0x3\n"
-    tell(["check", net, stimulus, "late.vcd", *scope], 11, "run 1 differ 0 flops 37 unknown 0\nrun 1 cycles 89 edges 49\nrun 1 begin 400\n" + moved)
+    begun = head + "$enddefinitions $end\n#400\n$dumpvars\n" + "".join(line + "\n" for line in known.values()) + "$end\n" + late
+    it.write("late.vcd", begun)
+    moved = "phase[1:0] run 0x0 vcd 0x3\nshift[7:0] run 0x00 vcd 0x35\ntick[1:0] run 0x0 vcd 0x3\n"
+    wanted = f"run 1 differ 0 flops 37 unknown 0 name sim vcd late.vcd\nrun 1 cycles 89 edges 49\nrun 1 begin 400\n{moved}run 1 inputs differ 6\nline run 1 vcd 0\n"
+    tell(["check", net, stimulus, "late.vcd", *scope], 11, wanted)
     # inputs that are exchanged
-    it.write("crossed.txt", "run sim 89\n" + "".join(line[::-1] + "\n" for line in runs[0]) + "end\n")
-    tell(["check", net, "crossed.txt", vcd, *scope], 11, "run 1 differ 1 flops 37 unknown 0\nseen[1:0] netlist 0x2 vcd 0x3\n")
+    crossed = [line[::-1] for line in runs[0]]
+    it.write("crossed.txt", "run sim 89\n" + "".join(line + "\n" for line in crossed) + "end\n")
+    swapped = f"run 1 differ 1 flops 37 unknown 0 name sim vcd {vcd}\nseen[1:0] run 0x2 vcd 0x3\nrun 1 inputs differ 0\nline run 0 vcd 1\ntake run 1 vcd 0\n"
+    tell(["check", net, "crossed.txt", vcd, *scope], 11, swapped)
     # another netlist, whose names a file gives
     it.write("named.v", text[net].replace("count", "c0unt"))
-    tell(["check", "named.v", stimulus, vcd, *scope], 0, "run 1 agree 0..89 flops 35 unknown 0\nmissing c0unt[1:0]\n")
+    tell(["check", "named.v", stimulus, vcd, *scope], 0, f"run 1 agree 0..89 flops 35 unknown 0 name sim vcd {vcd}\nmissing c0unt[1:0]\n")
     it.write("named.txt", "c0unt[0] count[0]\nc0unt[1] count[1]\n")
-    tell(["check", "named.v", stimulus, vcd, *scope, "--map", "named.txt"], 0, "run 1 agree 0..89 flops 37 unknown 0\n")
+    tell(["check", "named.v", stimulus, vcd, *scope, "--map", "named.txt"], 0, f"{agree} {vcd}\n")
     # with the spelling of a netlist whose modules stay
     it.write("spelled.txt", "\\c0unt[0] count[0]\n[1]\\c0unt \\count[1]\n")
-    tell(["check", "named.v", stimulus, vcd, *scope, "--map", "spelled.txt"], 0, "run 1 agree 0..89 flops 37 unknown 0\n")
-    # several runs, and not as many VCDs
+    tell(["check", "named.v", stimulus, vcd, *scope, "--map", "spelled.txt"], 0, f"{agree} {vcd}\n")
+    # several runs, also where the VCD is another run's, and not as many VCDs
     it.write("twice.txt", text[stimulus] * 2)
-    wanted = models.check_text(chip, runs * 2, [text[vcd], "".join(open(f"{it.room}/late.vcd"))], "ck", "tb.dut")
+    wanted = models.check_text(chip, runs * 2, [("sim", vcd, text[vcd]), ("sim", "late.vcd", begun)], "ck", "tb.dut")
     tell(["check", net, "twice.txt", vcd, "late.vcd", *scope], 11, wanted)
+    it.write("both.txt", "".join(open(f"{it.room}/crossed.txt")) + text[stimulus])
+    tell(["check", net, "both.txt", vcd, vcd, *scope], 11, f"{swapped}run 1 inputs of run 2\n{agree.replace('run 1', 'run 2')} {vcd}\n")
     count = said("twice.txt: the stimulus has so many runs, each of which needs its VCD: 2; VCDs that are named: 1")
     tell(["check", net, "twice.txt", vcd, *scope], 16, "refused vcd Runs 2\n", count)
 
@@ -1469,8 +1494,8 @@ def companion_refusals(it):
     it.write("order.txt", "".join(key + "\n" for key in chip.flop_keys()[:-1]))
     code, out, note = it.run("backspace_inspect", ["unscan", net, "order.txt", "0" * len(chip.flops)])
     same("more bits than an order has lines", f"9 refused state Width {len(chip.flops)}\n", f"{code} {out.decode()}")
-    code, out, note = it.run("backspace_inspect", ["unscan", net, "order.txt", "0" * (len(chip.flops) - 1)])
-    same("an order that lacks a flip-flop", f"0 state {'0' * (len(chip.flops) - 1)}-\n", f"{code} {out.decode()}")
+    lacks = lacking([chip.flop_keys()[-1]], len(chip.flops))
+    tell(["unscan", net, "order.txt", "0" * (len(chip.flops) - 1)], 0, f"state {'0' * (len(chip.flops) - 1)}-\n", lacks)
 
 
 # ---- clauses for other checkers, against texts by hand
@@ -2098,10 +2123,10 @@ def told(it):
         tell(["unscan", "n.v", "o.txt", "01"], 17, f"refused map {why}\n", at_place("o.txt", text, at, *saying))
     # an order that lacks a flip-flop, and one without a line
     it.write("o.txt", "q1\n")
-    tell(["unscan", "n.v", "o.txt", "1"], 0, "state -1\n")
+    tell(["unscan", "n.v", "o.txt", "1"], 0, "state -1\n", lacking(["q0"], 2))
     tell(["unscan", "n.v", "o.txt", "01"], 9, "refused state Width 2\n", said("there are 2 bits, and the lines of the order are 1"))
     it.write("o.txt", "")
-    tell(["unscan", "n.v", "o.txt", "."], 0, "state --\n")
+    tell(["unscan", "n.v", "o.txt", "."], 0, "state --\n", lacking(["q0", "q1"], 2))
     it.write("o.txt", "q1\nq0\n")
     tell(["unscan", "n.v", "o.txt", "01"], 0, "state 10\n")
     bits = said("the bits of a pattern are characters 0 and 1 alone, the first one for the first line of the order")

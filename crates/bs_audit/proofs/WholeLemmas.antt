@@ -49,7 +49,7 @@ use Rattle.bs_audit.specs.declared.steps.Walk.TheVariants.{Fails, Holds}
 use Rattle.bs_audit.specs.Logged.{basis_with, refused_part, logged_parts, behind_parts, first_after, IsFit, Suits, AreFit, LeavesFit}
 use Rattle.bs_audit.specs.Finding.{basis_for, ValidReportsAreGood}
 use Rattle.bs_audit.proofs.Follows.{first_append, cand_holds, lent_widths, right_inputs, right_widths, hit_line_is}
-use Rattle.bs_trace.specs.WideCands.{HasWideCands}
+use Rattle.bs_report_good.specs.WideCands.{HasWideCands}
 
 -- ---- the parts of the steps are those from the present where each is due
 

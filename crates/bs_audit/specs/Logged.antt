@@ -20,7 +20,7 @@ use Rattle.bs_report_good.specs.declared.part.Part.TheVariants as parts
 use Rattle.bs_report_good.specs.Step.{listed, Ascend}
 use Rattle.bs_report_good.specs.Valid.{unless, first_of_all, cause_after, is_cause, is_right_trace, each_step, log_parts, are_right_blocks, blocks_due}
 use Rattle.bs_report_good.specs.Valid.{blocks_in, is_right_finish, finishes_in}
-use Rattle.bs_trace.specs.WideCands.{HasWideCands}
+use Rattle.bs_report_good.specs.WideCands.{HasWideCands}
 use Rattle.bs_audit.specs.declared.steps.Walk.{Walk}
 use Rattle.bs_audit.specs.declared.steps.Walk.TheVariants.{Fails, Holds}
 

@@ -25,10 +25,9 @@ use bs_clause::Lits;
 use bs_encode::{Encoding, encodings_are_tidy};
 use bs_net::Netlist;
 use bs_report::{MAX_STEPS, Report};
-use bs_report_good::Part;
+use bs_report_good::{Part, end_of};
 use bs_scan::{Choice, Dump};
 use bs_stim::Runs;
-use bs_trace::end_of;
 use std::alloc::Global;
 
 /// What an audit finds of a report (docs/DEFINITIONS.md, "Valid").

@@ -7,3 +7,12 @@ pub mod LengthLemmas
 pub mod FlawLemmas
 pub mod ShownLemmas
 pub mod Examples
+pub mod EndLemmas
+pub mod ReadingLemmas
+pub mod FormLemmas
+pub mod SpellingLemmas
+pub mod ReadBackLemmas
+pub mod SpelledLemmas
+pub mod WrittenLemmas
+pub mod AnswerExamples
+pub mod ShownAnswerLemmas

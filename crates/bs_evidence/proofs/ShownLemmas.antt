@@ -36,7 +36,7 @@ use Rattle.bs_reach_unrolled.proofs.RaisedLemmas.{assumed_distinct}
 use Rattle.bs_reach_unrolled.proofs.UnrolledLemmas.{one_frame, transition_unrolls}
 use Rattle.bs_reach.specs.declared.reach.Reach.{Reach}
 use Rattle.bs_reach.specs.Reach.{tried_of}
-use Rattle.bs_reach_text.specs.ReadingLaw.{HasAnswerText}
+use Rattle.bs_evidence.specs.ReadingLaw.{HasAnswerText}
 use Rattle.bs_evidence.specs.Lengths.{problem_for, HasTried}
 use Rattle.bs_evidence.specs.LengthLaw.{ReachedMeets, MetIsReached, FinishedIsUnmet, ReachedMeetsAll, AnswerProofsAreRight}
 use Rattle.bs_evidence.proofs.LengthLemmas.{assumed_at, steps_count}

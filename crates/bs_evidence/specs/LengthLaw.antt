@@ -13,7 +13,7 @@ use Rattle.bs_encode.specs.Transition.{variables}
 use Rattle.bs_reach.specs.declared.reach.Reach.{Reach}
 use Rattle.bs_reach_unrolled.specs.declared.limits.TheConstants.{MAX_FRAME_VARIABLES}
 use Rattle.bs_reach_unrolled.specs.Execution.{ReachedIn}
-use Rattle.bs_reach_text.specs.ReadingLaw.{HasAnswerText}
+use Rattle.bs_evidence.specs.ReadingLaw.{HasAnswerText}
 use Rattle.bs_evidence.specs.Lengths.{problem_for, HasTried}
 
 -- Where the state is reached in a length that was tried, an assignment meets the clauses of the length, behind any first lines of the

@@ -10,7 +10,7 @@ ghost use Rattle.bs_reach_unrolled.specs.Room.{IsUnrollable};
 ghost use Rattle.bs_reach_unrolled.specs.Unrolled.{unrolled, reach_problem};
 ghost use Rattle.bs_reach_unrolled.specs.declared.limits.TheConstants.{MAX_FRAMES, MAX_FRAME_VARIABLES};
 ghost use Rattle.bs_reach.specs.Reach.{tried_of};
-ghost use Rattle.bs_reach_text.specs.ReadingLaw.{HasAnswerText};
+ghost use Rattle.bs_evidence.specs.ReadingLaw.{HasAnswerText};
 ghost use Rattle.bs_evidence.specs.Lengths.{problem_for, HasAsked, IsEvidence};
 
 use crate::evidence::{Format, is_there};

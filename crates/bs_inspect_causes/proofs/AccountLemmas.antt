@@ -1,14 +1,14 @@
 -- The account of a block.
-use Rattle.std.proofs.Common.{◌≡◌, ℕ, ◌<◌, ◌≤◌, ◌+◌, Bool, not, cond, List, [], ◌∷◌, ◌++◌, map, filter, length, get_or, take, refl, ap, sym, ◌∙◌}
+use Rattle.std.proofs.Common.{◌≡◌, ℕ, Bool, not, List, map, filter, refl, ap, ◌∙◌}
 use Rattle.std.specs.List.{All}
 use Rattle.bs_net.specs.Netlist.{circuit}
 use Rattle.bs_net_facts.specs.declared.fact.Fact.{Fact}
 use Rattle.bs_net_facts.specs.declared.block.Block.{Block}
 use Rattle.bs_net_facts.specs.Blocks.{IsBlock, moved}
 use Rattle.bs_net_facts.specs.Seen.{Seen}
-use Rattle.bs_inspect_accounts.specs.declared.account.Account.{Account}
+use Rattle.bs_inspect_causes.specs.declared.account.Account.{Account}
 use Rattle.bs_inspect_causes.specs.declared.drivers.Drivers.{Drivers}
-use Rattle.bs_inspect_accounts.specs.Accounts.{IsAccount, is_cause, last_bits, IsRealIn}
+use Rattle.bs_inspect_causes.specs.Accounts.{is_cause, last_bits, IsRealIn}
 use Rattle.bs_inspect_causes.specs.Layers.{IsAccountBy, IsUnit, IsUnitAccount}
 use Rattle.bs_inspect_causes.proofs.BlockLemmas.{moved_same}
 

@@ -18,7 +18,7 @@ use Rattle.bs_net_facts.specs.Sources.{facts_of, sources}
 use Rattle.bs_net_facts.proofs.LawLemmas.{fits_there, sources_force}
 use Rattle.bs_net_facts.proofs.PassLemmas.{all_left}
 use Rattle.bs_inspect_causes.specs.declared.drivers.Drivers.{Drivers}
-use Rattle.bs_inspect_accounts.specs.Accounts.{has_net, IsRealIn}
+use Rattle.bs_inspect_causes.specs.Accounts.{has_net, IsRealIn}
 use Rattle.bs_inspect_causes.specs.Layers.{ForcesAt, IsReady, IsUnit, marks_net}
 use Rattle.bs_inspect_causes.proofs.SourceLemmas.{at_moment, fits_moment, in_states, input_wide, state_wide}
 

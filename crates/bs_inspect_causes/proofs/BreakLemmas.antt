@@ -3,7 +3,7 @@ use Rattle.std.proofs.Common.{◌≡◌, ◌↔◌, ℕ, ◌<◌, ◌≤◌, ◌
 use Rattle.std.proofs.lemmas.Bool.{cases_lt}
 use Rattle.std.proofs.lemmas.Option.{get_or_from_slice_get}
 use Rattle.bs_net.specs.Circuit.{Circuit, next}
-use Rattle.bs_inspect_accounts.specs.Accounts.{IsBreak, LeadsAt, LeadsBefore, LeadsOn}
+use Rattle.bs_inspect_causes.specs.Accounts.{IsBreak, LeadsAt, LeadsBefore, LeadsOn}
 
 -- by what stands at three places
 pub leads_there : (c : Circuit) (states inputs : List (List Bool)) (i : ℕ) (s x p : List Bool) (b : Bool) → slice_get states i ≡ Some s →

@@ -14,7 +14,7 @@ use Rattle.bs_net.specs.Netlist.{Checked, circuit, parts_of}
 use Rattle.bs_net.specs.Order.{IsChecked}
 use Rattle.bs_net.specs.Parts.{Parts}
 use Rattle.bs_net_facts.proofs.PassLemmas.{all_left, all_right}
-use Rattle.bs_inspect_accounts.specs.Accounts.{has_net}
+use Rattle.bs_inspect_causes.specs.Accounts.{has_net}
 use Rattle.bs_inspect_causes.specs.Layers.{AreDrivers, MarksThese}
 
 or_none : (x y : Bool) → y ≡ false → (x || y) ≡ x
@@ -49,6 +49,11 @@ marks_more nets j d now lt below h = record {
       ∙ (h.each p ∙ sym (more ∙ or_none (has_net (take j nets) p) (n == p.0) (ne_eqb n p.0 (λ e. other (sym e))))))
       (cases_eq p.0 n);
 }
+
+pub marks_put : (nets : List NetId) (j : ℕ) (d : NetId) (old now : List Bool) → j < length nets → All (λ (n : NetId). n.0 < length old) nets →
+    length now ≡ length old → MarksThese (take j nets) now → MarksThese (take (j + 1) nets) (set now (get_or nets j d).0 true)
+marks_put nets j d old now lt placed long h =
+    marks_more nets j d now lt (subst (λ (n : ℕ). (get_or nets j d).0 < n) (sym long) (placed j d lt)) h
 
 pub marks_all : (nets : List NetId) (j : ℕ) (marks : List Bool) → length nets ≤ j → MarksThese (take j nets) marks → MarksThese nets marks
 marks_all nets j marks le h = subst (λ (ns : List NetId). MarksThese ns marks) (take_all j nets le) h

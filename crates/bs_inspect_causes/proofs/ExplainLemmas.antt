@@ -8,9 +8,9 @@ use Rattle.bs_net.specs.Netlist.{Checked, circuit}
 use Rattle.bs_net_facts.specs.declared.fact.Fact.{Fact}
 use Rattle.bs_net_facts.specs.Facts.{IsWayOf}
 use Rattle.bs_net_facts.specs.Seen.{Seen}
-use Rattle.bs_inspect_accounts.specs.declared.account.Account.{Account}
+use Rattle.bs_inspect_causes.specs.declared.account.Account.{Account}
 use Rattle.bs_inspect_causes.specs.declared.drivers.Drivers.{Drivers}
-use Rattle.bs_inspect_accounts.specs.Accounts.{Explain, IsAccount, IsDue, IsGiven, IsTold, LeadsOn, has_net, last_bits, IsRealIn}
+use Rattle.bs_inspect_causes.specs.Accounts.{Explain, IsAccount, IsDue, IsGiven, IsTold, LeadsOn, has_net, last_bits, IsRealIn}
 use Rattle.bs_inspect_causes.specs.Layers.{AreDrivers, AreDue, ExplainSoFar, IsNext, IsReady, Tells, marks_net}
 use Rattle.bs_inspect_causes.proofs.LayerLemmas.{told_on}
 

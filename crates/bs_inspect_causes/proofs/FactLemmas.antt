@@ -1,13 +1,12 @@
 -- Facts of the trace, one by one.
-use Rattle.std.proofs.Common.{◌≡◌, ℕ, ◌<◌, ◌≤◌, ◌+◌, Bool, List, [], ◌∷◌, ◌++◌, map, length, get_or, take, refl, subst, ap, sym, ◌∙◌, ◌⊎◌, ⊎_elim, arith}
+use Rattle.std.proofs.Common.{◌≡◌, ℕ, ◌<◌, ◌≤◌, ◌+◌, Bool, List, [], ◌∷◌, ◌++◌, length, get_or, take, refl, subst, ap, sym, ◌∙◌}
 use Rattle.std.specs.List.{All}
 use Rattle.std.proofs.lemmas.List.{map_push, take_all, take_more}
 use Rattle.std.proofs.lemmas.List.Elements.{All-nil, All-push}
 use Rattle.bs_net.specs.declared.net.NetId.{NetId}
-use Rattle.bs_net.specs.Netlist.{circuit}
 use Rattle.bs_net_facts.specs.declared.fact.Fact.{Fact}
 use Rattle.bs_net_facts.specs.Seen.{Seen}
-use Rattle.bs_inspect_accounts.specs.Accounts.{AreFactsOf, IsRealIn}
+use Rattle.bs_inspect_causes.specs.Accounts.{AreFactsOf, IsRealIn}
 
 -- ---- the facts of nets at a cycle
 
@@ -26,6 +25,12 @@ facts_more m nets j d t facts bit lt h real =
       at_cycle = All-push (λ (g : Fact). g.cycle ≡ t) facts f h.at_cycle refl;
       real = All-push (IsRealIn m) facts f h.real real;
     }
+
+pub facts_put : (m : Seen) (nets : List NetId) (j : ℕ) (d : NetId) (t : ℕ) (facts after : List Fact) (bit : Bool) → j < length nets →
+    AreFactsOf m (take j nets) t facts → IsRealIn m (record { net = get_or nets j d; cycle = t; bit = bit }) →
+    after ≡ facts ++ record { net = get_or nets j d; cycle = t; bit = bit } ∷ [] → AreFactsOf m (take (j + 1) nets) t after
+facts_put m nets j d t facts after bit lt h real e =
+    subst (λ (fs : List Fact). AreFactsOf m (take (j + 1) nets) t fs) (sym e) (facts_more m nets j d t facts bit lt h real)
 
 pub facts_all : (m : Seen) (nets : List NetId) (j t : ℕ) (facts : List Fact) → length nets ≤ j → AreFactsOf m (take j nets) t facts →
     AreFactsOf m nets t facts

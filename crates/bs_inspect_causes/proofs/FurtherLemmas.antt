@@ -6,9 +6,9 @@ use Rattle.std.proofs.lemmas.List.Elements.{All-append, All-cons, All-contains, 
 use Rattle.bs_net.specs.Netlist.{circuit}
 use Rattle.bs_net_facts.specs.declared.fact.Fact.{Fact}
 use Rattle.bs_net_facts.specs.Seen.{Seen}
-use Rattle.bs_inspect_accounts.specs.declared.account.Account.{Account}
+use Rattle.bs_inspect_causes.specs.declared.account.Account.{Account}
 use Rattle.bs_inspect_causes.specs.declared.drivers.Drivers.{Drivers}
-use Rattle.bs_inspect_accounts.specs.Accounts.{IsAccount, IsRealIn}
+use Rattle.bs_inspect_causes.specs.Accounts.{IsAccount, IsRealIn}
 use Rattle.bs_inspect_causes.specs.Layers.{AsksMore, IsNext, marks_net}
 
 pub asks_none : (d : Drivers) (a : Account) (facts : List Fact) → AsksMore d a facts facts

@@ -1,5 +1,5 @@
 -- Accounts that are put at the end of others.
-use Rattle.std.proofs.Common.{◌≡◌, ℕ, ◌<◌, ◌≤◌, ◌+◌, ◌-◌, Bool, false, List, [], ◌∷◌, ◌++◌, length, take, drop, slice_range, subst, ap, sym, ◌∙◌, append_assoc, append-nil, arith}
+use Rattle.std.proofs.Common.{◌≡◌, ℕ, ◌<◌, ◌≤◌, ◌+◌, ◌-◌, false, List, [], ◌∷◌, ◌++◌, length, take, drop, slice_range, subst, ap, sym, ◌∙◌, append_assoc, append-nil, arith}
 use Rattle.std.specs.Prelude.{Contains}
 use Rattle.std.specs.List.{All}
 use Rattle.std.proofs.Math.Seq.{take-add}
@@ -8,10 +8,10 @@ use Rattle.std.proofs.lemmas.List.Elements.{All-append, All-contains, All-contai
 use Rattle.bs_net.specs.Netlist.{circuit}
 use Rattle.bs_net_facts.specs.declared.fact.Fact.{Fact}
 use Rattle.bs_net_facts.specs.Seen.{Seen}
-use Rattle.bs_inspect_accounts.specs.declared.account.Account.{Account}
+use Rattle.bs_inspect_causes.specs.declared.account.Account.{Account}
 use Rattle.bs_inspect_causes.specs.declared.drivers.Drivers.{Drivers}
 use Rattle.bs_inspect_causes.specs.declared.units.Unit.{Unit as CodeUnit}
-use Rattle.bs_inspect_accounts.specs.Accounts.{IsAccount, IsTold, last_bits, IsRealIn}
+use Rattle.bs_inspect_causes.specs.Accounts.{IsAccount, IsTold, last_bits, IsRealIn}
 use Rattle.bs_inspect_causes.specs.Layers.{IsLike, IsUnit, IsUnitAccount, IsUnitAt, KeepsFirst, Tells, marks_net}
 use Rattle.bs_inspect_causes.proofs.UnitLemmas.{kept_all}
 

@@ -8,3 +8,6 @@ pub mod UnitLemmas
 pub mod LayerLemmas
 pub mod FurtherLemmas
 pub mod ExplainLemmas
+pub mod ChainLemmas
+pub mod OrderLemmas
+pub mod SinceLemmas

@@ -12,7 +12,7 @@ use Rattle.bs_net_facts.specs.Facts.{FitsMoment}
 use Rattle.bs_net_facts.specs.Seen.{Seen}
 use Rattle.bs_net_facts.specs.Sources.{facts_of, sources}
 use Rattle.bs_inspect_causes.specs.declared.drivers.Drivers.{Drivers}
-use Rattle.bs_inspect_accounts.specs.Accounts.{AreFactsOf, IsRealIn}
+use Rattle.bs_inspect_causes.specs.Accounts.{AreFactsOf, IsRealIn}
 use Rattle.bs_inspect_causes.specs.Layers.{IsReady}
 use Rattle.bs_inspect_causes.proofs.DriverLemmas.{flops_below, inputs_below}
 

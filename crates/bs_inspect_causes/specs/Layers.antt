@@ -1,5 +1,5 @@
 -- What the functions that tell layers of accounts promise each other.
-use Rattle.std.specs.Prelude.{◌≡◌, ◌⊎◌, ℕ, ◌+◌, ◌-◌, ◌<◌, ◌≤◌, Bool, true, false, List, [], ◌++◌, length, map, take, All, Contains, slice_index_or}
+use Rattle.std.specs.Prelude.{◌≡◌, ◌⊎◌, ℕ, ◌+◌, ◌-◌, ◌<◌, ◌≤◌, Bool, true, false, List, [], ◌++◌, length, take, All, Contains, slice_index_or}
 use Rattle.std.specs.List.{AllWithin}
 use Rattle.bs_net.specs.declared.net.NetId.{NetId}
 use Rattle.bs_net.specs.Circuit.{Circuit, state_nets}
@@ -8,12 +8,12 @@ use Rattle.bs_net.specs.Order.{IsChecked}
 use Rattle.bs_net_facts.specs.declared.fact.Fact.{Fact}
 use Rattle.bs_net_facts.specs.declared.block.Block.{Block}
 use Rattle.bs_net_facts.specs.Blocks.{IsBlock}
-use Rattle.bs_net_facts.specs.Facts.{IsReal, IsWayOf}
+use Rattle.bs_net_facts.specs.Facts.{IsWayOf}
 use Rattle.bs_net_facts.specs.Seen.{Seen}
 use Rattle.bs_inspect_causes.specs.declared.units.Unit.{Unit as CodeUnit}
-use Rattle.bs_inspect_accounts.specs.declared.account.Account.{Account}
+use Rattle.bs_inspect_causes.specs.declared.account.Account.{Account}
 use Rattle.bs_inspect_causes.specs.declared.drivers.Drivers.{Drivers}
-use Rattle.bs_inspect_accounts.specs.Accounts.{Explain, IsAccount, IsDue, IsGiven, IsRealIn, IsTold, LeadsOn, has_net, last_bits}
+use Rattle.bs_inspect_causes.specs.Accounts.{Explain, IsAccount, IsDue, IsGiven, IsRealIn, IsTold, LeadsOn, has_net, last_bits}
 
 -- ---- what drives a net
 

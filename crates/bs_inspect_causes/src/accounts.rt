@@ -2,16 +2,16 @@
 ghost use Rattle.std.specs.Prelude.{◌≡◌, ◌≤◌, ◌+◌, false, All, IfOk, OnOk};
 ghost use Rattle.bs_net.specs.Netlist.{circuit};
 ghost use Rattle.bs_net_facts.specs.Facts.{IsWayOf, IsReal};
-ghost use Rattle.bs_inspect_accounts.specs.Accounts.{Explain, LeadsOn, has_net};
+ghost use Rattle.bs_inspect_causes.specs.Accounts.{Explain, LeadsOn, has_net};
 ghost use Rattle.bs_inspect_causes.specs.Layers.{AreDue, ExplainSoFar, IsReady};
 
+use crate::account::Account;
 use crate::basis::Basis;
 use crate::drivers::Drivers;
 use crate::further::further_facts;
 use crate::layer::tell_facts;
 use crate::ledger::Ledger;
 use bs_bits::{List, NoMemory};
-use bs_inspect_accounts::Account;
 use bs_inspect_holds::Scene;
 use bs_net_facts::Fact;
 use std::alloc::Global;

@@ -3,7 +3,7 @@ ghost use Rattle.std.specs.Prelude.{◌≡◌, ◌<◌, ◌+◌, ◌^◌, ◌↔
 ghost use Rattle.bs_net.specs.Circuit.{next};
 ghost use Rattle.bs_net.specs.Netlist.{circuit};
 ghost use Rattle.bs_net_facts.specs.Facts.{IsWayOf};
-ghost use Rattle.bs_inspect_accounts.specs.Accounts.{IsBreak, LeadsAt, LeadsOn};
+ghost use Rattle.bs_inspect_causes.specs.Accounts.{IsBreak, LeadsAt, LeadsOn};
 
 use bs_bits::{Bits, List, NoMemory};
 use bs_net::Netlist;
@@ -39,7 +39,7 @@ fn leads_at(sim: &mut Sim<'_>, states: &List<Bits>, inputs: &List<Bits>, place: 
 
 /// The first state of a trace that does not lead to the one behind it, by its number from 0. It takes one pass over the gates for
 /// each moment.
-#[tactic(auto, using(crate::proofs::BreakLemmas::leads_none, crate::proofs::BreakLemmas::leads_more, crate::proofs::BreakLemmas::leads_on, crate::proofs::BreakLemmas::break_is))]
+#[tactic(auto, using(crate::proofs::BreakLemmas::leads_none, crate::proofs::BreakLemmas::leads_on, crate::proofs::BreakLemmas::break_is))]
 pub fn first_break(
     alloc: Global,
     net: &Netlist,

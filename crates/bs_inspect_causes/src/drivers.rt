@@ -1,6 +1,5 @@
 //! Which nets flip-flops and data inputs drive.
 ghost use Rattle.std.specs.Prelude.{◌≡◌, ◌<◌, [], false, length, map, replicate, All, IfOk};
-ghost use Rattle.bs_net.specs.Circuit.{state_nets};
 ghost use Rattle.bs_net.specs.Netlist.{circuit};
 ghost use Rattle.bs_inspect_causes.specs.Layers.{AreDrivers, MarksThese, marks_net};
 
@@ -26,7 +25,6 @@ fn no_marks(alloc: Global, count: usize) -> Result<Vec<bool>, NoMemory>
 }
 
 /// Marks some nets.
-#[tactic(auto, using(crate::proofs::DriverLemmas::marks_none, crate::proofs::DriverLemmas::marks_more, crate::proofs::DriverLemmas::marks_all))]
 fn put_marks(marks: &mut Vec<bool>, nets: &[NetId])
     requires placed { All (λ n. n.0 < length marks.old.items) nets.now }
     requires none { MarksThese [] marks.old.items }
@@ -49,7 +47,6 @@ fn marks_of(alloc: Global, count: usize, nets: &[NetId]) -> Result<List<bool>, N
 }
 
 /// The outputs of flip-flops.
-#[tactic(auto, using(crate::proofs::DriverLemmas::outputs_more, crate::proofs::DriverLemmas::outputs_all))]
 fn flop_nets(alloc: Global, flops: &[Flop]) -> Result<List<NetId>, NoMemory>
     ensures { IfOk result (λ nets. nets ≡ map (λ f. f.q) flops.now) }
 {

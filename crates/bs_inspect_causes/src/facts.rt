@@ -2,12 +2,12 @@
 ghost use Rattle.std.specs.Prelude.{◌≡◌, ◌<◌, [], ◌∷◌, ◌++◌, true, length, All, IfOk, OnOk};
 ghost use Rattle.bs_net.specs.Netlist.{circuit};
 ghost use Rattle.bs_net_facts.specs.Sources.{sources};
-ghost use Rattle.bs_inspect_accounts.specs.Accounts.{AreFactsOf, IsRealIn};
+ghost use Rattle.bs_inspect_causes.specs.Accounts.{AreFactsOf, IsRealIn};
 ghost use Rattle.bs_inspect_causes.specs.Layers.{IsReady};
 
 use crate::basis::Basis;
+use crate::since::known_bit;
 use bs_bits::{List, NoMemory};
-use bs_inspect_accounts::known_bit;
 use bs_net::NetId;
 use bs_net_facts::{Fact, Moments};
 use std::alloc::Global;
@@ -21,7 +21,7 @@ fn push_fact(facts: &mut List<Fact>, net: NetId, cycle: u32, bit: bool) -> Resul
 }
 
 /// The facts of some nets at a cycle that has an input.
-#[tactic(auto, using(crate::proofs::FactLemmas::facts_none, crate::proofs::FactLemmas::facts_more, crate::proofs::FactLemmas::facts_all))]
+#[tactic(auto, using(crate::proofs::FactLemmas::facts_none))]
 fn facts_at(
     alloc: Global,
     moments: &Moments<'_>,

@@ -1,16 +1,16 @@
 //! Which given facts of accounts are asked further.
 ghost use Rattle.std.specs.Prelude.{◌≡◌, ◌<◌, true, false, length, All, Contains, IfOk, OnOk};
 ghost use Rattle.bs_net.specs.Netlist.{circuit};
-ghost use Rattle.bs_inspect_accounts.specs.Accounts.{IsAccount};
+ghost use Rattle.bs_inspect_causes.specs.Accounts.{IsAccount};
 ghost use Rattle.bs_inspect_causes.specs.Layers.{AsksMore, IsNext, marks_net};
 
-use crate::account::is_cause;
+use crate::account::Account;
 use crate::basis::Basis;
+use crate::block_account::is_cause;
 use crate::drivers::is_marked;
 use crate::facts::is_real;
 use crate::ledger::Ledger;
 use bs_bits::NoMemory;
-use bs_inspect_accounts::Account;
 use bs_inspect_holds::{Driver, Scene};
 use bs_net_facts::Fact;
 

@@ -1,14 +1,14 @@
 //! The accounts of one layer.
 ghost use Rattle.std.specs.Prelude.{◌≡◌, false, All, OnOk, slice_range};
 ghost use Rattle.bs_inspect_causes.specs.Layers.{IsReady, IsUnit, IsUnitAt, Tells, marks_net};
-ghost use Rattle.bs_inspect_accounts.specs.Accounts.{IsRealIn};
+ghost use Rattle.bs_inspect_causes.specs.Accounts.{IsRealIn};
 
+use crate::account::Account;
 use crate::basis::Basis;
 use crate::ledger::Ledger;
 use crate::telling::account_of;
 use crate::units::{Unit, ordered, unit_at};
 use bs_bits::{List, NoMemory};
-use bs_inspect_accounts::Account;
 use bs_net_facts::Fact;
 
 /// Tells a unit, unless it is one of a later layer than the first and told already.

@@ -4,13 +4,13 @@ ghost use Rattle.bs_net.specs.Netlist.{circuit};
 ghost use Rattle.bs_net_facts.specs.Blocks.{IsBlock};
 ghost use Rattle.bs_inspect_causes.specs.Layers.{IsReady, IsUnit, IsUnitAccount};
 
-use crate::account::account_by;
+use crate::account::Account;
 use crate::basis::Basis;
+use crate::block_account::account_by;
 use crate::facts::copied;
 use crate::sourced::sourced_block;
 use crate::units::Unit;
 use bs_bits::{List, NoMemory};
-use bs_inspect_accounts::Account;
 use bs_inspect_holds::{Proposal, propose};
 use bs_net_facts::{Fact, is_block};
 

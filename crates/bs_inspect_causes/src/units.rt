@@ -64,7 +64,7 @@ fn push_new(facts: &[Fact], place: usize, kept: &mut List<Fact>) -> Result<(), N
 }
 
 /// Facts without those that are the same as the one before them.
-#[tactic(auto, using(crate::proofs::UnitLemmas::keeps_none, crate::proofs::UnitLemmas::keeps_all))]
+#[tactic(auto, using(crate::proofs::UnitLemmas::keeps_none))]
 fn distinct(alloc: Global, facts: &[Fact]) -> Result<List<Fact>, NoMemory>
     ensures { IfOk result (λ kept. KeepsFirst facts.now (length facts.now) kept) }
 {
@@ -97,7 +97,6 @@ fn is_like(basis: &Basis<'_>, first: Fact, flop: bool, fact: Fact) -> bool
 }
 
 /// The place behind the unit that a fact begins.
-#[tactic(auto, using(crate::proofs::UnitLemmas::like_more))]
 fn unit_end(basis: &Basis<'_>, facts: &[Fact], from: usize, first: Fact, flop: bool) -> usize
     requires there { from < length facts.now }
     requires like { AllWithin (IsLike basis.now.drivers.now first.cycle flop) facts.now from (from + 1) }

@@ -1,5 +1,5 @@
 -- What a VCD has of the flip-flops, one after another.
-use Rattle.std.proofs.Common.{◌≡◌, ℕ, ◌<◌, ◌≤◌, ◌+◌, Bool, true, false, cond, List, [], ◌∷◌, ◌++◌, length, map, take, get_or, Option, refl, ap, sym, ◌∙◌, arith, take_all, add-zero}
+use Rattle.std.proofs.Common.{◌≡◌, ℕ, ◌<◌, ◌≤◌, ◌+◌, Bool, true, false, cond, List, [], ◌∷◌, ◌++◌, length, map, take, get_or, Option, refl, ap, sym, ◌∙◌, arith, take_all}
 use Rattle.std.specs.Prelude.{◌||◌, count_by, slice_index_or}
 use Rattle.std.specs.List.{list_any, range_with_len}
 use Rattle.std.proofs.lemmas.List.{get_or-map, length-map, map_more}
@@ -10,7 +10,7 @@ use Rattle.bs_vcd_header.specs.declared.sources.BitSource.{BitSource}
 use Rattle.bs_vcd.specs.Levels.{Known}
 use Rattle.bs_inspect_check.specs.declared.level.FlopLevel.{FlopLevel}
 use Rattle.bs_inspect_check.specs.declared.level.FlopLevel.TheVariants.{Missing}
-use Rattle.bs_inspect_check.specs.Comparison.{count_unknown, differs, differs_at, is_other, is_unknown}
+use Rattle.bs_inspect_check.specs.Flops.{count_unknown, differs, differs_at, is_other, is_unknown}
 use Rattle.bs_inspect_check.specs.Samples.{flop_level, levels_by}
 use Rattle.bs_inspect_check.specs.Tallies.{one_if}
 

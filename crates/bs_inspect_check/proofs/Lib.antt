@@ -4,6 +4,8 @@ pub mod LevelLemmas
 pub mod ListLemmas
 pub mod TallyLemmas
 pub mod WalkLemmas
+pub mod FlopLemmas
+pub mod InputLemmas
 pub mod ComparisonLemmas
 pub mod LevelTextLemmas
 pub mod ToldLemmas

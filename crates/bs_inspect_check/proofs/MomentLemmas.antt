@@ -1,5 +1,5 @@
 -- The words of a moment, taken one by one.
-use Rattle.std.proofs.Common.{◌≡◌, ℕ, Bool, true, false, cond, nat_lt, List, [], ◌∷◌, ◌++◌, Option, Some, None, Result, Ok, Err, refl, ap, sym, ◌∙◌, ◌⊎◌, inl, inr}
+use Rattle.std.proofs.Common.{◌≡◌, ℕ, Bool, true, false, cond, nat_lt, List, [], ◌∷◌, ◌++◌, Option, Some, None, Result, Ok, Err, refl, ap, ◌∙◌, ◌⊎◌, inl, inr}
 use Rattle.std.specs.Prelude.{◌==◌}
 use Rattle.std.proofs.lemmas.Bool.{false≢true, true≢false}
 use Rattle.bs_vcd_header.specs.declared.fault.VcdFault.{VcdFault}
@@ -7,7 +7,7 @@ use Rattle.bs_vcd_header.specs.declared.fault.VcdFault.TheVariants.{Ended, Line,
 use Rattle.bs_vcd_header.specs.Tokens.{VcdToken}
 use Rattle.bs_vcd.specs.History.{ValueChange, Moment, History, WordPlace, Plain, Value, Skip, Remark, WordEffect, Goes, Changes, Begins, Stops, before, history_from, moment, step, stepped, stopped}
 use Rattle.bs_vcd.specs.Watching.{may_end}
-use Rattle.bs_inspect_check.specs.Taking.{Turn, later, turn, turned}
+use Rattle.bs_inspect_check.specs.Taking.{Turn, turn, turned}
 
 abbrev now_of : ℕ → List ValueChange → Moment
 now_of time changes = record { time = time; changes = changes }

@@ -1,6 +1,6 @@
 -- What is counted is what the cycles are.
-use Rattle.std.proofs.Common.{◌≡◌, ℕ, ◌+◌, ◌*◌, ◌^◌, ◌<◌, ◌≤◌, suc, min, Bool, true, false, cond, nat_le, nat_lt, List, [], ◌∷◌, ◌++◌, length, filter, fold, take, slice_index_or, refl, ap, sym, subst, ◌∙◌, arith, append_assoc, append-nil, add-one, zero-add, add-zero}
-use Rattle.std.specs.Prelude.{◌==◌, ◌&&◌, sum_by}
+use Rattle.std.proofs.Common.{◌≡◌, ℕ, ◌+◌, ◌*◌, ◌^◌, ◌<◌, ◌≤◌, suc, min, Bool, true, false, cond, nat_le, nat_lt, List, [], ◌∷◌, ◌++◌, length, filter, slice_index_or, refl, ap, sym, ◌∙◌, arith, append-nil, zero-add}
+use Rattle.std.specs.Prelude.{◌==◌, ◌&&◌}
 use Rattle.std.proofs.lemmas.Bool.{cond-true, cond-false, false≢true, le-leb, leb-true, ltb-true, ltb-false, and_from, and_left, and_right}
 use Rattle.std.proofs.lemmas.List.{length_push}
 use Rattle.std.proofs.lemmas.List.Elements.{filter-append}
@@ -11,7 +11,7 @@ use Rattle.bs_stim.specs.declared.limits.TheConstants.{MAX_CYCLES}
 use Rattle.bs_inspect_check.specs.declared.level.FlopLevel.{FlopLevel}
 use Rattle.bs_inspect_check.specs.declared.tally.CycleEnd.{CycleEnd}
 use Rattle.bs_inspect_check.specs.declared.tally.Tally.{Tally as CodeTally}
-use Rattle.bs_inspect_check.specs.Comparison.{agreeing, count_unknown, cycle_end, differs, ends_from, first_different, is_different, is_recorded, shared, sum_unknown, unknown_at}
+use Rattle.bs_inspect_check.specs.Flops.{agreeing, count_unknown, cycle_end, differs, ends_from, first_different, is_different, is_recorded, shared, sum_unknown, unknown_at}
 use Rattle.bs_inspect_check.specs.Tallies.{agreed, different, is_open, IsSmall, looked, next_state, passed, stepped, tally_in, tally_of, Tally}
 use Rattle.bs_inspect_check.proofs.ListLemmas.{before_all, before_push, first_push, none_first}
 

@@ -1,7 +1,6 @@
 -- From moment to moment.
 use Rattle.std.proofs.Common.{◌≡◌, ℕ, ◌+◌, ◌^◌, ◌<◌, ◌≤◌, subst, arith, Bool, true, false, cond, List, [], ◌∷◌, ◌++◌, map, fold, filter, Option, Some, None, Result, Ok, Err, refl, ap, sym, ◌∙◌, ◌⊎◌, inl, inr, append_assoc, append-nil}
 use Rattle.std.specs.Option.{option_or}
-use Rattle.std.specs.List.{flat_map}
 use Rattle.bs_net.specs.Circuit.{Circuit}
 use Rattle.bs_scan.specs.Moments.{Run}
 use Rattle.bs_vcd_header.specs.declared.fault.VcdFault.{VcdFault}

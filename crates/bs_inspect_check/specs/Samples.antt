@@ -7,7 +7,7 @@ use Rattle.bs_vcd_header.specs.declared.fault.VcdFault.TheVariants.{NoInput}
 use Rattle.bs_vcd_header.specs.declared.sources.BitSource.{BitSource}
 use Rattle.bs_vcd_header.specs.Header.{HeaderDeclarations}
 use Rattle.bs_vcd_header.specs.Sources.{source_in}
-use Rattle.bs_vcd.specs.History.{ValueChange, Moment, History}
+use Rattle.bs_vcd.specs.History.{ValueChange, Moment}
 use Rattle.bs_vcd.specs.Levels.{Known, known_by, level}
 use Rattle.bs_vcd.specs.Sampled.{Cut, cuts_from, is_edge}
 use Rattle.bs_inspect_check.specs.declared.level.FlopLevel.{FlopLevel}

@@ -1,6 +1,5 @@
 -- What comes of the words of the value changes up to the next time.
 use Rattle.std.specs.Prelude.{ℕ, ◌+◌, nat_lt, ◌==◌, List, [], ◌∷◌, ◌++◌, length, map, Option, Some, None, Result, Ok, Err, if◌then◌else◌}
-use Rattle.std.specs.Option.{option_or}
 use Rattle.bs_vcd_header.specs.declared.fault.VcdFault.{VcdFault}
 use Rattle.bs_vcd_header.specs.declared.fault.VcdFault.TheVariants.{Line, DumpOff}
 use Rattle.bs_vcd_header.specs.Tokens.{tokens_from}

@@ -10,12 +10,12 @@ use Rattle.bs_vcd.specs.History.{History, Moment, time_if}
 use Rattle.bs_vcd.specs.Levels.{Known, known_in}
 use Rattle.bs_vcd.specs.Sampled.{or_fault, rises}
 use Rattle.bs_vcd.specs.Watching.{known_after}
-use Rattle.bs_inspect_check.specs.declared.comparison.Comparison.{Comparison}
+use Rattle.bs_inspect_check.specs.declared.flops.FlopComparison.{FlopComparison}
 use Rattle.bs_inspect_check.specs.declared.level.FlopLevel.{FlopLevel}
 use Rattle.bs_inspect_check.specs.declared.tally.CycleEnd.{CycleEnd}
 use Rattle.bs_inspect_check.specs.declared.tally.Tally.{Tally as CodeTally}
 use Rattle.bs_inspect_check.specs.declared.walk.Watch.{Watch as CodeWatch}
-use Rattle.bs_inspect_check.specs.Comparison.{agreeing, count_unknown, differs, first_different, shared, sum_unknown}
+use Rattle.bs_inspect_check.specs.Flops.{agreeing, count_unknown, differs, first_different, shared, sum_unknown}
 use Rattle.bs_inspect_check.specs.Samples.{levels_by}
 
 -- ---- a run that is replayed
@@ -140,7 +140,7 @@ pub record IsBegin (w : CodeWatch) : Type 0 where
   pub tally : w.tally ≡ record { ended = 0; agreed = 0; unknown = 0; differing = [] }
 
 -- what is counted, as an answer
-abbrev pub comparison_in : (cycles : ℕ) → (found : List Bool) → CodeWatch → Comparison
+abbrev pub comparison_in : (cycles : ℕ) → (found : List Bool) → CodeWatch → FlopComparison
 comparison_in cycles found w =
     record {
       cycles = cycles;
@@ -152,7 +152,7 @@ comparison_in cycles found w =
       found = found;
     }
 
-abbrev pub comparison_by : (cycles : ℕ) → (found : List Bool) → Watch → Comparison
+abbrev pub comparison_by : (cycles : ℕ) → (found : List Bool) → Watch → FlopComparison
 comparison_by cycles found w =
     record {
       cycles = cycles;

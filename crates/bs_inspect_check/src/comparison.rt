@@ -1,210 +1,102 @@
-//! One run beside one VCD.
-ghost use Rattle.std.specs.Prelude.{◌≡◌, ◌<◌, ◌≤◌, ◌+◌, ◌^◌, length, map, option_map};
+//! One run beside one VCD: the flip-flops, and the data inputs.
+ghost use Rattle.std.specs.Prelude.{◌≡◌, ◌<◌, ◌≤◌, ◌^◌, length, map, option_map, IfOk};
 ghost use Rattle.bs_bits.specs.Reading.{Answers};
 ghost use Rattle.bs_net.specs.Netlist.{circuit};
 ghost use Rattle.bs_stim.specs.Runs.{run_at};
 ghost use Rattle.bs_vcd_header.specs.declared.fault.VcdFault.TheVariants.{NoMemory as Want};
-ghost use Rattle.bs_vcd_header.specs.Header.{begun_in, header_in};
-ghost use Rattle.bs_vcd_header.specs.Tokens.{tokens_from};
-ghost use Rattle.bs_vcd.specs.History.{history_of};
-ghost use Rattle.bs_inspect_check.specs.Comparison.{agrees, all_agree, compared_by, compared_from, compared_in, compared_of};
-ghost use Rattle.bs_inspect_check.specs.Samples.{is_found};
-ghost use Rattle.bs_inspect_check.specs.Tallies.{comparison_in, IsBegin, IsSmall, watch_in, whole};
+ghost use Rattle.bs_vcd.specs.Stimulus.{stimulus_in};
+ghost use Rattle.bs_inspect_report.specs.Keys.{input_keys};
+ghost use Rattle.bs_inspect_check.specs.Comparison.{agrees, all_agree, compared_in, origin_of, whole};
+ghost use Rattle.bs_inspect_check.specs.Inputs.{inputs_compared};
 
-use crate::replay::Replay;
-use crate::sources::{found_bits, found_sources};
-use crate::tally::{CycleEnd, Tally, end_cycle};
-use crate::walk::{Sources, Watch, no_watch, walk};
-use bs_bits::{Bits, List};
+use crate::flops::{FlopComparison, RunOf, compare_flops};
+use crate::inputs::{InputComparison, compare_inputs};
+use bs_bits::{List, NoMemory};
 use bs_net::Netlist;
-use bs_net_names::key_parts;
 use bs_stim::Runs;
-use bs_vcd::{clock_scope, clock_source};
-use bs_vcd_header::{Behind, HeaderDeclarations, HeaderState, VcdFault, nothing, take_words};
+use bs_vcd_header::VcdFault;
 use std::alloc::Global;
 
-/// How many cycles the run has, how many rising edges the VCD, and the time at which its values begin. How many cycles agree before the
-/// first one that differs, how many bits are unknown in these, and that one, if there is one. Which flip-flops the VCD has.
+/// The name of a run, and that of the file of its VCD.
+#[derive(Drop)]
+pub struct Origin {
+    pub run: List<u8>,
+    pub file: List<u8>,
+}
+
+/// A run beside its VCD: the names of both, the flip-flops, and the data inputs.
 #[derive(Drop)]
 pub struct Comparison {
-    pub cycles: u64,
-    pub edges: u64,
-    pub begin: u64,
-    pub agreed: u64,
-    pub unknown: u64,
-    pub differing: List<CycleEnd>,
-    pub found: Bits,
+    pub origin: Origin,
+    pub flops: FlopComparison,
+    pub inputs: InputComparison,
 }
 
-/// A netlist, and one of its runs, numbered from 1.
-#[derive(Clone, Copy)]
-pub struct RunOf<'a> {
-    pub net: &'a Netlist,
-    pub runs: &'a Runs,
-    pub number: u32,
-}
-
-/// All cycles, the last of which the end of the text ends.
-#[tactic(auto, using(crate::proofs::ComparisonLemmas::all_walked, crate::proofs::ComparisonLemmas::all_faulty))]
-fn walk_all<'a>(
-    alloc: Global,
-    sources: Sources<'_>,
-    behind: Behind<'a>,
-    replay: &mut Replay<'_>,
-    watch: &mut Watch<'a>,
-) -> Result<(), VcdFault>
-    requires lines { behind.line + length behind.rest.now < 2 ^ 64 }
-    requires short { length behind.rest.now < 2 ^ 62 }
-    requires flops { length sources.flops.now < 2 ^ 32 }
-    requires none { watch.old.tally.ended ≡ 0 }
-    requires small { IsSmall watch.old.tally }
-    ensures { Answers Want (λ _. watch_in watch.new replay.new.state) result (whole sources.entry.clock sources.entry.flops.now replay.old.circuit replay.old.run (watch_in watch.old replay.old.state) (history_of (tokens_from behind.entry.line behind.entry.rest.now))) }
+/// A copy of a name.
+fn copy_of(alloc: Global, name: &[u8]) -> Result<List<u8>, NoMemory>
+    ensures { IfOk result (λ own. own ≡ name.now) }
 {
-    walk(alloc, sources, behind.line, behind.rest, replay, watch)?;
-    end_cycle(alloc, &watch.known, sources.flops, replay, &mut watch.tally)?;
-    Ok(())
+    let own = name.to_vec(alloc)?;
+    Ok(List::of(own))
 }
 
-/// The cycles of a run, from reset on.
-#[tactic(auto, using(crate::proofs::ComparisonLemmas::run_watched, crate::proofs::ComparisonLemmas::run_faulty, crate::proofs::ComparisonLemmas::nothing_small, crate::proofs::ComparisonLemmas::nothing_ended))]
-fn watch_run<'a>(
-    alloc: Global,
-    run: RunOf<'_>,
-    sources: Sources<'_>,
-    behind: Behind<'a>,
-    watch: &mut Watch<'a>,
-) -> Result<(), VcdFault>
-    requires inputs { run.runs.now.width ≡ length (circuit run.net.now).inputs }
+/// The names of a run and of the file of its VCD.
+fn origin_of(alloc: Global, run: RunOf<'_>, file: &[u8]) -> Result<Origin, NoMemory>
     requires from_one { 1 ≤ run.number }
     requires there { run.number ≤ length run.runs.now.runs }
-    requires lines { behind.line + length behind.rest.now < 2 ^ 64 }
-    requires short { length behind.rest.now < 2 ^ 62 }
-    requires flops { length sources.flops.now < 2 ^ 32 }
-    requires none { IsBegin watch.old }
-    ensures { Answers Want (λ _. comparison_in (length (run_at run.entry.runs.now run.entry.number).inputs) (map is_found sources.entry.flops.now) watch.new) result
-        (compared_by (circuit run.entry.net.now) (run_at run.entry.runs.now run.entry.number).inputs sources.entry.clock sources.entry.flops.now (history_of (tokens_from behind.entry.line behind.entry.rest.now))) }
+    ensures { IfOk result (λ origin. origin ≡ origin_of (run_at run.entry.runs.now run.entry.number) file.now) }
 {
-    let mut replay = Replay::new(alloc, run.net, run.runs, run.number)?;
-    walk_all(alloc, sources, behind, &mut replay, watch)?;
-    Ok(())
-}
-
-/// What is counted, as an answer.
-fn comparison_of(cycles: u32, found: Bits, watch: Watch<'_>) -> Comparison
-    ensures { result ≡ comparison_in cycles found watch.entry }
-{
-    let Watch {
-        first,
-        known,
-        tally,
-    } = watch;
-    drop(known);
-    let Tally {
-        ended,
-        agreed,
-        unknown,
-        differing,
-    } = tally;
-    Comparison {
-        cycles: u64::from(cycles),
-        edges: ended.saturating_sub(1),
-        begin: first.unwrap_or(0),
-        agreed,
-        unknown,
-        differing,
-        found,
-    }
-}
-
-/// A run by the sources of the clock and the flip-flops.
-fn compare_sources(
-    alloc: Global,
-    run: RunOf<'_>,
-    sources: Sources<'_>,
-    behind: Behind<'_>,
-) -> Result<Comparison, VcdFault>
-    requires inputs { run.runs.now.width ≡ length (circuit run.net.now).inputs }
-    requires from_one { 1 ≤ run.number }
-    requires there { run.number ≤ length run.runs.now.runs }
-    requires lines { behind.line + length behind.rest.now < 2 ^ 64 }
-    requires short { length behind.rest.now < 2 ^ 62 }
-    requires flops { length sources.flops.now < 2 ^ 32 }
-    ensures { Answers Want (λ m. m) result
-        (compared_by (circuit run.entry.net.now) (run_at run.entry.runs.now run.entry.number).inputs sources.entry.clock sources.entry.flops.now (history_of (tokens_from behind.entry.line behind.entry.rest.now))) }
-{
-    let found = found_bits(alloc, sources.flops)?;
-    let cycles = run.runs.cycles(run.number);
-    let mut watch = no_watch(alloc);
-    match watch_run(alloc, run, sources, behind, &mut watch) {
-        Ok(()) => Ok(comparison_of(cycles, found, watch)),
-        Err(fault) => {
-            drop(found);
-            drop(watch);
-            Err(fault)
+    let name = run.runs.name(run.number);
+    let own = copy_of(alloc, name.as_bytes())?;
+    match copy_of(alloc, file) {
+        Ok(path) => Ok(Origin {
+            run: own,
+            file: path,
+        }),
+        Err(want) => {
+            drop(own);
+            Err(want)
         }
     }
 }
 
-/// A run by what is declared and the text behind that.
-fn compare_declared(
+/// The flip-flops, and the data inputs of the run at a place, from 0.
+fn with_inputs(
     alloc: Global,
-    run: RunOf<'_>,
-    declared: &HeaderDeclarations<'_>,
-    behind: Behind<'_>,
+    net: &Netlist,
+    runs: &Runs,
+    i: usize,
+    text: &[u8],
     scope: Option<&[u8]>,
     clock: &[u8],
-    names: &[&[u8]],
-) -> Result<Comparison, VcdFault>
-    requires inputs { run.runs.now.width ≡ length (circuit run.net.now).inputs }
-    requires from_one { 1 ≤ run.number }
-    requires there { run.number ≤ length run.runs.now.runs }
-    requires lines { behind.line + length behind.rest.now < 2 ^ 64 }
-    requires short { length behind.rest.now < 2 ^ 62 }
-    requires flops { length names.now < 2 ^ 32 }
-    ensures { Answers Want (λ m. m) result
-        (compared_of (circuit run.entry.net.now) (run_at run.entry.runs.now run.entry.number).inputs (header_in behind.entry declared.now) (option_map (λ path. path.now) scope.entry) clock.now (map (λ name. name.now) names.now)) }
+    origin: Origin,
+    flops: FlopComparison,
+) -> Result<Comparison, NoMemory>
+    requires { length text.now < 2 ^ 61 }
+    ensures { IfOk result (λ m. m ≡ whole origin flops (inputs_compared runs.now i (stimulus_in text.now (option_map (λ path. path.now) scope.entry) clock.now (input_keys net.now.raw)))) }
 {
-    let clock = key_parts(clock);
-    let path = clock_scope(scope, clock, declared)?;
-    let source = clock_source(declared, path, clock)?;
-    let flops = found_sources(alloc, declared, path, names)?;
-    let sources = Sources {
-        clock: source,
-        flops: flops.as_slice(),
-    };
-    let comparison = compare_sources(alloc, run, sources, behind)?;
-    Ok(comparison)
+    match compare_inputs(alloc, net, runs, i, text, scope, clock) {
+        Ok(inputs) => Ok(Comparison {
+            origin,
+            flops,
+            inputs,
+        }),
+        Err(want) => {
+            drop(origin);
+            drop(flops);
+            Err(want)
+        }
+    }
 }
 
-/// A run, where so much is read of the declarations.
-fn compare_from<'a>(
-    alloc: Global,
-    run: RunOf<'_>,
-    text: &'a [u8],
-    scope: Option<&[u8]>,
-    clock: &[u8],
-    names: &[&[u8]],
-    begun: &mut HeaderState<'a>,
-) -> Result<Comparison, VcdFault>
-    requires inputs { run.runs.now.width ≡ length (circuit run.net.now).inputs }
-    requires from_one { 1 ≤ run.number }
-    requires there { run.number ≤ length run.runs.now.runs }
-    requires short { length text.now < 2 ^ 61 }
-    requires flops { length names.now < 2 ^ 32 }
-    ensures { Answers Want (λ m. m) result
-        (compared_from (circuit run.entry.net.now) (run_at run.entry.runs.now run.entry.number).inputs (begun_in begun.old) (tokens_from 1 text.now) (option_map (λ path. path.now) scope.entry) clock.now (map (λ name. name.now) names.now)) }
-{
-    let behind = take_words(alloc, 1, text, begun)?;
-    let comparison = compare_declared(alloc, run, &begun.declared, behind, scope, clock, names)?;
-    Ok(comparison)
-}
-
-/// A run of a netlist beside the text of a VCD, in which the flip-flops have these names, in the scope with this path or else in that of
-/// the first variable that has the clock (docs/FORMATS.md, "Value changes (VCD)"). The names are keys. It takes one pass over the text,
-/// and keeps of it what the variables have at one time.
+/// A run of a netlist beside the text of a VCD, which stands in the file with this name, in the scope with this path or else in that of the
+/// first variable that has the clock (docs/FORMATS.md, "Value changes (VCD)"). The flip-flops have these names, which are keys, and the data
+/// inputs their own keys. It takes a pass over the text for either.
+#[tactic(auto, using(crate::proofs::ComparisonLemmas::both_compared, crate::proofs::ComparisonLemmas::flops_faulty))]
 pub fn compare(
     alloc: Global,
     run: RunOf<'_>,
+    file: &[u8],
     text: &[u8],
     scope: Option<&[u8]>,
     clock: &[u8],
@@ -216,10 +108,14 @@ pub fn compare(
     requires short { length text.now < 2 ^ 61 }
     requires flops { length names.now < 2 ^ 32 }
     ensures { Answers Want (λ m. m) result
-        (compared_in (circuit run.entry.net.now) (run_at run.entry.runs.now run.entry.number).inputs text.now (option_map (λ path. path.now) scope.entry) clock.now (map (λ name. name.now) names.now)) }
+        (compared_in run.entry.net.now.raw run.entry.runs.now run.entry.number file.now text.now (option_map (λ path. path.now) scope.entry) clock.now (map (λ name. name.now) names.now)) }
 {
-    let mut begun = nothing(alloc)?;
-    let comparison = compare_from(alloc, run, text, scope, clock, names, &mut begun)?;
+    let net = run.net;
+    let runs = run.runs;
+    let place = run.number as usize - 1;
+    let origin = origin_of(alloc, run, file)?;
+    let flops = compare_flops(alloc, run, text, scope, clock, names)?;
+    let comparison = with_inputs(alloc, net, runs, place, text, scope, clock, origin, flops)?;
     Ok(comparison)
 }
 
@@ -227,7 +123,7 @@ pub fn compare(
 pub(crate) fn agrees(comparison: &Comparison) -> bool
     ensures { result ≡ agrees comparison.now }
 {
-    comparison.differing.len() == 0
+    comparison.flops.differing.len() == 0 && comparison.inputs.differing.len() == 0
 }
 
 /// Whether no run differs from its VCD.

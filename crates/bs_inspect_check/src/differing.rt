@@ -1,8 +1,8 @@
-//! The signals that differ.
+//! The signals that differ: flip-flops or data inputs.
 ghost use Rattle.std.specs.Prelude.{◌≡◌, ◌<◌, ◌^◌, ◌++◌, length, map, filter, take, All, IfOk, OnOk};
 ghost use Rattle.std.specs.List.{flat_map, list_any};
 ghost use Rattle.bs_net_names.specs.Signals.{signal_in};
-ghost use Rattle.bs_inspect_check.specs.Comparison.{differs_at};
+ghost use Rattle.bs_inspect_check.specs.Flops.{differs_at};
 ghost use Rattle.bs_inspect_check.specs.declared.lines.TheConstants.{MAX_LINES};
 ghost use Rattle.bs_inspect_check.specs.Text.{difference_line, difference_text, signal_differs, told_piece};
 
@@ -38,7 +38,7 @@ fn push_difference(text: &mut Vec<u8>, end: &CycleEnd, signal: &Signal<'_>) -> R
     ensures { OnOk result (text.new.items ≡ text.old.items ++ difference_line end.now (signal_in signal.now)) }
 {
     push_rtl_name(text, signal)?;
-    push_piece(text, b" netlist ")?;
+    push_piece(text, b" run ")?;
     push_signal_value(text, &end.state, signal.places.slice())?;
     push_piece(text, b" vcd ")?;
     push_levels(text, &end.levels, signal.places.slice())?;

@@ -2,7 +2,7 @@
 ghost use Rattle.std.specs.Prelude.{◌≡◌, not};
 ghost use Rattle.std.specs.Bool.{beq};
 ghost use Rattle.bs_vcd.specs.Levels.{known_in};
-ghost use Rattle.bs_inspect_check.specs.Comparison.{is_other, is_unknown};
+ghost use Rattle.bs_inspect_check.specs.Flops.{is_other, is_unknown};
 ghost use Rattle.bs_inspect_check.specs.Samples.{flop_level, known_level};
 
 use bs_vcd::level;

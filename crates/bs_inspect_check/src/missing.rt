@@ -16,9 +16,7 @@ use bs_net_names::{Signal, push_rtl_name};
 fn is_missing(comparisons: &[Comparison], place: u32) -> bool
     ensures { result ≡ is_missing comparisons.now place }
 {
-    comparisons
-        .iter()
-        .any(|comparison| !bit_at(&comparison.found, place as usize))
+    comparisons.iter().any(|comparison| !bit_at(&comparison.flops.found, place as usize))
 }
 
 /// Whether some VCD does not have a bit of a signal.

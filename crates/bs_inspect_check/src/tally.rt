@@ -2,7 +2,7 @@
 ghost use Rattle.std.specs.Prelude.{◌≡◌, ◌<◌, ◌≤◌, ◌+◌, ◌^◌, ◌||◌, [], length, IfOk, OnOk};
 ghost use Rattle.bs_stim.specs.declared.limits.TheConstants.{MAX_CYCLES};
 ghost use Rattle.bs_vcd.specs.Levels.{known_in};
-ghost use Rattle.bs_inspect_check.specs.Comparison.{count_unknown, differs};
+ghost use Rattle.bs_inspect_check.specs.Flops.{count_unknown, differs};
 ghost use Rattle.bs_inspect_check.specs.Samples.{levels_by};
 ghost use Rattle.bs_inspect_check.specs.Tallies.{different, is_open, IsSmall, looked, one_if, stepped, tally_in};
 
@@ -14,7 +14,8 @@ use bs_vcd_header::BitSource;
 use std::alloc::Global;
 use std::collections::HashMap;
 
-/// The end of a cycle: its number, from 0, the state of the run there, and what the VCD has of each flip-flop.
+/// The end of a cycle: its number, from 0, the state of the run there, and what the VCD has of each flip-flop; or the same of the data
+/// inputs.
 #[derive(Drop)]
 pub struct CycleEnd {
     pub cycle: u64,

@@ -1,3 +1,7 @@
 pub mod CalledLemmas
 pub mod FitLemmas
 pub mod PatternLemmas
+pub mod CountLemmas
+pub mod ReadingLemmas
+pub mod BehindLemmas
+pub mod NameLemmas

@@ -1,5 +1,5 @@
 -- Whether the trace of a report has as many bits as a netlist has flip-flops and data inputs, and whether names are those of a netlist.
-use Rattle.std.specs.Prelude.{ℕ, ◌==◌, not, Bool, true, List, ◌++◌, length, codes, decimal, Option, Some, None, Result, Ok, Err, if◌then◌else◌}
+use Rattle.std.specs.Prelude.{ℕ, ◌==◌, ◌||◌, not, Bool, true, List, ◌++◌, length, codes, decimal, Option, Some, None, Result, Ok, Err, if◌then◌else◌}
 use Rattle.std.specs.List.{position}
 use Rattle.bs_net.specs.Parts.{Parts}
 use Rattle.bs_net.specs.Netlist.{circuit_of}
@@ -23,9 +23,13 @@ fit_of None None = Ok true
 abbrev pub widths_in : Parts → Report → Result Bool (Reason Case)
 widths_in r report = fit_of (misfit (length r.flops) report.states) (misfit (length (circuit_of r).inputs) report.inputs)
 
--- all of the trace is known, and it fits the netlist
-abbrev pub fit_in : Parts → Report → Result Bool (Reason Case)
-fit_in r report = if is_known report then widths_in r report else Err partial_reason
+-- whether a trace is known as far as it has to be: all of it, where it may not be known in part
+abbrev pub is_enough : (partial : Bool) → Report → Bool
+is_enough partial report = partial || is_known report
+
+-- the trace is known as far as it has to be, and it fits the netlist
+abbrev pub fit_in : (partial : Bool) → Parts → Report → Result Bool (Reason Case)
+fit_in partial r report = if is_enough partial report then widths_in r report else Err partial_reason
 
 abbrev pub known_of : Option (List ℕ) → Result Bool (Reason Case)
 known_of None = Ok true

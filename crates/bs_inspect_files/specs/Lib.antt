@@ -6,3 +6,5 @@ pub mod Paged
 pub mod Words
 pub mod Fits
 pub mod Saying
+pub mod VcdReadings
+pub mod Checked

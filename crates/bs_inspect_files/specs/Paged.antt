@@ -1,5 +1,5 @@
 -- The files of a page, one after the other, and what they make ready: a signature may be given.
-use Rattle.std.specs.Prelude.{ℕ, List, Option, Some, None}
+use Rattle.std.specs.Prelude.{ℕ, false, List, Option, Some, None}
 use Rattle.bs_net.specs.Parts.{Parts}
 use Rattle.bs_scan.specs.Choice.{Chosen}
 use Rattle.bs_top_plan.specs.declared.file.File.TheVariants as files
@@ -21,13 +21,13 @@ pub record PageFiles : Type 0 where
 abbrev pub page_files_in : CodePageFiles → PageFiles
 page_files_in t = record { trace_files = trace_files_in t.trace_files; choice = t.choice }
 
--- behind a report that fits: whether the netlist has these names
+-- behind a report that is known and fits: whether the netlist has these names
 abbrev pub known_step : List (List ℕ) → TraceFiles → Plan Case TraceFiles
 known_step only trace_files = read_as files.Name (known_in trace_files.raw only) >>= λ known. end trace_files
 
 -- behind the signature: the report, and whether the netlist has these names
 abbrev pub picked_step : Parts → List ℕ → List (List ℕ) → Plan Case TraceFiles
-picked_step raw report only = report_step raw report >>= λ trace_files. known_step only trace_files
+picked_step raw report only = report_step false raw report >>= λ trace_files. known_step only trace_files
 
 abbrev pub chosen_step : Parts → Option Chosen → List ℕ → List (List ℕ) → Plan Case PageFiles
 chosen_step raw choice report only = picked_step raw report only >>= λ trace_files. end record { trace_files = trace_files; choice = choice }
@@ -47,7 +47,7 @@ abbrev pub known_step_looked : List (List ℕ) → TraceFiles → Plan NoteCase 
 known_step_looked only trace_files = read_as files.Name (known_noted trace_files.raw only) >>= λ known. end trace_files
 
 abbrev pub picked_step_looked : Parts → List ℕ → List (List ℕ) → Plan NoteCase TraceFiles
-picked_step_looked raw report only = report_step_looked raw report >>= λ trace_files. known_step_looked only trace_files
+picked_step_looked raw report only = report_step_looked false raw report >>= λ trace_files. known_step_looked only trace_files
 
 abbrev pub chosen_step_looked : Parts → Option Chosen → List ℕ → List (List ℕ) → Plan NoteCase PageFiles
 chosen_step_looked raw choice report only =

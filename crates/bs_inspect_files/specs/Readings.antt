@@ -2,7 +2,7 @@
 use Rattle.std.specs.Prelude.{ℕ, ◌==◌, ◌&&◌, ◌||◌, nat_eq, nat_le, not, Bool, true, List, [], ◌++◌, codes, decimal, drop, filter, length, Option, Some, None, Result, Ok, Err, if◌then◌else◌}
 use Rattle.std.specs.List.{starts_with}
 use Rattle.bs_net.specs.Parts.{Parts}
-use Rattle.bs_inspect_netlist.specs.Called.{first_unnamed}
+use Rattle.bs_inspect_names.specs.Called.{first_unnamed}
 use Rattle.bs_inspect_netlist.specs.Order.{order_in, pattern_in}
 use Rattle.bs_inspect_netlist.specs.declared.fault.OrderFault.{OrderFault}
 use Rattle.bs_inspect_netlist.specs.declared.fault.OrderFault.TheVariants as chain

@@ -8,8 +8,7 @@ use Rattle.bs_inspect_notes.specs.Names as N
 use Rattle.bs_top_plan.specs.Plan.{Reason, exactly}
 use Rattle.bs_note_calls.specs.Faults.{partial_text}
 use Rattle.bs_top_files.specs.NoteCases.{NoteCase}
-use Rattle.bs_top_files.specs.Readings.{is_known}
-use Rattle.bs_inspect_files.specs.Fits.{misfit}
+use Rattle.bs_inspect_files.specs.Fits.{is_enough, misfit}
 use Rattle.bs_inspect_values.specs.Saying.{all_keys}
 
 -- ---- a report and a netlist
@@ -23,9 +22,9 @@ fit_said path None None = Ok true
 abbrev pub widths_noted : List ℕ → Parts → Report → Result Bool (Reason NoteCase)
 widths_noted path r report = fit_said path (misfit (length r.flops) report.states) (misfit (length (circuit_of r).inputs) report.inputs)
 
--- all of the trace is known, and it fits the netlist
-abbrev pub fit_noted : List ℕ → Parts → Report → Result Bool (Reason NoteCase)
-fit_noted path r report = if is_known report then widths_noted path r report else Err (exactly (partial_text path))
+-- the trace is known as far as it has to be, and it fits the netlist
+abbrev pub fit_noted : (partial : Bool) → List ℕ → Parts → Report → Result Bool (Reason NoteCase)
+fit_noted partial path r report = if is_enough partial report then widths_noted path r report else Err (exactly (partial_text path))
 
 -- ---- names that are asked for
 

@@ -1,5 +1,5 @@
 -- The files of a request, one after the other, and what they make ready.
-use Rattle.std.specs.Prelude.{ℕ, List}
+use Rattle.std.specs.Prelude.{ℕ, Bool, true, false, List}
 use Rattle.bs_net.specs.Parts.{Parts}
 use Rattle.bs_report.specs.declared.report.Report.{Report}
 use Rattle.bs_scan.specs.Moments.{Moment}
@@ -9,7 +9,7 @@ use Rattle.bs_top_plan.specs.Plan.{Plan, end, ◌>>=◌, read_as}
 use Rattle.bs_scan.specs.Choice.{Chosen}
 use Rattle.bs_top_files.specs.Entry.{netlist_of, report_of, signature_of, stimulus_of}
 use Rattle.bs_top_files.specs.Looking.{netlist_looked, report_looked, signature_looked, stimulus_looked}
-use Rattle.bs_inspect_answers.specs.Entry.{trace_looked, trace_of}
+use Rattle.bs_top_reach.specs.Entry.{trace_looked, trace_of}
 use Rattle.bs_top_files.specs.NoteCases.{NoteCase}
 use Rattle.bs_top_files.specs.Noting.{moment_noted, size_noted}
 use Rattle.bs_top_files.specs.Readings.{moment_in, size_in}
@@ -28,28 +28,28 @@ pub record TraceFiles : Type 0 where
   pub raw : Parts
   pub report : Report
 
--- two files, and last whether the trace of the report fits the netlist
-abbrev pub trace_files_of : (netlist report : List ℕ) → Plan Case TraceFiles
-trace_files_of netlist report = do
+-- two files, and last whether the trace of the report, which may be known in part or not, fits the netlist
+abbrev pub trace_files_of : (partial : Bool) → (netlist report : List ℕ) → Plan Case TraceFiles
+trace_files_of partial netlist report = do
   raw ← netlist_of netlist
   content ← trace_of report
-  fits ← read_as files.Report (fit_in raw content)
+  fits ← read_as files.Report (fit_in partial raw content)
   end record { raw = raw; report = content }
 
 abbrev pub trace_files_in : CodeTraceFiles → TraceFiles
 trace_files_in t = record { raw = t.net.raw; report = t.report }
 
--- the same, and last whether the netlist has these names
+-- the same of a trace that may be known in part, and last whether the netlist has these names
 abbrev pub picked_of : (netlist report : List ℕ) → List (List ℕ) → Plan Case TraceFiles
 picked_of netlist report only = do
-  trace_files ← trace_files_of netlist report
+  trace_files ← trace_files_of true netlist report
   known ← read_as files.Name (known_in trace_files.raw only)
   end trace_files
 
--- the same, then whether a waveform of the trace is not too large, and last whether nets have these names
+-- the same of one that is known, then whether a waveform of the trace is not too large, and last whether nets have these names
 abbrev pub charted_of : (netlist report : List ℕ) → List (List ℕ) → Plan Case TraceFiles
 charted_of netlist report only = do
-  trace_files ← trace_files_of netlist report
+  trace_files ← trace_files_of false netlist report
   small ← read_as files.Report (size_in trace_files.raw trace_files.report)
   known ← read_as files.Name (called_in trace_files.raw only)
   end trace_files
@@ -74,12 +74,12 @@ pub record BenchFiles : Type 0 where
   pub run_files : RunFiles
   pub report : Report
 
--- three files, and last whether the trace of the report fits the netlist
+-- three files, and last whether the trace of the report is known and fits the netlist
 abbrev pub bench_files_of : (netlist stimulus report : List ℕ) → Plan Case BenchFiles
 bench_files_of netlist stimulus report = do
   run_files ← run_files_of netlist stimulus
   content ← trace_of report
-  fits ← read_as files.Report (fit_in run_files.raw content)
+  fits ← read_as files.Report (fit_in false run_files.raw content)
   end record { run_files = run_files; report = content }
 
 abbrev pub bench_files_in : CodeBenchFiles → BenchFiles
@@ -126,22 +126,22 @@ report_files_looked netlist signature report = do
   content ← report_looked report
   end record { raw = raw; choice = choice; report = content }
 
-abbrev pub trace_files_looked : (netlist report : List ℕ) → Plan NoteCase TraceFiles
-trace_files_looked netlist report = do
+abbrev pub trace_files_looked : (partial : Bool) → (netlist report : List ℕ) → Plan NoteCase TraceFiles
+trace_files_looked partial netlist report = do
   raw ← netlist_looked netlist
   content ← trace_looked report
-  fits ← read_as files.Report (fit_noted report raw content)
+  fits ← read_as files.Report (fit_noted partial report raw content)
   end record { raw = raw; report = content }
 
 abbrev pub picked_looked : (netlist report : List ℕ) → List (List ℕ) → Plan NoteCase TraceFiles
 picked_looked netlist report only = do
-  trace_files ← trace_files_looked netlist report
+  trace_files ← trace_files_looked true netlist report
   known ← read_as files.Name (known_noted trace_files.raw only)
   end trace_files
 
 abbrev pub charted_looked : (netlist report : List ℕ) → List (List ℕ) → Plan NoteCase TraceFiles
 charted_looked netlist report only = do
-  trace_files ← trace_files_looked netlist report
+  trace_files ← trace_files_looked false netlist report
   small ← read_as files.Report (size_noted report trace_files.raw trace_files.report)
   known ← read_as files.Name (called_noted trace_files.raw only)
   end trace_files
@@ -156,7 +156,7 @@ abbrev pub bench_files_looked : (netlist stimulus report : List ℕ) → Plan No
 bench_files_looked netlist stimulus report = do
   run_files ← run_files_looked netlist stimulus
   content ← trace_looked report
-  fits ← read_as files.Report (fit_noted report run_files.raw content)
+  fits ← read_as files.Report (fit_noted false report run_files.raw content)
   end record { run_files = run_files; report = content }
 
 abbrev pub one_run_looked : (netlist stimulus : List ℕ) → ℕ → Plan NoteCase OneRun
@@ -168,16 +168,16 @@ one_run_looked netlist stimulus run = do
 -- ---- what is left of a walk once its first files are read
 
 -- behind the netlist
-abbrev pub report_step : Parts → List ℕ → Plan Case TraceFiles
-report_step raw report = do
+abbrev pub report_step : (partial : Bool) → Parts → List ℕ → Plan Case TraceFiles
+report_step partial raw report = do
   content ← trace_of report
-  fits ← read_as files.Report (fit_in raw content)
+  fits ← read_as files.Report (fit_in partial raw content)
   end record { raw = raw; report = content }
 
-abbrev pub report_step_looked : Parts → List ℕ → Plan NoteCase TraceFiles
-report_step_looked raw report = do
+abbrev pub report_step_looked : (partial : Bool) → Parts → List ℕ → Plan NoteCase TraceFiles
+report_step_looked partial raw report = do
   content ← trace_looked report
-  fits ← read_as files.Report (fit_noted report raw content)
+  fits ← read_as files.Report (fit_noted partial report raw content)
   end record { raw = raw; report = content }
 
 abbrev pub runs_step : Parts → List ℕ → Plan Case RunFiles
@@ -214,38 +214,38 @@ report_files_step_looked raw choice report = do
   end record { raw = raw; choice = choice; report = content }
 
 -- behind the report
-abbrev pub fit_step : Parts → Report → Plan Case TraceFiles
-fit_step raw content = do
-  fits ← read_as files.Report (fit_in raw content)
+abbrev pub fit_step : (partial : Bool) → Parts → Report → Plan Case TraceFiles
+fit_step partial raw content = do
+  fits ← read_as files.Report (fit_in partial raw content)
   end record { raw = raw; report = content }
 
-abbrev pub fit_step_looked : List ℕ → Parts → Report → Plan NoteCase TraceFiles
-fit_step_looked path raw content = do
-  fits ← read_as files.Report (fit_noted path raw content)
+abbrev pub fit_step_looked : (partial : Bool) → List ℕ → Parts → Report → Plan NoteCase TraceFiles
+fit_step_looked partial path raw content = do
+  fits ← read_as files.Report (fit_noted partial path raw content)
   end record { raw = raw; report = content }
 
 -- behind recorded runs
 abbrev pub drive_step : RunFiles → List ℕ → Plan Case BenchFiles
 drive_step run_files report = do
   content ← trace_of report
-  fits ← read_as files.Report (fit_in run_files.raw content)
+  fits ← read_as files.Report (fit_in false run_files.raw content)
   end record { run_files = run_files; report = content }
 
 abbrev pub drive_step_looked : RunFiles → List ℕ → Plan NoteCase BenchFiles
 drive_step_looked run_files report = do
   content ← trace_looked report
-  fits ← read_as files.Report (fit_noted report run_files.raw content)
+  fits ← read_as files.Report (fit_noted false report run_files.raw content)
   end record { run_files = run_files; report = content }
 
 -- behind these and the report
 abbrev pub driven_step : RunFiles → Report → Plan Case BenchFiles
 driven_step run_files content = do
-  fits ← read_as files.Report (fit_in run_files.raw content)
+  fits ← read_as files.Report (fit_in false run_files.raw content)
   end record { run_files = run_files; report = content }
 
 abbrev pub driven_step_looked : List ℕ → RunFiles → Report → Plan NoteCase BenchFiles
 driven_step_looked path run_files content = do
-  fits ← read_as files.Report (fit_noted path run_files.raw content)
+  fits ← read_as files.Report (fit_noted false path run_files.raw content)
   end record { run_files = run_files; report = content }
 
 -- behind the trace that fits

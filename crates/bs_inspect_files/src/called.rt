@@ -12,7 +12,7 @@ ghost use Rattle.bs_inspect_files.specs.FlopWords.{unnamed_words};
 
 use crate::flop_refusals::unnamed_refusal;
 use bs_bits::NoMemory;
-use bs_inspect_netlist::first_unnamed;
+use bs_inspect_names::first_unnamed;
 use bs_inspect_notes::net_note;
 use bs_net::{NetId, Netlist, Raw};
 use bs_top_plan::{Unread, both};

@@ -8,7 +8,7 @@ ghost use Rattle.bs_top_plan.specs.Walks.{Reads};
 ghost use Rattle.bs_top_files.specs.NoteCases.{HasNote, NoteSays};
 ghost use Rattle.bs_top_files.specs.Refusals.{CheckSays, HasWords};
 ghost use Rattle.bs_inspect_notes.specs.Names.{name_text, state_text, trace_text};
-ghost use Rattle.bs_inspect_files.specs.Fits.{fit_in, known_in, misfit, widths_in};
+ghost use Rattle.bs_inspect_files.specs.Fits.{fit_in, is_enough, known_in, misfit, widths_in};
 ghost use Rattle.bs_inspect_values.specs.Saying.{all_keys};
 ghost use Rattle.bs_inspect_files.specs.Saying.{fit_noted, known_noted, widths_noted};
 ghost use Rattle.bs_inspect_files.specs.Words.{name_words};
@@ -77,20 +77,28 @@ fn widths_or_diagnostic(
     Ok(())
 }
 
-/// Whether all of a report's trace is known and it fits a netlist, or the diagnostic of it.
+/// Whether a trace is known as far as it has to be: all of it, where it may not be known in part.
+fn is_enough(partial: bool, report: &Report) -> bool
+    ensures { result ≡ is_enough partial report.now }
+{
+    partial || is_known(report)
+}
+
+/// Whether a report's trace, which may be known in part or not, fits a netlist, or the diagnostic of it.
 #[tactic(auto, using(bs_top_files::proofs::NotingLemmas::words_where, bs_top_files::proofs::NotingLemmas::note_where, bs_top_files::proofs::NotingLemmas::words_not, bs_top_files::proofs::NotingLemmas::note_not))]
 pub fn fit_or_diagnostic(
     alloc: Global,
+    partial: bool,
     path: &str,
     net: &Netlist,
     report: &Report,
 ) -> Result<(), Unread>
-    ensures words { Reads CheckSays (λ _. true) (fit_in net.now.raw report.now) (worded result) }
-    ensures note { Reads NoteSays (λ _. true) (fit_noted path.now net.now.raw report.now) (noted result) }
+    ensures words { Reads CheckSays (λ _. true) (fit_in partial net.now.raw report.now) (worded result) }
+    ensures note { Reads NoteSays (λ _. true) (fit_noted partial path.now net.now.raw report.now) (noted result) }
     ensures states { IfOk result (λ _. All (λ s. length s ≡ length (circuit net.now).flops) report.now.states) }
     ensures inputs { IfOk result (λ _. All (λ x. length x ≡ length (circuit net.now).inputs) report.now.inputs) }
 {
-    if is_known(report) {
+    if is_enough(partial, report) {
         widths_or_diagnostic(alloc, path, net, report)
     } else {
         Err(partial_diagnostic(alloc, path))

@@ -16,13 +16,13 @@ ghost use Rattle.bs_inspect_files.specs.FlopWords.{order_words};
 
 use crate::flop_refusals::order_refusal;
 use bs_bits::NoMemory;
-use bs_inspect_answers::line_note;
 use bs_inspect_netlist::{OrderFault, read_order};
 use bs_inspect_notes::Subject;
 use bs_inspect_values::{flop_bytes, key_note};
 use bs_net::Netlist;
 use bs_note_files::Message;
 use bs_top_plan::{Unread, both};
+use bs_top_reach::line_note;
 use std::alloc::Global;
 
 /// What is said of a line that is no name.

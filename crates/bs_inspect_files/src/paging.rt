@@ -50,7 +50,7 @@ fn load_picked_report<S: Shelf>(
     ensures { WalksDiagnosed CheckSays NoteSays S.held S.faults S.leads shelf.old shelf.new
         (picked_step net.raw report.now (map (λ s. s.now) only.now)) (picked_step_looked net.raw report.now (map (λ s. s.now) only.now)) trace_files_in trace_files_in result }
 {
-    match load_reported(alloc, shelf, net, report) {
+    match load_reported(alloc, shelf, false, net, report) {
         Ok(trace_files) => load_known(alloc, shelf, trace_files, only),
         Err(stop) => Err(stop),
     }

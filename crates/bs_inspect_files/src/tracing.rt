@@ -9,7 +9,6 @@ ghost use Rattle.bs_inspect_files.specs.Taken.{bench_files_in, bench_files_looke
 use crate::called::called_or_diagnostic;
 use crate::fits::{fit_or_diagnostic, known_or_diagnostic};
 use crate::ready::{BenchFiles, OneRun, ReportFiles, RunFiles, TraceFiles};
-use bs_inspect_answers::load_trace;
 use bs_net::Netlist;
 use bs_outside::Shelf;
 use bs_report::Report;
@@ -19,24 +18,27 @@ use bs_top_files::{
     size_or_diagnostic,
 };
 use bs_top_plan::{File, WalkStop, settle_diagnostic};
+use bs_top_reach::load_trace;
 use std::alloc::Global;
 
 /// Drops a value, which a walk that stops lets go.
 fn let_go<T: Drop>(_value: T) {}
 
-/// A netlist and a report, where its trace fits.
+/// A netlist and a report, where its trace fits, which may be known in part or not.
 fn load_fitting<S: Shelf>(
     alloc: Global,
     _shelf: &mut S,
+    partial: bool,
     net: Netlist,
     report: Report,
     path: &str,
 ) -> Result<TraceFiles, WalkStop>
     requires { length report.states ≡ length report.inputs + 1 }
     ensures { WalksDiagnosed CheckSays NoteSays S.held S.faults S.leads _shelf.old _shelf.new
-        (fit_step net.raw report) (fit_step_looked path.now net.raw report) trace_files_in trace_files_in result }
+        (fit_step partial net.raw report) (fit_step_looked partial path.now net.raw report) trace_files_in trace_files_in result }
 {
-    match settle_diagnostic(File::Report, fit_or_diagnostic(alloc, path, &net, &report)) {
+    let fits = fit_or_diagnostic(alloc, partial, path, &net, &report);
+    match settle_diagnostic(File::Report, fits) {
         Ok(()) => Ok(TraceFiles { net, report }),
         Err(stop) => {
             let_go(net);
@@ -46,18 +48,20 @@ fn load_fitting<S: Shelf>(
     }
 }
 
-/// A netlist, and the report of a file whose trace fits it, or the answer of a file whose execution does.
+/// A netlist, and the report of a file whose trace, which may be known in part or not, fits it, or the answer of a file whose execution
+/// does.
 pub(crate) fn load_reported<S: Shelf>(
     alloc: Global,
     shelf: &mut S,
+    partial: bool,
     net: Netlist,
     path: &str,
 ) -> Result<TraceFiles, WalkStop>
     ensures { WalksDiagnosed CheckSays NoteSays S.held S.faults S.leads shelf.old shelf.new
-        (report_step net.raw path.now) (report_step_looked net.raw path.now) trace_files_in trace_files_in result }
+        (report_step partial net.raw path.now) (report_step_looked partial net.raw path.now) trace_files_in trace_files_in result }
 {
     match load_trace(alloc, shelf, path) {
-        Ok(report) => load_fitting(alloc, shelf, net, report, path),
+        Ok(report) => load_fitting(alloc, shelf, partial, net, report, path),
         Err(stop) => {
             let_go(net);
             Err(stop)
@@ -65,23 +69,24 @@ pub(crate) fn load_reported<S: Shelf>(
     }
 }
 
-/// A netlist, and a report whose trace fits it.
+/// A netlist, and a report whose trace, which may be known in part or not, fits it.
 fn load_trace_files<S: Shelf>(
     alloc: Global,
     shelf: &mut S,
+    partial: bool,
     netlist: &str,
     report: &str,
 ) -> Result<TraceFiles, WalkStop>
     ensures { WalksDiagnosed CheckSays NoteSays S.held S.faults S.leads shelf.old shelf.new
-        (trace_files_of netlist.now report.now) (trace_files_looked netlist.now report.now) trace_files_in trace_files_in result }
+        (trace_files_of partial netlist.now report.now) (trace_files_looked partial netlist.now report.now) trace_files_in trace_files_in result }
 {
     match load_netlist(alloc, shelf, netlist) {
-        Ok(net) => load_reported(alloc, shelf, net, report),
+        Ok(net) => load_reported(alloc, shelf, partial, net, report),
         Err(stop) => Err(stop),
     }
 }
 
-/// The same, where the netlist has these names.
+/// The same of a trace that may be known in part, where the netlist has these names.
 pub fn load_picked<S: Shelf>(
     alloc: Global,
     shelf: &mut S,
@@ -93,7 +98,7 @@ pub fn load_picked<S: Shelf>(
         (picked_of netlist.now report.now (map (λ s. s.now) only.now)) (picked_looked netlist.now report.now (map (λ s. s.now) only.now))
         trace_files_in trace_files_in result }
 {
-    let trace_files = load_trace_files(alloc, shelf, netlist, report)?;
+    let trace_files = load_trace_files(alloc, shelf, true, netlist, report)?;
     let known = known_or_diagnostic(alloc, &trace_files.net, only);
     match settle_diagnostic(File::Name, known) {
         Ok(()) => Ok(trace_files),
@@ -147,7 +152,7 @@ fn load_small<S: Shelf>(
     }
 }
 
-/// A netlist, and a report whose trace fits it, where a waveform of the trace is not too large, and nets have these names.
+/// A netlist, and a report whose trace is known and fits it, where a waveform of the trace is not too large, and nets have these names.
 pub fn load_charted<S: Shelf>(
     alloc: Global,
     shelf: &mut S,
@@ -159,7 +164,7 @@ pub fn load_charted<S: Shelf>(
         (charted_of netlist.now report.now (map (λ s. s.now) only.now)) (charted_looked netlist.now report.now (map (λ s. s.now) only.now))
         trace_files_in trace_files_in result }
 {
-    match load_trace_files(alloc, shelf, netlist, report) {
+    match load_trace_files(alloc, shelf, false, netlist, report) {
         Ok(trace_files) => load_small(alloc, shelf, trace_files, report, only),
         Err(stop) => Err(stop),
     }
@@ -299,7 +304,7 @@ fn load_driven<S: Shelf>(
     ensures { WalksDiagnosed CheckSays NoteSays S.held S.faults S.leads _shelf.old _shelf.new
         (driven_step (run_files_in run_files) report) (driven_step_looked path.now (run_files_in run_files) report) bench_files_in bench_files_in result }
 {
-    let fits = fit_or_diagnostic(alloc, path, &run_files.net, &report);
+    let fits = fit_or_diagnostic(alloc, false, path, &run_files.net, &report);
     match settle_diagnostic(File::Report, fits) {
         Ok(()) => Ok(BenchFiles { run_files, report }),
         Err(stop) => {

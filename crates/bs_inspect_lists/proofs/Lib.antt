@@ -5,3 +5,8 @@ pub mod ReadingLemmas
 pub mod TriedLemmas
 pub mod EnoughLemmas
 pub mod SignatureLemmas
+pub mod DeckLemmas
+pub mod MixedLemmas
+pub mod KeyLemmas
+pub mod ItemLineLemmas
+pub mod ProposalExamples

@@ -15,7 +15,7 @@ use Rattle.bs_scan.specs.Moments.{Run}
 use Rattle.bs_scan.specs.declared.choice.TheConstants.{MAX_SIGNATURE_BYTES}
 use Rattle.bs_scan.specs.declared.fault.ChoiceFault.{ChoiceFault}
 use Rattle.bs_scan.specs.declared.fault.ChoiceFault.TheVariants.{NoMemory}
-use Rattle.bs_inspect_proposal.specs.Proposal.{flop_keys, mixed_lines}
+use Rattle.bs_inspect_lists.specs.Proposal.{flop_keys, mixed_lines}
 use Rattle.bs_inspect_lists.specs.Reading.{AreBy, choice_in, mixed_choice, of_one}
 use Rattle.bs_inspect_lists.specs.MomentCount.{AreMomentCounts}
 use Rattle.bs_inspect_lists.specs.declared.counting.Aim.TheVariants.{Numbers}

@@ -6,3 +6,9 @@ pub mod Reading
 pub mod MomentCount
 pub mod Spread
 pub mod Lines
+pub mod Deck
+pub mod Mixed
+pub mod Proposal
+pub use Rattle.bs_draws.specs.Draws
+-- what inner functions promise each other
+pub mod Items

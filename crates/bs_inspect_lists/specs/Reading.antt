@@ -8,7 +8,7 @@ use Rattle.bs_scan.specs.ChoiceText.{choice_of}
 use Rattle.bs_scan.specs.Moments.{Run}
 use Rattle.bs_scan.specs.declared.choice.TheConstants.{MAX_SIGNATURE_BYTES}
 use Rattle.bs_scan.specs.declared.fault.ChoiceFault.{ChoiceFault}
-use Rattle.bs_inspect_proposal.specs.Proposal.{flop_keys, mixed_lines}
+use Rattle.bs_inspect_lists.specs.Proposal.{flop_keys, mixed_lines}
 use Rattle.bs_inspect_lists.specs.MomentCount.{AreMomentCounts}
 use Rattle.bs_inspect_lists.specs.declared.counting.Aim.TheVariants.{Numbers}
 use Rattle.bs_inspect_lists.specs.declared.lists.MomentCount.{MomentCount}

@@ -5,7 +5,7 @@ use Rattle.bs_bits.specs.Lines.{line}
 use Rattle.bs_net.specs.Netlist.{circuit_of}
 use Rattle.bs_net.specs.Parts.{Parts}
 use Rattle.bs_stim.specs.Runs.{Stimulus, inputs_of}
-use Rattle.bs_inspect_proposal.specs.Proposal.{flop_keys, mixed_lines}
+use Rattle.bs_inspect_lists.specs.Proposal.{flop_keys, mixed_lines}
 use Rattle.bs_inspect_lists.specs.Enough.{TellsEnough}
 use Rattle.bs_inspect_lists.specs.Lines.{enough_line, lists_text}
 use Rattle.bs_inspect_lists.specs.Reading.{AreBy, mixed_choice}

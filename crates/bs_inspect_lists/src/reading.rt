@@ -6,9 +6,9 @@ ghost use Rattle.bs_scan.specs.declared.fault.ChoiceFault.TheVariants.{NoMemory 
 ghost use Rattle.bs_inspect_lists.specs.Reading.{AreBy, choice_in, mixed_choice};
 
 use crate::counting::Aim;
+use crate::item_lines::mixed_lines;
 use crate::lists::{MomentCount, count_lists};
 use bs_bits::NoMemory;
-use bs_inspect_proposal::mixed_lines;
 use bs_net::Netlist;
 use bs_scan::{Choice, ChoiceFault, MAX_SIGNATURE_BYTES};
 use bs_stim::Runs;

@@ -5,10 +5,10 @@ ghost use Rattle.bs_net.specs.Netlist.{circuit};
 ghost use Rattle.bs_inspect_lists.specs.Signature.{AppendsEnough, AppendsLists, TellsSignature, proposal_text};
 
 use crate::enough::enough;
+use crate::item_lines::mixed_lines;
 use crate::lines::{push_enough, push_text};
 use crate::reading::lists_by;
 use bs_bits::{NoMemory, push_line, push_piece};
-use bs_inspect_proposal::mixed_lines;
 use bs_net::Netlist;
 use bs_stim::Runs;
 use std::alloc::Global;

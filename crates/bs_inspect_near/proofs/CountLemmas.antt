@@ -1,7 +1,7 @@
--- In how many bits the states of 64 lanes differ, place by place.
+-- In how many known bits the states of 64 lanes differ, place by place.
 use Rattle.std.proofs.Common.{◌≡◌, ℕ, zero, suc, ◌<◌, ◌≤◌, ◌+◌, ◌-◌, ◌*◌, ◌/◌, ◌%◌, ◌^◌, Bool, true, false, not, cond, List, length, replicate, get_or}
 use Rattle.std.proofs.Common.{refl, ap, sym, subst, ◌∙◌, arith}
-use Rattle.std.specs.Prelude.{◌==◌, count_by}
+use Rattle.std.specs.Prelude.{◌==◌, ◌&&◌, count_by}
 use Rattle.std.specs.Bool.{beq}
 use Rattle.std.specs.Int.{bit_at}
 use Rattle.std.specs.List.{range_with_len}
@@ -13,11 +13,12 @@ use Rattle.bs_bits.proofs.RangeLemmas.{range_push}
 use Rattle.bs_break.specs.Masks.{has}
 use Rattle.bs_break.proofs.MaskLemmas.{nothing}
 use Rattle.bs_net.specs.declared.limits.TheConstants.{MAX_FLOPS}
+use Rattle.bs_seen.specs.declared.seen.Seen.{Seen}
 use Rattle.bs_lanes_planes.specs.Planes.{bit_place, lane}
 use Rattle.bs_lanes_planes.proofs.PlaneLemmas.{lane_at}
 use Rattle.bs_inspect_near.specs.Counters.{Adds, AddsFour, IsOther, lane_count, one_if}
 use Rattle.bs_inspect_near.specs.Distance.{differs}
-use Rattle.bs_inspect_near.specs.Seen.{IsCount, ShowsPlace}
+use Rattle.bs_inspect_near.specs.Visited.{IsCount, ShowsPlace}
 use Rattle.bs_inspect_near.specs.declared.counts.TheConstants.{DIGITS}
 
 -- ---- a range and a place more
@@ -53,30 +54,43 @@ zeros_count : (n b : ℕ) → lane_count (replicate n 0) b ≡ 0
 zeros_count zero b = refl
 zeros_count (suc n) b = (λ i. one_if (nothing b i) + 2 * zeros_count n b i)
 
-pub count_begin : (planes : List ℕ) (wide word : ℕ) (state : List Bool) (digits : List ℕ) → digits ≡ replicate DIGITS 0 →
-    IsCount planes wide word state 0 digits
-count_begin planes wide word state digits e = record {
+pub count_begin : (planes : List ℕ) (wide word : ℕ) (seen : Seen) (digits : List ℕ) → digits ≡ replicate DIGITS 0 →
+    IsCount planes wide word seen 0 digits
+count_begin planes wide word seen digits e = record {
   size = ap length e ∙ length-replicate {A = ℕ} DIGITS 0;
   each = λ b small. ap (λ (ws : List ℕ). lane_count ws b) e ∙ zeros_count DIGITS b;
 }
 
-pub place_shown : (planes : List ℕ) (wide word : ℕ) (state : List Bool) (place w mask : ℕ) (bit : Bool) → place < length state → word < wide →
-    length planes ≡ length state * wide → w ≡ get_or planes (place * wide + word) w → bit ≡ get_or state place false → IsOther w bit mask →
-    ShowsPlace planes wide word state place mask
-place_shown planes wide word state place w mask bit lt low size at is other = record {
+-- a place whose bit is not known
+pub place_free : (planes : List ℕ) (wide word : ℕ) (seen : Seen) (place : ℕ) (free : Bool) → free ≡ get_or seen.free place false → free ≡ true →
+    ShowsPlace planes wide word seen place 0
+place_free planes wide word seen place free is unknown = record {
   each = λ b small.
-      let here : get_or planes (place * wide + word) 0 ≡ w =
-      sym (at ∙ get_or_default planes (place * wide + word) w 0 (word_fits place wide word (length state) (length planes) lt low size)) in
-      other.each b small
-      ∙ sym (λ j. not (beq ((lane_bit planes wide word (length state) place b small lt ∙ ap (λ (v : ℕ). has v b) here) j) (sym is j)));
+      let state : List Bool = lane wide (length seen.bits) planes (word * 64 + b) in
+      nothing b ∙ sym (ap (λ (t : Bool). not t && not (beq (get_or state place false) (get_or seen.bits place false))) (sym is ∙ unknown));
 }
 
-pub count_more : (planes : List ℕ) (wide word : ℕ) (state : List Bool) (i mask : ℕ) (old new : List ℕ) → i < length state → length state ≤ MAX_FLOPS →
-    ShowsPlace planes wide word state i mask → Adds old mask new → IsCount planes wide word state i old → IsCount planes wide word state (i + 1) new
-count_more planes wide word state i mask old new lt few shows adds so = record {
+-- a place whose bit is known
+pub place_shown : (planes : List ℕ) (wide word : ℕ) (seen : Seen) (place w mask : ℕ) (bit free : Bool) → place < length seen.bits → word < wide →
+    length planes ≡ length seen.bits * wide → free ≡ get_or seen.free place false → free ≡ false → w ≡ get_or planes (place * wide + word) w →
+    bit ≡ get_or seen.bits place false → IsOther w bit mask → ShowsPlace planes wide word seen place mask
+place_shown planes wide word seen place w mask bit free lt low size free_is known at is other = record {
+  each = λ b small.
+      let state : List Bool = lane wide (length seen.bits) planes (word * 64 + b) in
+      let here : get_or planes (place * wide + word) 0 ≡ w =
+      sym (at ∙ get_or_default planes (place * wide + word) w 0 (word_fits place wide word (length seen.bits) (length planes) lt low size)) in
+      let same : has mask b ≡ not (beq (get_or state place false) (get_or seen.bits place false)) =
+      other.each b small
+      ∙ sym (λ j. not (beq ((lane_bit planes wide word (length seen.bits) place b small lt ∙ ap (λ (v : ℕ). has v b) here) j) (sym is j))) in
+      same ∙ sym (ap (λ (t : Bool). not t && not (beq (get_or state place false) (get_or seen.bits place false))) (sym free_is ∙ known));
+}
+
+pub count_more : (planes : List ℕ) (wide word : ℕ) (seen : Seen) (i mask : ℕ) (old new : List ℕ) → i < length seen.bits → length seen.bits ≤ MAX_FLOPS →
+    ShowsPlace planes wide word seen i mask → Adds old mask new → IsCount planes wide word seen i old → IsCount planes wide word seen (i + 1) new
+count_more planes wide word seen i mask old new lt few shows adds so = record {
   size = adds.size ∙ so.size;
   each = λ b small.
-      let p : ℕ → Bool = differs (lane wide (length state) planes (word * 64 + b)) state in
+      let p : ℕ → Bool = differs (lane wide (length seen.bits) planes (word * 64 + b)) seen in
       let full : 8192 ≡ 2 ^ length old = ap (λ (n : ℕ). 2 ^ n) (sym so.size) in
       let room : lane_count old b + 1 < 2 ^ length old = omega (arith, so.each b small, count_within p i, lt, few, full) in
       adds.each b small room ∙ ((λ j. so.each b small j + one_if (shows.each b small j)) ∙ sym (count_push p i));
@@ -84,13 +98,13 @@ count_more planes wide word state i mask old new lt few shows adds so = record {
 
 -- ---- four places at once
 
-pub fours_begin : (planes : List ℕ) (wide word : ℕ) (state : List Bool) (digits : List ℕ) → digits ≡ replicate DIGITS 0 →
-    IsCount planes wide word state (4 * 0) digits
-fours_begin planes wide word state digits e = count_begin planes wide word state digits e
+pub fours_begin : (planes : List ℕ) (wide word : ℕ) (seen : Seen) (digits : List ℕ) → digits ≡ replicate DIGITS 0 →
+    IsCount planes wide word seen (4 * 0) digits
+fours_begin planes wide word seen digits e = count_begin planes wide word seen digits e
 
-pub fours_room : (planes : List ℕ) (wide word : ℕ) (state : List Bool) (n : ℕ) (digits : List ℕ) → IsCount planes wide word state n digits →
+pub fours_room : (planes : List ℕ) (wide word : ℕ) (seen : Seen) (n : ℕ) (digits : List ℕ) → IsCount planes wide word seen n digits →
     2 ≤ length digits
-fours_room planes wide word state n digits so = omega (arith, so.size)
+fours_room planes wide word seen n digits so = omega (arith, so.size)
 
 count_four : (p : ℕ → Bool) (n a b c : ℕ) → a ≡ n + 1 → b ≡ n + 2 → c ≡ n + 3 →
     count_by p (range_with_len 0 (n + 4)) ≡ count_by p (range_with_len 0 n) + (one_if (p n) + (one_if (p a) + (one_if (p b) + one_if (p c))))
@@ -105,14 +119,14 @@ count_four p n a b c e f g =
     let first : count a ≡ count n + one_if (p n) = ap count e ∙ count_push p n in
     omega (arith, last, third, second, first)
 
-pub fours_more : (planes : List ℕ) (wide word : ℕ) (state : List Bool) (k a b c d : ℕ) (old new : List ℕ) → 4 * k + 3 < length state →
-    length state ≤ MAX_FLOPS → ShowsPlace planes wide word state (4 * k) a → ShowsPlace planes wide word state (4 * k + 1) b →
-    ShowsPlace planes wide word state (4 * k + 2) c → ShowsPlace planes wide word state (4 * k + 3) d → AddsFour old a b c d new →
-    IsCount planes wide word state (4 * k) old → IsCount planes wide word state (4 * (k + 1)) new
-fours_more planes wide word state k a b c d old new lt few first second third fourth adds so = record {
+pub fours_more : (planes : List ℕ) (wide word : ℕ) (seen : Seen) (k a b c d : ℕ) (old new : List ℕ) → 4 * k + 3 < length seen.bits →
+    length seen.bits ≤ MAX_FLOPS → ShowsPlace planes wide word seen (4 * k) a → ShowsPlace planes wide word seen (4 * k + 1) b →
+    ShowsPlace planes wide word seen (4 * k + 2) c → ShowsPlace planes wide word seen (4 * k + 3) d → AddsFour old a b c d new →
+    IsCount planes wide word seen (4 * k) old → IsCount planes wide word seen (4 * (k + 1)) new
+fours_more planes wide word seen k a b c d old new lt few first second third fourth adds so = record {
   size = adds.size ∙ so.size;
   each = λ l small.
-      let p : ℕ → Bool = differs (lane wide (length state) planes (word * 64 + l)) state in
+      let p : ℕ → Bool = differs (lane wide (length seen.bits) planes (word * 64 + l)) seen in
       let full : 8192 ≡ 2 ^ length old = ap (λ (n : ℕ). 2 ^ n) (sym so.size) in
       let room : lane_count old l + 4 < 2 ^ length old = omega (arith, so.each l small, count_within p (4 * k), lt, few, full) in
       let next : 4 * (k + 1) ≡ 4 * k + 4 = omega arith in
@@ -122,16 +136,16 @@ fours_more planes wide word state k a b c d old new lt few first second third fo
       ∙ ap (λ (n : ℕ). count_by p (range_with_len 0 n)) (sym next)));
 }
 
-pub fours_all : (planes : List ℕ) (wide word : ℕ) (state : List Bool) (k fours : ℕ) (digits : List ℕ) → fours ≡ length state / 4 → fours ≤ k → k ≤ fours →
-    IsCount planes wide word state (4 * k) digits → IsCount planes wide word state (4 * (length state / 4)) digits
-fours_all planes wide word state k fours digits e le ge so =
-    let same : k ≡ length state / 4 = omega (arith, e, le, ge) in subst (λ (n : ℕ). IsCount planes wide word state (4 * n) digits) same so
+pub fours_all : (planes : List ℕ) (wide word : ℕ) (seen : Seen) (k fours : ℕ) (digits : List ℕ) → fours ≡ length seen.bits / 4 → fours ≤ k → k ≤ fours →
+    IsCount planes wide word seen (4 * k) digits → IsCount planes wide word seen (4 * (length seen.bits / 4)) digits
+fours_all planes wide word seen k fours digits e le ge so =
+    let same : k ≡ length seen.bits / 4 = omega (arith, e, le, ge) in subst (λ (n : ℕ). IsCount planes wide word seen (4 * n) digits) same so
 
-pub rest_begin : (planes : List ℕ) (wide word : ℕ) (state : List Bool) (start : ℕ) (digits : List ℕ) → start ≡ 4 * (length state / 4) →
-    IsCount planes wide word state (4 * (length state / 4)) digits → IsCount planes wide word state start digits
-rest_begin planes wide word state start digits e so = subst (λ (n : ℕ). IsCount planes wide word state n digits) (sym e) so
+pub rest_begin : (planes : List ℕ) (wide word : ℕ) (seen : Seen) (start : ℕ) (digits : List ℕ) → start ≡ 4 * (length seen.bits / 4) →
+    IsCount planes wide word seen (4 * (length seen.bits / 4)) digits → IsCount planes wide word seen start digits
+rest_begin planes wide word seen start digits e so = subst (λ (n : ℕ). IsCount planes wide word seen n digits) (sym e) so
 
-pub count_all : (planes : List ℕ) (wide word : ℕ) (state : List Bool) (i : ℕ) (digits : List ℕ) → length state ≤ i → i ≤ length state →
-    IsCount planes wide word state i digits → IsCount planes wide word state (length state) digits
-count_all planes wide word state i digits le ge so =
-    let e : i ≡ length state = omega (arith, le, ge) in subst (λ (n : ℕ). IsCount planes wide word state n digits) e so
+pub count_all : (planes : List ℕ) (wide word : ℕ) (seen : Seen) (i : ℕ) (digits : List ℕ) → length seen.bits ≤ i → i ≤ length seen.bits →
+    IsCount planes wide word seen i digits → IsCount planes wide word seen (length seen.bits) digits
+count_all planes wide word seen i digits le ge so =
+    let e : i ≡ length seen.bits = omega (arith, le, ge) in subst (λ (n : ℕ). IsCount planes wide word seen n digits) e so

@@ -6,12 +6,13 @@ use Rattle.std.proofs.lemmas.Bool.{and_parts, cases_eq, cases_lt, eq-eqb, eqb-tr
 use Rattle.std.proofs.lemmas.List.{get_or-map, length-map}
 use Rattle.bs_net.specs.Circuit.{Circuit}
 use Rattle.bs_net.specs.declared.limits.TheConstants.{MAX_FLOPS}
+use Rattle.bs_seen.specs.declared.seen.Seen.{Seen}
 use Rattle.bs_stim.specs.Runs.{Recorded, Stimulus, inputs_of, no_run, run_at}
 use Rattle.bs_scan.specs.Moments.{IsMoment, Moment, Run, moment, run_of, state_at, state_of}
 use Rattle.bs_inspect_near.specs.Counters.{lane_count}
 use Rattle.bs_inspect_near.specs.Distance.{distance}
 use Rattle.bs_inspect_near.specs.Nearest.{IsNoNearer, moment_of}
-use Rattle.bs_inspect_near.specs.Seen.{BestIs, IsBest, IsNearestSeen, IsSeen, ShowsCounts, is_nearer, is_viewed, lane_run, nearer}
+use Rattle.bs_inspect_near.specs.Visited.{BestIs, IsBest, IsNearestVisited, IsVisited, ShowsCounts, is_nearer, is_viewed, lane_run, nearer}
 use Rattle.bs_inspect_near.specs.declared.search.Near.{Near}
 
 -- ---- a lane
@@ -68,10 +69,10 @@ lane_moment runs first k cycle has = record {
 
 -- ---- which moments come with a lane
 
-with_lane : (cycle first k : ℕ) (m : Moment) → IsSeen cycle (first + k + 1) m → IsSeen cycle (first + k) m ⊎ ((m.cycle ≡ cycle) × (m.run ≡ first + k + 1))
-with_lane cycle first k m seen = by seen.either
+with_lane : (cycle first k : ℕ) (m : Moment) → IsVisited cycle (first + k + 1) m → IsVisited cycle (first + k) m ⊎ ((m.cycle ≡ cycle) × (m.run ≡ first + k + 1))
+with_lane cycle first k m visited = by visited.either
   where
-    by : (m.cycle < cycle) ⊎ ((m.cycle ≡ cycle) × (m.run ≤ first + k + 1)) → IsSeen cycle (first + k) m ⊎ ((m.cycle ≡ cycle) × (m.run ≡ first + k + 1))
+    by : (m.cycle < cycle) ⊎ ((m.cycle ≡ cycle) × (m.run ≤ first + k + 1)) → IsVisited cycle (first + k) m ⊎ ((m.cycle ≡ cycle) × (m.run ≡ first + k + 1))
     by (inl less) = inl (record { either = inl less })
     by (inr p) =
         ⊎_elim (λ (same : m.run ≡ first + k + 1). inr (p.0, same))
@@ -87,30 +88,30 @@ moment_viewed runs cycle first k m there at number =
 
 -- ---- a lane that is not looked at
 
-pub best_passed : (c : Circuit) (runs : List Run) (state : List Bool) (cycle first k : ℕ) (is : Bool) (best : Option Near) →
-    is ≡ is_viewed runs first cycle k → is ≡ false → IsBest c runs state cycle (first + k) best → IsBest c runs state cycle (first + k + 1) best
-best_passed c runs state cycle first k is best e is_not so = record { is = by best so.is }
+pub best_passed : (c : Circuit) (runs : List Run) (seen : Seen) (cycle first k : ℕ) (is : Bool) (best : Option Near) →
+    is ≡ is_viewed runs first cycle k → is ≡ false → IsBest c runs seen cycle (first + k) best → IsBest c runs seen cycle (first + k + 1) best
+best_passed c runs seen cycle first k is best e is_not so = record { is = by best so.is }
   where
-    before : (m : Moment) → IsMoment runs m → IsSeen cycle (first + k + 1) m → IsSeen cycle (first + k) m
-    before m there seen =
-        ⊎_elim (λ (old : IsSeen cycle (first + k) m). old)
+    before : (m : Moment) → IsMoment runs m → IsVisited cycle (first + k + 1) m → IsVisited cycle (first + k) m
+    before m there visited =
+        ⊎_elim (λ (old : IsVisited cycle (first + k) m). old)
         (λ (p : (m.cycle ≡ cycle) × (m.run ≡ first + k + 1)).
-        absurd (true≢false (sym (moment_viewed runs cycle first k m there p.0 p.1) ∙ (sym e ∙ is_not)))) (with_lane cycle first k m seen)
+        absurd (true≢false (sym (moment_viewed runs cycle first k m there p.0 p.1) ∙ (sym e ∙ is_not)))) (with_lane cycle first k m visited)
 
-    by : (o : Option Near) → BestIs c runs state cycle (first + k) o → BestIs c runs state cycle (first + k + 1) o
-    by None none = record { is = λ m there seen. none.is m there (before m there seen) }
+    by : (o : Option Near) → BestIs c runs seen cycle (first + k) o → BestIs c runs seen cycle (first + k + 1) o
+    by None none = record { is = λ m there visited. none.is m there (before m there visited) }
     by (Some near) near_is = record {
       recorded = near_is.recorded;
       counted = near_is.counted;
-      seen = near_is.seen;
-      nearest = λ m there seen. near_is.nearest m there (before m there seen);
+      visited = near_is.visited;
+      nearest = λ m there visited. near_is.nearest m there (before m there visited);
     }
 
 -- ---- a lane that is looked at
 
-pub count_few : (c : Circuit) (runs : List Run) (first cycle k : ℕ) (state : List Bool) (digits : List ℕ) → k < 64 →
-    ShowsCounts c runs first cycle state digits → lane_count digits k ≤ MAX_FLOPS
-count_few c runs first cycle k state digits small shows = shows.few k small
+pub count_few : (c : Circuit) (runs : List Run) (first cycle k : ℕ) (seen : Seen) (digits : List ℕ) → k < 64 →
+    ShowsCounts c runs first cycle seen digits → lane_count digits k ≤ MAX_FLOPS
+count_few c runs first cycle k seen digits small shows = shows.few k small
 
 -- one is as near as the other, and its run and cycle come no later
 no_nearer : (near : Near) (bits : ℕ) (m : Moment) → near.count ≡ bits → near.run ≡ m.run → near.cycle ≡ m.cycle → IsNoNearer near bits m
@@ -177,78 +178,78 @@ not_nearer old new is_not later = record {
 abbrev pub made : ℕ → ℕ → ℕ → Near
 made run cycle count = record { run = run; cycle = cycle; count = count }
 
-pub best_more : (c : Circuit) (runs : List Run) (state : List Bool) (cycle first k count : ℕ) (digits : List ℕ) (is : Bool) (best : Option Near) (new after : Near) →
-    k < 64 → is ≡ is_viewed runs first cycle k → is ≡ true → ShowsCounts c runs first cycle state digits → count ≡ lane_count digits k →
-    new ≡ made (first + k + 1) cycle count → after ≡ nearer best new → IsBest c runs state cycle (first + k) best →
-    IsBest c runs state cycle (first + k + 1) (Some after)
-best_more c runs state cycle first k count digits is best new after small e is_so shows counted is_made goes so =
-    subst (λ (near : Near). IsBest c runs state cycle (first + k + 1) (Some near)) (sym (goes ∙ ap (nearer best) is_made)) (record { is = by best so.is })
+pub best_more : (c : Circuit) (runs : List Run) (seen : Seen) (cycle first k count : ℕ) (digits : List ℕ) (is : Bool) (best : Option Near) (new after : Near) →
+    k < 64 → is ≡ is_viewed runs first cycle k → is ≡ true → ShowsCounts c runs first cycle seen digits → count ≡ lane_count digits k →
+    new ≡ made (first + k + 1) cycle count → after ≡ nearer best new → IsBest c runs seen cycle (first + k) best →
+    IsBest c runs seen cycle (first + k + 1) (Some after)
+best_more c runs seen cycle first k count digits is best new after small e is_so shows counted is_made goes so =
+    subst (λ (near : Near). IsBest c runs seen cycle (first + k + 1) (Some near)) (sym (goes ∙ ap (nearer best) is_made)) (record { is = by best so.is })
   where
     has : HasRun runs first cycle k
     has = viewed_run runs first cycle k (sym e ∙ is_so)
 
     -- the moment of the lane differs in so many bits
-    here : (run at : ℕ) → at ≡ cycle → run ≡ first + k + 1 → count ≡ distance (state_at c (run_of runs run) at) state
+    here : (run at : ℕ) → at ≡ cycle → run ≡ first + k + 1 → count ≡ distance (state_at c (run_of runs run) at) seen
     here run at same number =
         let place : run - 1 ≡ first + k = omega (arith, number) in
         counted
-        ∙ (shows.each k small has.there has.lasts ∙ (λ i. distance (state_at c (get_or runs (sym place i) []) (sym same i)) state))
+        ∙ (shows.each k small has.there has.lasts ∙ (λ i. distance (state_at c (get_or runs (sym place i) []) (sym same i)) seen))
 
-    new_seen : ((m : Moment) → IsMoment runs m → IsSeen cycle (first + k) m → IsNoNearer (made (first + k + 1) cycle count) (distance (state_of c runs m) state) m) →
-        IsNearestSeen c runs state cycle (first + k + 1) (made (first + k + 1) cycle count)
-    new_seen older = record {
+    new_visited : ((m : Moment) → IsMoment runs m → IsVisited cycle (first + k) m → IsNoNearer (made (first + k + 1) cycle count) (distance (state_of c runs m) seen) m) →
+        IsNearestVisited c runs seen cycle (first + k + 1) (made (first + k + 1) cycle count)
+    new_visited older = record {
       recorded = lane_moment runs first k cycle has;
       counted = here (first + k + 1) cycle refl refl;
-      seen = omega arith;
+      visited = omega arith;
       nearest =
-          λ m there seen.
-          ⊎_elim (λ (old : IsSeen cycle (first + k) m). older m there old)
+          λ m there visited.
+          ⊎_elim (λ (old : IsVisited cycle (first + k) m). older m there old)
           (λ (p : (m.cycle ≡ cycle) × (m.run ≡ first + k + 1)).
-          no_nearer (made (first + k + 1) cycle count) (distance (state_of c runs m) state) m (here m.run m.cycle p.0 p.1) (sym p.1) (sym p.0)) (with_lane cycle first k m seen);
+          no_nearer (made (first + k + 1) cycle count) (distance (state_of c runs m) seen) m (here m.run m.cycle p.0 p.1) (sym p.1) (sym p.0)) (with_lane cycle first k m visited);
     }
 
-    old_seen : (old : Near) → is_nearer (made (first + k + 1) cycle count) old ≡ false → IsNearestSeen c runs state cycle (first + k) old → IsNearestSeen c runs state cycle (first + k + 1) old
-    old_seen old is_not old_is = record {
+    old_visited : (old : Near) → is_nearer (made (first + k + 1) cycle count) old ≡ false → IsNearestVisited c runs seen cycle (first + k) old → IsNearestVisited c runs seen cycle (first + k + 1) old
+    old_visited old is_not old_is = record {
       recorded = old_is.recorded;
       counted = old_is.counted;
-      seen = old_is.seen;
+      visited = old_is.visited;
       nearest =
-          λ m there seen.
-          ⊎_elim (λ (before : IsSeen cycle (first + k) m). old_is.nearest m there before)
+          λ m there visited.
+          ⊎_elim (λ (before : IsVisited cycle (first + k) m). old_is.nearest m there before)
           (λ (p : (m.cycle ≡ cycle) × (m.run ≡ first + k + 1)).
-          let none : IsNoNearer old count (moment (first + k + 1) cycle) = not_nearer old (made (first + k + 1) cycle count) is_not old_is.seen in
-          let bits : count ≡ distance (state_of c runs m) state = here m.run m.cycle p.0 p.1 in
+          let none : IsNoNearer old count (moment (first + k + 1) cycle) = not_nearer old (made (first + k + 1) cycle count) is_not old_is.visited in
+          let bits : count ≡ distance (state_of c runs m) seen = here m.run m.cycle p.0 p.1 in
           record {
             more = omega (arith, none.more, bits);
             lower = λ same. omega (arith, none.lower (bits ∙ same), p.1);
-            earlier = λ same run. omega (arith, old_is.seen, p.0);
+            earlier = λ same run. omega (arith, old_is.visited, p.0);
           })
-          (with_lane cycle first k m seen);
+          (with_lane cycle first k m visited);
     }
 
-    chosen : (old : Near) (t : Bool) → is_nearer (made (first + k + 1) cycle count) old ≡ t → IsNearestSeen c runs state cycle (first + k) old →
-        IsNearestSeen c runs state cycle (first + k + 1) (cond t (made (first + k + 1) cycle count) old)
+    chosen : (old : Near) (t : Bool) → is_nearer (made (first + k + 1) cycle count) old ≡ t → IsNearestVisited c runs seen cycle (first + k) old →
+        IsNearestVisited c runs seen cycle (first + k + 1) (cond t (made (first + k + 1) cycle count) old)
     chosen old true h old_is =
-        new_seen (λ m there seen. nearer_is old (made (first + k + 1) cycle count) (distance (state_of c runs m) state) m h (old_is.nearest m there seen))
-    chosen old false h old_is = old_seen old h old_is
+        new_visited (λ m there visited. nearer_is old (made (first + k + 1) cycle count) (distance (state_of c runs m) seen) m h (old_is.nearest m there visited))
+    chosen old false h old_is = old_visited old h old_is
 
-    by : (o : Option Near) → BestIs c runs state cycle (first + k) o → BestIs c runs state cycle (first + k + 1) (Some (nearer o (made (first + k + 1) cycle count)))
-    by None none = new_seen (λ m there seen. absurd (none.is m there seen))
+    by : (o : Option Near) → BestIs c runs seen cycle (first + k) o → BestIs c runs seen cycle (first + k + 1) (Some (nearer o (made (first + k + 1) cycle count)))
+    by None none = new_visited (λ m there visited. absurd (none.is m there visited))
     by (Some old) old_is = chosen old (is_nearer (made (first + k + 1) cycle count) old) refl old_is
 
 -- ---- all lanes of a word
 
-pub lanes_begin : (c : Circuit) (runs : List Run) (state : List Bool) (cycle first : ℕ) (best : Option Near) → IsBest c runs state cycle first best →
-    IsBest c runs state cycle (first + 0) best
-lanes_begin c runs state cycle first best so =
-    let e : first ≡ first + 0 = omega arith in subst (λ (n : ℕ). IsBest c runs state cycle n best) e so
+pub lanes_begin : (c : Circuit) (runs : List Run) (seen : Seen) (cycle first : ℕ) (best : Option Near) → IsBest c runs seen cycle first best →
+    IsBest c runs seen cycle (first + 0) best
+lanes_begin c runs seen cycle first best so =
+    let e : first ≡ first + 0 = omega arith in subst (λ (n : ℕ). IsBest c runs seen cycle n best) e so
 
-pub lanes_next : (c : Circuit) (runs : List Run) (state : List Bool) (cycle first k : ℕ) (best : Option Near) →
-    IsBest c runs state cycle (first + k + 1) best → IsBest c runs state cycle (first + (k + 1)) best
-lanes_next c runs state cycle first k best so =
-    let e : first + k + 1 ≡ first + (k + 1) = omega arith in subst (λ (n : ℕ). IsBest c runs state cycle n best) e so
+pub lanes_next : (c : Circuit) (runs : List Run) (seen : Seen) (cycle first k : ℕ) (best : Option Near) →
+    IsBest c runs seen cycle (first + k + 1) best → IsBest c runs seen cycle (first + (k + 1)) best
+lanes_next c runs seen cycle first k best so =
+    let e : first + k + 1 ≡ first + (k + 1) = omega arith in subst (λ (n : ℕ). IsBest c runs seen cycle n best) e so
 
-pub lanes_all : (c : Circuit) (runs : List Run) (state : List Bool) (cycle first k : ℕ) (best : Option Near) → 64 ≤ k → k ≤ 64 →
-    IsBest c runs state cycle (first + k) best → IsBest c runs state cycle (first + 64) best
-lanes_all c runs state cycle first k best le ge so =
-    let e : first + k ≡ first + 64 = omega (arith, le, ge) in subst (λ (n : ℕ). IsBest c runs state cycle n best) e so
+pub lanes_all : (c : Circuit) (runs : List Run) (seen : Seen) (cycle first k : ℕ) (best : Option Near) → 64 ≤ k → k ≤ 64 →
+    IsBest c runs seen cycle (first + k) best → IsBest c runs seen cycle (first + 64) best
+lanes_all c runs seen cycle first k best le ge so =
+    let e : first + k ≡ first + 64 = omega (arith, le, ge) in subst (λ (n : ℕ). IsBest c runs seen cycle n best) e so

@@ -8,3 +8,4 @@ pub mod HintLemmas
 pub mod MomentLemmas
 pub mod TextLemmas
 pub mod NearLemmas
+pub mod Examples

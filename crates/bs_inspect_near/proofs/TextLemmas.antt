@@ -7,6 +7,7 @@ use Rattle.std.proofs.lemmas.Grind.{flat_map-append}
 use Rattle.std.proofs.lemmas.List.{get_or-map, length_push, take-append-le}
 use Rattle.std.proofs.lemmas.List.Elements.{filter-append}
 use Rattle.bs_bits.proofs.RangeLemmas.{range_push}
+use Rattle.bs_seen.specs.declared.seen.Seen.{Seen}
 use Rattle.bs_inspect_near.specs.Distance.{differing, differs}
 use Rattle.bs_inspect_near.specs.Counters.{one_if}
 use Rattle.bs_inspect_near.specs.Told.{told_piece}
@@ -75,8 +76,8 @@ told_more line_of p i told r b old text after is one goes so = record {
       (sym (ap (λ (ys : List ℕ). flat_map line_of (take MAX_PLACES ys)) (picked_more p i b is) ∙ cut line_of (picked p i) i b))));
 }
 
-pub told_all : (line_of : ℕ → List ℕ) (recorded state : List Bool) (i told : ℕ) (old text : List ℕ) → length state ≤ i → i ≤ length state →
-    ToldSo line_of (differs recorded state) i told old text → text ≡ old ++ flat_map line_of (take MAX_PLACES (differing recorded state))
-told_all line_of recorded state i told old text le ge so =
-    let e : i ≡ length state = omega (arith, le, ge) in
-    so.text ∙ ap (λ (n : ℕ). old ++ flat_map line_of (take MAX_PLACES (filter (differs recorded state) (range_with_len 0 n)))) e
+pub told_all : (line_of : ℕ → List ℕ) (recorded : List Bool) (seen : Seen) (i told : ℕ) (old text : List ℕ) → length seen.bits ≤ i → i ≤ length seen.bits →
+    ToldSo line_of (differs recorded seen) i told old text → text ≡ old ++ flat_map line_of (take MAX_PLACES (differing recorded seen))
+told_all line_of recorded seen i told old text le ge so =
+    let e : i ≡ length seen.bits = omega (arith, le, ge) in
+    so.text ∙ ap (λ (n : ℕ). old ++ flat_map line_of (take MAX_PLACES (filter (differs recorded seen) (range_with_len 0 n)))) e

@@ -1,17 +1,22 @@
--- In how many bits two states differ.
-use Rattle.std.specs.Prelude.{ℕ, not, Bool, List, length, count_by, filter}
+-- In how many of the known bits a state differs from what is seen of another.
+use Rattle.std.specs.Prelude.{ℕ, ◌&&◌, not, Bool, false, List, length, count_by, filter, slice_index_or}
 use Rattle.std.specs.Bool.{beq}
 use Rattle.std.specs.List.{range_with_len}
 use Rattle.bs_net.specs.Circuit.{bit_at}
+use Rattle.bs_seen.specs.declared.seen.Seen.{Seen}
 
--- the bits at a place differ
-abbrev pub differs : List Bool → List Bool → ℕ → Bool
-differs s t place = not (beq (bit_at s place) (bit_at t place))
+-- the bit at a place is not known
+abbrev pub is_free : Seen → ℕ → Bool
+is_free seen place = slice_index_or seen.free place false
+
+-- the bit at a place is known, and the state has another one
+abbrev pub differs : List Bool → Seen → ℕ → Bool
+differs state seen place = not (is_free seen place) && not (beq (bit_at state place) (bit_at seen.bits place))
 
 -- the places at which they differ, in order
-abbrev pub differing : List Bool → List Bool → List ℕ
-differing s t = filter (differs s t) (range_with_len 0 (length t))
+abbrev pub differing : List Bool → Seen → List ℕ
+differing state seen = filter (differs state seen) (range_with_len 0 (length seen.bits))
 
 -- how many these are
-abbrev pub distance : List Bool → List Bool → ℕ
-distance s t = count_by (differs s t) (range_with_len 0 (length t))
+abbrev pub distance : List Bool → Seen → ℕ
+distance state seen = count_by (differs state seen) (range_with_len 0 (length seen.bits))

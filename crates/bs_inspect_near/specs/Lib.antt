@@ -5,5 +5,5 @@ pub mod Nearest
 pub mod Hints
 pub mod Tells
 -- what inner functions promise each other
-pub mod Seen
+pub mod Visited
 pub mod Told

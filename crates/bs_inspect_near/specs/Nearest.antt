@@ -1,6 +1,8 @@
--- The recorded moment whose state differs in the fewest bits (docs/FORMATS.md, "Texts of `backspace_inspect`").
-use Rattle.std.specs.Prelude.{◌≡◌, ℕ, ◌<◌, ◌≤◌, Bool, List, [], length, slice_index_or}
+-- The recorded moment whose state differs in the fewest known bits (docs/FORMATS.md, "Texts of `backspace_inspect`").
+use Rattle.std.specs.Prelude.{◌≡◌, ℕ, ◌<◌, ◌≤◌, List, [], length, slice_index_or}
 use Rattle.bs_net.specs.Circuit.{Circuit}
+use Rattle.bs_seen.specs.declared.seen.Seen.{Seen}
+use Rattle.bs_seen.specs.Seen.{whole}
 use Rattle.bs_scan.specs.Moments.{IsMoment, Moment, Run, moment, state_of}
 use Rattle.bs_inspect_near.specs.Distance.{distance}
 use Rattle.bs_inspect_near.specs.declared.search.Near.{Near}
@@ -15,16 +17,20 @@ pub record IsNoNearer (near : Near) (bits : ℕ) (m : Moment) : Type 0 where
   pub lower : bits ≡ near.count → near.run ≤ m.run
   pub earlier : bits ≡ near.count → m.run ≡ near.run → near.cycle ≤ m.cycle
 
--- the moment of the runs that is nearest to a state: that of the lowest run, and there the earliest, with how many bits differ
-pub record IsNearest (c : Circuit) (runs : List Run) (state : List Bool) (near : Near) : Type 0 where
+-- the moment of the runs that is nearest to what is seen of a state: that of the lowest run, and there the earliest, with how many known
+-- bits differ
+pub record IsNearest (c : Circuit) (runs : List Run) (seen : Seen) (near : Near) : Type 0 where
   pub recorded : IsMoment runs (moment_of near)
-  pub counted : near.count ≡ distance (state_of c runs (moment_of near)) state
-  pub nearest : (m : Moment) → IsMoment runs m → IsNoNearer near (distance (state_of c runs m) state) m
+  pub counted : near.count ≡ distance (state_of c runs (moment_of near)) seen
+  pub nearest : (m : Moment) → IsMoment runs m → IsNoNearer near (distance (state_of c runs m) seen) m
 
 abbrev pub no_near : Near
 no_near = record { run = 0; cycle = 0; count = 0 }
 
+abbrev pub no_state : Seen
+no_state = whole []
+
 -- the nearest to each of some states, in their order
-pub record AreNearest (c : Circuit) (runs : List Run) (states : List (List Bool)) (nears : List Near) : Type 0 where
+pub record AreNearest (c : Circuit) (runs : List Run) (states : List Seen) (nears : List Near) : Type 0 where
   pub count : length nears ≡ length states
-  pub each : (i : ℕ) → i < length states → IsNearest c runs (slice_index_or states i []) (slice_index_or nears i no_near)
+  pub each : (i : ℕ) → i < length states → IsNearest c runs (slice_index_or states i no_state) (slice_index_or nears i no_near)

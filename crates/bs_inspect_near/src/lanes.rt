@@ -2,12 +2,12 @@
 ghost use Rattle.std.specs.Prelude.{◌≡◌, ◌<◌, ◌+◌};
 ghost use Rattle.bs_net.specs.Netlist.{circuit};
 ghost use Rattle.bs_stim.specs.Runs.{inputs_of};
-ghost use Rattle.bs_inspect_near.specs.Seen.{is_nearer, is_viewed, IsBest, nearer, ShowsCounts};
+ghost use Rattle.bs_inspect_near.specs.Visited.{is_nearer, is_viewed, IsBest, nearer, ShowsCounts};
 
 use crate::counters::lane_count;
 use crate::search::Near;
-use bs_bits::Bits;
 use bs_net::Netlist;
+use bs_seen::Seen;
 use bs_stim::Runs;
 
 /// Whether a lane has a run that lasts to a cycle.
@@ -45,7 +45,7 @@ fn nearer(best: Option<Near>, new: Near) -> Near
 fn with_lane(
     net: &Netlist,
     runs: &Runs,
-    state: &Bits,
+    seen: &Seen,
     first: u32,
     cycle: u32,
     digits: &[u64],
@@ -54,12 +54,12 @@ fn with_lane(
 ) -> Option<Near>
     requires lane { lane < 64 }
     requires first { first < 1024 }
-    requires counts { ShowsCounts (circuit net.now) (inputs_of runs.now) first cycle state.now digits.now }
-    requires best { IsBest (circuit net.now) (inputs_of runs.now) state.now cycle (first + lane) best }
-    ensures { IsBest (circuit net.now) (inputs_of runs.now) state.now cycle (first + lane + 1) result }
+    requires counts { ShowsCounts (circuit net.now) (inputs_of runs.now) first cycle seen.now digits.now }
+    requires best { IsBest (circuit net.now) (inputs_of runs.now) seen.now cycle (first + lane) best }
+    ensures { IsBest (circuit net.now) (inputs_of runs.now) seen.now cycle (first + lane + 1) result }
 {
     let _net = net;
-    let _state = state;
+    let _seen = seen;
     if is_viewed(runs, first, cycle, lane) {
         let count = lane_count(digits, lane);
         let run = first + lane + 1;
@@ -74,20 +74,20 @@ fn with_lane(
 pub(crate) fn with_lanes(
     net: &Netlist,
     runs: &Runs,
-    state: &Bits,
+    seen: &Seen,
     first: u32,
     cycle: u32,
     digits: &[u64],
     old: Option<Near>,
 ) -> Option<Near>
     requires first { first < 1024 }
-    requires counts { ShowsCounts (circuit net.now) (inputs_of runs.now) first cycle state.now digits.now }
-    requires best { IsBest (circuit net.now) (inputs_of runs.now) state.now cycle first old }
-    ensures { IsBest (circuit net.now) (inputs_of runs.now) state.now cycle (first + 64) result }
+    requires counts { ShowsCounts (circuit net.now) (inputs_of runs.now) first cycle seen.now digits.now }
+    requires best { IsBest (circuit net.now) (inputs_of runs.now) seen.now cycle first old }
+    ensures { IsBest (circuit net.now) (inputs_of runs.now) seen.now cycle (first + 64) result }
 {
     let mut best = old;
     'lanes: for lane in 0..64u32 {
-        best = with_lane(net, runs, state, first, cycle, digits, lane, best);
+        best = with_lane(net, runs, seen, first, cycle, digits, lane, best);
     }
     best
 }

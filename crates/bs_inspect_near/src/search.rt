@@ -5,17 +5,18 @@ ghost use Rattle.bs_net.specs.declared.limits.TheConstants.{MAX_FLOPS};
 ghost use Rattle.bs_stim.specs.Runs.{inputs_of};
 ghost use Rattle.bs_chip.specs.Lockstep.{ShowsCycle, wide_of};
 ghost use Rattle.bs_inspect_near.specs.Nearest.{AreNearest};
-ghost use Rattle.bs_inspect_near.specs.Seen.{AreBest, AreFound, IsBest};
+ghost use Rattle.bs_inspect_near.specs.Visited.{AreBest, AreFound, IsBest};
 
 use crate::counts::count_word;
 use crate::lanes::with_lanes;
-use bs_bits::{Bits, List, NoMemory};
+use bs_bits::{List, NoMemory};
 use bs_chip::{Pass, step_to};
 use bs_net::Netlist;
+use bs_seen::Seen;
 use bs_stim::Runs;
 use std::alloc::Global;
 
-/// A moment: a run from 1 and a cycle from 0; and in how many bits its state differs from another.
+/// A moment: a run from 1 and a cycle from 0; and in how many known bits its state differs from what is seen of another.
 #[derive(Clone, Copy)]
 pub struct Near {
     pub run: u32,
@@ -29,7 +30,7 @@ fn with_word(
     alloc: Global,
     net: &Netlist,
     runs: &Runs,
-    state: &Bits,
+    seen: &Seen,
     cycle: u32,
     planes: &[u64],
     wide: usize,
@@ -40,14 +41,14 @@ fn with_word(
     requires wide { wide ≡ wide_of (length (inputs_of runs.now)) }
     requires narrow { wide ≤ 4 }
     requires word { word < wide }
-    requires size { length state.now ≡ length (circuit net.now).flops }
-    requires few { length state.now ≤ MAX_FLOPS }
-    requires best { IsBest (circuit net.now) (inputs_of runs.now) state.now cycle (word * 64) best }
-    ensures { IfOk result (λ best. IsBest (circuit net.now) (inputs_of runs.now) state.now cycle ((word + 1) * 64) best) }
+    requires size { length seen.now.bits ≡ length (circuit net.now).flops }
+    requires few { length seen.now.bits ≤ MAX_FLOPS }
+    requires best { IsBest (circuit net.now) (inputs_of runs.now) seen.now cycle (word * 64) best }
+    ensures { IfOk result (λ best. IsBest (circuit net.now) (inputs_of runs.now) seen.now cycle ((word + 1) * 64) best) }
 {
-    let digits = count_word(alloc, planes, wide, word, state)?;
+    let digits = count_word(alloc, planes, wide, word, seen)?;
     let first = word as u32 * 64;
-    let new = with_lanes(net, runs, state, first, cycle, digits.as_slice(), best);
+    let new = with_lanes(net, runs, seen, first, cycle, digits.as_slice(), best);
     Ok(new)
 }
 
@@ -57,7 +58,7 @@ fn with_cycle(
     alloc: Global,
     net: &Netlist,
     runs: &Runs,
-    state: &Bits,
+    seen: &Seen,
     cycle: u32,
     planes: &[u64],
     wide: usize,
@@ -67,14 +68,14 @@ fn with_cycle(
     requires wide { wide ≡ wide_of (length (inputs_of runs.now)) }
     requires narrow { wide ≤ 4 }
     requires room { length (inputs_of runs.now) ≤ 64 * wide }
-    requires size { length state.now ≡ length (circuit net.now).flops }
-    requires few { length state.now ≤ MAX_FLOPS }
-    requires best { IsBest (circuit net.now) (inputs_of runs.now) state.now cycle 0 old }
-    ensures { IfOk result (λ best. IsBest (circuit net.now) (inputs_of runs.now) state.now (cycle + 1) 0 best) }
+    requires size { length seen.now.bits ≡ length (circuit net.now).flops }
+    requires few { length seen.now.bits ≤ MAX_FLOPS }
+    requires best { IsBest (circuit net.now) (inputs_of runs.now) seen.now cycle 0 old }
+    ensures { IfOk result (λ best. IsBest (circuit net.now) (inputs_of runs.now) seen.now (cycle + 1) 0 best) }
 {
     let mut best = old;
     'words: for word in 0..wide {
-        best = with_word(alloc, net, runs, state, cycle, planes, wide, word, best)?;
+        best = with_word(alloc, net, runs, seen, cycle, planes, wide, word, best)?;
     }
     Ok(best)
 }
@@ -85,7 +86,7 @@ fn with_states(
     alloc: Global,
     net: &Netlist,
     runs: &Runs,
-    states: &List<Bits>,
+    states: &List<Seen>,
     cycle: u32,
     planes: &[u64],
     wide: usize,
@@ -95,7 +96,7 @@ fn with_states(
     requires wide { wide ≡ wide_of (length (inputs_of runs.now)) }
     requires narrow { wide ≤ 4 }
     requires room { length (inputs_of runs.now) ≤ 64 * wide }
-    requires sizes { All (λ s. length s ≡ length (circuit net.now).flops) states.now }
+    requires sizes { All (λ s. length s.bits ≡ length (circuit net.now).flops) states.now }
     requires few { length (circuit net.now).flops ≤ MAX_FLOPS }
     requires bests { AreBest (circuit net.now) (inputs_of runs.now) states.now cycle bests.old.items }
     ensures { OnOk result (AreBest (circuit net.now) (inputs_of runs.now) states.now (cycle + 1) bests.new.items) }
@@ -122,13 +123,13 @@ fn by_pass(
     alloc: Global,
     net: &Netlist,
     runs: &Runs,
-    states: &List<Bits>,
+    states: &List<Seen>,
     pass: &mut Pass<'_>,
 ) -> Result<Vec<Option<Near>>, NoMemory>
     requires circuit { pass.old.circuit ≡ circuit net.now }
     requires runs { pass.old.runs ≡ inputs_of runs.now }
     requires reset { pass.old.cycle ≡ 0 }
-    requires sizes { All (λ s. length s ≡ length (circuit net.now).flops) states.now }
+    requires sizes { All (λ s. length s.bits ≡ length (circuit net.now).flops) states.now }
     requires few { length (circuit net.now).flops ≤ MAX_FLOPS }
     ensures { IfOk result (λ bests. AreFound (circuit net.now) (inputs_of runs.now) states.now bests.items) }
 {
@@ -159,7 +160,7 @@ fn all_found(
     alloc: Global,
     _net: &Netlist,
     _runs: &Runs,
-    _states: &List<Bits>,
+    _states: &List<Seen>,
     bests: &[Option<Near>],
 ) -> Result<Vec<Near>, NoMemory>
     requires { AreFound (circuit _net.now) (inputs_of _runs.now) _states.now bests.now }
@@ -173,17 +174,17 @@ fn all_found(
     Ok(nears)
 }
 
-/// For each of some states the recorded moment whose state differs from it in the fewest bits: that of the lowest run, and there the
-/// earliest. All runs are moved in lock step, once, and the bits of 64 of them are counted together.
+/// For each of some states, of which some bits may not be known, the recorded moment whose state differs from it in the fewest known
+/// bits: that of the lowest run, and there the earliest. All runs are moved in lock step, once, and the bits of 64 of them are counted together.
 #[tactic(auto, using(crate::proofs::EachLemmas::flops_few, crate::proofs::EachLemmas::found_slice))]
 pub fn nearest_each(
     alloc: Global,
     net: &Netlist,
     runs: &Runs,
-    states: &List<Bits>,
+    states: &List<Seen>,
 ) -> Result<Vec<Near>, NoMemory>
     requires inputs { runs.now.width ≡ length (circuit net.now).inputs }
-    requires sizes { All (λ s. length s ≡ length (circuit net.now).flops) states.now }
+    requires sizes { All (λ s. length s.bits ≡ length (circuit net.now).flops) states.now }
     ensures { IfOk result (λ nears. AreNearest (circuit net.now) (inputs_of runs.now) states.now nears.items) }
 {
     let _raw = net.raw();

@@ -9,6 +9,7 @@ use crate::counters::one_if;
 use crate::hints::Hints;
 use crate::search::Near;
 use bs_bits::{Bits, NoMemory, end_line, push_line, push_number, push_piece};
+use bs_seen::Seen;
 
 /// How many flip-flops that differ have a line.
 pub const MAX_PLACES: usize = 8;
@@ -25,15 +26,15 @@ fn push_place(text: &mut Vec<u8>, near: Near) -> Result<(), NoMemory>
     push_number(text, u64::from(near.cycle))
 }
 
-/// Appends the line of the moment: how many of so many bits differ.
-pub(crate) fn push_near(text: &mut Vec<u8>, width: usize, near: Near) -> Result<(), NoMemory>
-    ensures { OnOk result (text.new.items ≡ text.old.items ++ near_line width near) }
+/// Appends the line of the moment: how many of so many known bits differ.
+pub(crate) fn push_near(text: &mut Vec<u8>, known: usize, near: Near) -> Result<(), NoMemory>
+    ensures { OnOk result (text.new.items ≡ text.old.items ++ near_line known near) }
 {
     push_place(text, near)?;
     push_piece(text, b" differ ")?;
     push_number(text, u64::from(near.count))?;
     push_piece(text, b" of ")?;
-    push_number(text, width as u64)?;
+    push_number(text, known as u64)?;
     end_line(text)
 }
 
@@ -49,14 +50,14 @@ fn key_text<'a>(keys: &'a [&str], place: usize) -> &'a [u8]
 }
 
 /// Appends the line of a flip-flop by its key and its bits.
-fn push_flop(text: &mut Vec<u8>, key: &[u8], recorded: bool, state: bool) -> Result<(), NoMemory>
-    ensures { OnOk result (text.new.items ≡ text.old.items ++ flop_line key.now recorded state) }
+fn push_flop(text: &mut Vec<u8>, key: &[u8], recorded: bool, dumped: bool) -> Result<(), NoMemory>
+    ensures { OnOk result (text.new.items ≡ text.old.items ++ flop_line key.now recorded dumped) }
 {
     push_piece(text, key)?;
     push_piece(text, b" run ")?;
     push_number(text, u64::from(one_if(recorded)))?;
     push_piece(text, b" dump ")?;
-    push_number(text, u64::from(one_if(state)))?;
+    push_number(text, u64::from(one_if(dumped)))?;
     end_line(text)
 }
 
@@ -65,29 +66,31 @@ fn push_differing(
     text: &mut Vec<u8>,
     keys: &[&str],
     recorded: &Bits,
-    state: &Bits,
+    seen: &Seen,
     place: usize,
 ) -> Result<(), NoMemory>
     requires key { place < length keys.now }
     requires recorded { place < length recorded.now }
-    requires state { place < length state.now }
-    ensures { OnOk result (text.new.items ≡ text.old.items ++ differing_line (map (λ s. s.now) keys.now) recorded.now state.now place) }
+    requires seen { place < length seen.now.bits }
+    ensures { OnOk result (text.new.items ≡ text.old.items ++ differing_line (map (λ s. s.now) keys.now) recorded.now seen.now place) }
 {
     push_flop(
         text,
         key_text(keys, place),
         recorded.get(place),
-        state.get(place),
+        seen.bits.get(place),
     )
 }
 
-/// Whether a flip-flop differs.
-fn differs(recorded: &Bits, state: &Bits, place: usize) -> bool
+/// Whether the bit of a flip-flop is known and differs.
+fn differs(recorded: &Bits, seen: &Seen, place: usize) -> bool
     requires recorded { place < length recorded.now }
-    requires state { place < length state.now }
-    ensures { result ≡ differs recorded.now state.now place }
+    requires seen { place < length seen.now.bits }
+    ensures { result ≡ differs recorded.now seen.now place }
 {
-    recorded.get(place) != state.get(place)
+    let free = seen.is_free(place);
+    let other = recorded.get(place) != seen.bits.get(place);
+    !free && other
 }
 
 /// Appends the line of a flip-flop, where it differs and few are told before it.
@@ -95,18 +98,18 @@ fn push_told(
     text: &mut Vec<u8>,
     keys: &[&str],
     recorded: &Bits,
-    state: &Bits,
+    seen: &Seen,
     place: usize,
     is: bool,
     told: usize,
 ) -> Result<(), NoMemory>
     requires key { place < length keys.now }
     requires recorded { place < length recorded.now }
-    requires state { place < length state.now }
-    ensures { OnOk result (text.new.items ≡ text.old.items ++ told_piece (differing_line (map (λ s. s.now) keys.now) recorded.now state.now) is told place) }
+    requires seen { place < length seen.now.bits }
+    ensures { OnOk result (text.new.items ≡ text.old.items ++ told_piece (differing_line (map (λ s. s.now) keys.now) recorded.now seen.now) is told place) }
 {
     if is && told < MAX_PLACES {
-        push_differing(text, keys, recorded, state, place)
+        push_differing(text, keys, recorded, seen, place)
     } else {
         Ok(())
     }
@@ -118,16 +121,16 @@ fn push_first(
     text: &mut Vec<u8>,
     keys: &[&str],
     recorded: &Bits,
-    state: &Bits,
+    seen: &Seen,
 ) -> Result<(), NoMemory>
-    requires keys { length keys.now ≡ length state.now }
-    requires recorded { length recorded.now ≡ length state.now }
-    ensures { OnOk result (text.new.items ≡ text.old.items ++ flat_map (differing_line (map (λ s. s.now) keys.now) recorded.now state.now) (take MAX_PLACES (differing recorded.now state.now))) }
+    requires keys { length keys.now ≡ length seen.now.bits }
+    requires recorded { length recorded.now ≡ length seen.now.bits }
+    ensures { OnOk result (text.new.items ≡ text.old.items ++ flat_map (differing_line (map (λ s. s.now) keys.now) recorded.now seen.now) (take MAX_PLACES (differing recorded.now seen.now))) }
 {
     let mut told = 0usize;
-    'places: for i in 0..state.len() {
-        let is = differs(recorded, state, i);
-        push_told(text, keys, recorded, state, i, is, told)?;
+    'places: for i in 0..seen.bits.len() {
+        let is = differs(recorded, seen, i);
+        push_told(text, keys, recorded, seen, i, is, told)?;
         told += one_if(is) as usize;
     }
     Ok(())
@@ -151,14 +154,14 @@ pub(crate) fn push_differences(
     text: &mut Vec<u8>,
     keys: &[&str],
     recorded: &Bits,
-    state: &Bits,
+    seen: &Seen,
     count: u32,
 ) -> Result<(), NoMemory>
-    requires keys { length keys.now ≡ length state.now }
-    requires recorded { length recorded.now ≡ length state.now }
-    ensures { OnOk result (text.new.items ≡ text.old.items ++ differing_text (map (λ s. s.now) keys.now) recorded.now state.now count) }
+    requires keys { length keys.now ≡ length seen.now.bits }
+    requires recorded { length recorded.now ≡ length seen.now.bits }
+    ensures { OnOk result (text.new.items ≡ text.old.items ++ differing_text (map (λ s. s.now) keys.now) recorded.now seen.now count) }
 {
-    push_first(text, keys, recorded, state)?;
+    push_first(text, keys, recorded, seen)?;
     push_more(text, count as usize)
 }
 
@@ -175,12 +178,12 @@ fn push_cell(text: &mut Vec<u8>, count: u32) -> Result<(), NoMemory>
     }
 }
 
-/// Appends that several bits differ, and at least a quarter of all.
-fn push_order(text: &mut Vec<u8>, width: usize, count: u32) -> Result<(), NoMemory>
+/// Appends that several bits differ, and at least a quarter of the known ones.
+fn push_order(text: &mut Vec<u8>, known: usize, count: u32) -> Result<(), NoMemory>
     requires { count < 2 ^ 20 }
-    ensures { OnOk result (text.new.items ≡ text.old.items ++ order_text width count) }
+    ensures { OnOk result (text.new.items ≡ text.old.items ++ order_text known count) }
 {
-    if 1 < count && width <= 4 * count as usize {
+    if 1 < count && known <= 4 * count as usize {
         push_line(text, b"hint order")
     } else {
         Ok(())
@@ -214,19 +217,19 @@ fn push_found(text: &mut Vec<u8>, word: &[u8], found: Option<Near>) -> Result<()
     }
 }
 
-/// Appends what a state hints at.
+/// Appends what hints there are.
 pub(crate) fn push_hints(
     text: &mut Vec<u8>,
-    width: usize,
+    known: usize,
     count: u32,
     hints: Hints,
 ) -> Result<(), NoMemory>
     requires { count < 2 ^ 20 }
-    ensures { OnOk result (text.new.items ≡ text.old.items ++ hints_text width count hints) }
+    ensures { OnOk result (text.new.items ≡ text.old.items ++ hints_text known count hints) }
 {
     push_cell(text, count)?;
     push_held(text, hints.held)?;
     push_found(text, b"inverted", hints.inverted)?;
     push_found(text, b"shifted", hints.shifted)?;
-    push_order(text, width, count)
+    push_order(text, known, count)
 }

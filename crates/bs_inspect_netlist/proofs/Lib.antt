@@ -1,6 +1,5 @@
 pub mod TextLemmas
 pub mod TallyLemmas
 pub mod MarkLemmas
-pub mod CalledLemmas
 pub mod OrderLemmas
 pub mod DumpedLemmas

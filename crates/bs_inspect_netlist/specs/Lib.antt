@@ -2,6 +2,5 @@ pub mod Marks
 pub mod Lines
 pub mod Sizes
 pub mod Tallies
-pub mod Called
 pub mod Order
 pub mod Dumped

@@ -13,7 +13,7 @@ use std::alloc::Global;
 
 /// The key of a net.
 #[tactic(auto, using(crate::proofs::TextLemmas::key_is))]
-pub(crate) fn key_at(raw: &Raw, net: u32) -> &[u8]
+pub fn key_at(raw: &Raw, net: u32) -> &[u8]
     requires { net < length raw.now.names }
     ensures { result.now ≡ key_at (parts_of raw.now) net }
 {

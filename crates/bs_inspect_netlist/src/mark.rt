@@ -7,7 +7,7 @@ use bs_net::{Gate, Kind, NetId};
 
 /// What is told of each net by a number.
 #[derive(Clone, Copy, Debug, PartialEq, Eq)]
-pub(crate) enum Measure {
+pub enum Measure {
     /// The net whose value it shows through `Buf` gates alone.
     Source,
     /// How many gates stand one behind another up to it.

@@ -60,7 +60,7 @@ fn marks_in(
 }
 
 /// The numbers of a netlist's nets.
-pub(crate) fn marks(alloc: Global, measure: Measure, net: &Netlist) -> Result<Vec<usize>, NoMemory>
+pub fn marks(alloc: Global, measure: Measure, net: &Netlist) -> Result<Vec<usize>, NoMemory>
     ensures { IfOk result (λ table. AreMarks measure net.now.raw table.items) }
 {
     let raw = net.raw();

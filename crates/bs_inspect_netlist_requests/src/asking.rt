@@ -12,19 +12,20 @@ ghost use Rattle.bs_inspect_notes.specs.Simulations.{data_clock_text, late_text}
 ghost use Rattle.bs_inspect_values.specs.Simulated.{simulated_in};
 ghost use Rattle.bs_inspect_values.specs.SimulatedRun.{is_late, run_in};
 
+use crate::chain::state_answer;
 use crate::sources::{
     chain_sources, dump_sources, near_sources, netlist_source, novel_sources, runs_sources,
     stop_check, stop_values,
 };
 use crate::telling::{
     tell_check, tell_dump, tell_flops, tell_inputs, tell_keys, tell_near, tell_novel, tell_runs,
-    tell_seen, tell_signature, tell_state, tell_stats,
+    tell_seen, tell_signature, tell_stats,
 };
-use bs_inspect_check_files::{CheckFiles, load_checked};
-use bs_inspect_files::{load_named, load_one_run, load_run_files, load_scanned};
-use bs_inspect_near_files::load_near_files;
+use bs_inspect_files::{
+    CheckFiles, load_checked, load_named, load_one_run, load_run_files, load_scanned,
+};
 use bs_inspect_notes::{data_clock_note, late_note};
-use bs_inspect_plans::{silent, stop_at};
+use bs_inspect_plans::{load_near_files, silent, stop_at};
 use bs_inspect_seen::load_named_values;
 use bs_inspect_values::{
     Clocked, DumpFiles, Simulated, SimulatedRun, clock_key, first_late, load_dumped, load_simulated,
@@ -107,7 +108,7 @@ pub fn unscan<S: Shelf>(
     ensures { PreparedNoted CheckSays finishes (RequestSaid (UnscanOf (unscan_in asked.now))) S.held S.faults S.leads shelf.old shelf.new (Some (plan_of (UnscanOf (unscan_in asked.now)))) result }
 {
     match load_scanned(alloc, shelf, asked.netlist, asked.order, asked.pattern) {
-        Ok(scanned) => silent(tell_state(alloc, &scanned)),
+        Ok(scanned) => state_answer(alloc, &scanned),
         Err(stop) => stop_at(alloc, chain_sources(asked), shelf.reason(), stop),
     }
 }

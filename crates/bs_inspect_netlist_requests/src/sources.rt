@@ -163,7 +163,6 @@ fn push_behind(text: &mut String, name: &str) -> Result<(), NoMemory>
 }
 
 /// Appends names behind another.
-#[tactic(auto, using(crate::proofs::NetlistLemmas::names_more))]
 fn push_names(text: &mut String, names: &[&str]) -> Result<(), NoMemory>
     ensures { OnOk result (string_bytes text.new ≡ string_bytes text.old ++ flat_map behind_piece (map (λ s. s.now) names.now)) }
 {

@@ -7,9 +7,9 @@ ghost use Rattle.bs_stim.specs.Runs.{inputs_of};
 ghost use Rattle.bs_scan.specs.Moments.{IsMoment};
 ghost use Rattle.bs_inspect_novel.specs.Novel.{TellsNovel};
 ghost use Rattle.bs_inspect_near.specs.Tells.{TellsNear};
-ghost use Rattle.bs_inspect_near_files.specs.Taken.{near_files_in};
+ghost use Rattle.bs_inspect_plans.specs.Taken.{near_files_in};
 ghost use Rattle.bs_inspect_files.specs.Taken.{one_run_in, run_files_in};
-ghost use Rattle.bs_inspect_check_files.specs.Checked.{checked_in};
+ghost use Rattle.bs_inspect_files.specs.Checked.{checked_in};
 ghost use Rattle.bs_inspect_values.specs.Dumped.{dumped_in};
 ghost use Rattle.bs_inspect_files.specs.FlopFiles.{scanned_in};
 ghost use Rattle.bs_inspect_netlist.specs.Dumped.{dump_lines};
@@ -18,22 +18,20 @@ ghost use Rattle.bs_net.specs.Netlist.{circuit};
 ghost use Rattle.bs_inspect_seen.specs.State.{state_line as seen_line};
 ghost use Rattle.bs_inspect_seen.specs.Taken.{named_in};
 
-use bs_bits::Bits;
 use bs_inspect_check::{Comparison, all_agree, check_text};
-use bs_inspect_check_files::Checked;
-use bs_inspect_files::{OneRun, RunFiles, Scanned};
+use bs_inspect_files::{Checked, OneRun, RunFiles, Scanned};
 use bs_inspect_lists::signature_text;
+use bs_inspect_names::keys_text;
 use bs_inspect_near::near_text;
-use bs_inspect_near_files::NearFiles;
-use bs_inspect_netlist::{
-    flops_text, inputs_text, keys_text, last_dump, last_state, state_text, stats_text,
-};
+use bs_inspect_netlist::{flops_text, inputs_text, last_dump, last_state, state_text, stats_text};
 use bs_inspect_novel::novel_text;
+use bs_inspect_plans::NearFiles;
 use bs_inspect_seen::{Named, state_text as seen_text};
 use bs_inspect_values::{Dumped, Simulated, runs_text};
 use bs_net::Netlist;
 use bs_outside::NoMemory;
 use bs_scan::Moment;
+use bs_seen::Seen;
 use bs_top_plan::{Reply, Status};
 use std::alloc::Global;
 
@@ -217,20 +215,20 @@ pub fn tell_novel(alloc: Global, one_run: &OneRun, most: u64) -> Result<Reply, N
     })
 }
 
-/// The text of what a state is near to.
-fn near_lines(alloc: Global, run_files: &RunFiles, state: &Bits) -> Result<Vec<u8>, NoMemory>
-    requires { length state.now ≡ length (circuit run_files.now.net).flops }
-    ensures { IfOk result (λ text. TellsNear run_files.now.net.raw (inputs_of run_files.now.runs) state.now text.items) }
+/// The text of what is near to what is seen of a state.
+fn near_lines(alloc: Global, run_files: &RunFiles, seen: &Seen) -> Result<Vec<u8>, NoMemory>
+    requires { length seen.now.bits ≡ length (circuit run_files.now.net).flops }
+    ensures { IfOk result (λ text. TellsNear run_files.now.net.raw (inputs_of run_files.now.runs) seen.now text.items) }
 {
-    let text = near_text(alloc, &run_files.net, &run_files.runs, state)?;
+    let text = near_text(alloc, &run_files.net, &run_files.runs, seen)?;
     Ok(text)
 }
 
-/// What the state of a dump is near to.
+/// What is near to the state of a dump.
 pub fn tell_near(alloc: Global, near_files: &NearFiles) -> Result<Reply, NoMemory>
     ensures { IfOk result (λ answer. finishes (to_near (near_files_in near_files.now)) answer.status answer.text.items) }
 {
-    let text = near_lines(alloc, &near_files.run_files, &near_files.state)?;
+    let text = near_lines(alloc, &near_files.run_files, &near_files.seen)?;
     Ok(Reply {
         status: Status::Done,
         text,

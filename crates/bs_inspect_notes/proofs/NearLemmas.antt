@@ -151,21 +151,21 @@ pub one_near : (name text now : List ℕ) (names : Names) (b : Bool) → b ≡ (
     now ≡ text ++ near_text name (map (λ n. n.now) names) → now ≡ text ++ some_near name (map (λ n. n.now) names)
 one_near name text now names b e is h = said_some text (near_text name (texts names)) now names b e is h
 
-pub listed_of : (text mid now : List ℕ) (names : Names) (count : ℕ) → mid ≡ text ++ flat_map name_piece (take LISTED (map (λ n. n.now) names)) →
-    count ≡ length names → now ≡ mid ++ more_piece count → now ≡ text ++ listed (map (λ n. n.now) names)
-listed_of text mid now names count first is e =
+pub listed_of : (text mid now : List ℕ) (names : Names) (most count : ℕ) → mid ≡ text ++ flat_map name_piece (take most (map (λ n. n.now) names)) →
+    count ≡ length names → now ≡ mid ++ more_piece most count → now ≡ text ++ listed most (map (λ n. n.now) names)
+listed_of text mid now names most count first is e =
     let same : count ≡ length (texts names) = is ∙ sym (length_texts names) in
-    let whole : mid ++ more_piece count
-    ≡ (text ++ flat_map name_piece (take LISTED (texts names))) ++ more_piece (length (texts names)) = λ i. first i ++ more_piece (same i) in
-    e ∙ (whole ∙ append_assoc text (flat_map name_piece (take LISTED (texts names))) (more_piece (length (texts names))))
+    let whole : mid ++ more_piece most count
+    ≡ (text ++ flat_map name_piece (take most (texts names))) ++ more_piece most (length (texts names)) = λ i. first i ++ more_piece most (same i) in
+    e ∙ (whole ∙ append_assoc text (flat_map name_piece (take most (texts names))) (more_piece most (length (texts names))))
 
 pub none_listed : (title text : List ℕ) (names : Names) (b : Bool) → b ≡ (length names == 0) → b ≡ true →
     text ≡ text ++ some_listing title (map (λ n. n.now) names)
-none_listed title text names b e is = said_none text (listing title (texts names)) names b e is
+none_listed title text names b e is = said_none text (listing LISTED title (texts names)) names b e is
 
 pub one_listed : (title text now : List ℕ) (names : Names) (b : Bool) → b ≡ (length names == 0) → b ≡ false →
-    now ≡ text ++ listing title (map (λ n. n.now) names) → now ≡ text ++ some_listing title (map (λ n. n.now) names)
-one_listed title text now names b e is h = said_some text (listing title (texts names)) now names b e is h
+    now ≡ text ++ listing LISTED title (map (λ n. n.now) names) → now ≡ text ++ some_listing title (map (λ n. n.now) names)
+one_listed title text now names b e is h = said_some text (listing LISTED title (texts names)) now names b e is h
 
 -- ---- scopes
 

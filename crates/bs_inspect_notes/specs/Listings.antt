@@ -26,17 +26,17 @@ near_text name names = codes "; the nearest:" ++ flat_map name_piece (take NAMED
 abbrev pub some_near : List ℕ → List (List ℕ) → List ℕ
 some_near name names = if length names == 0 then [] else near_text name names
 
-abbrev pub more_piece : ℕ → List ℕ
-more_piece count = if nat_lt LISTED count then codes " .." else []
+abbrev pub more_piece : (most count : ℕ) → List ℕ
+more_piece most count = if nat_lt most count then codes " .." else []
 
--- the first of these names, and that there are more
-abbrev pub listed : List (List ℕ) → List ℕ
-listed names = flat_map name_piece (take LISTED names) ++ more_piece (length names)
+-- the first of these names, so many at most, and that there are more
+abbrev pub listed : (most : ℕ) → List (List ℕ) → List ℕ
+listed most names = flat_map name_piece (take most names) ++ more_piece most (length names)
 
 -- a line of such names behind a title
-abbrev pub listing : List ℕ → List (List ℕ) → List ℕ
-listing title names = plain_text (title ++ listed names)
+abbrev pub listing : (most : ℕ) → List ℕ → List (List ℕ) → List ℕ
+listing most title names = plain_text (title ++ listed most names)
 
 -- the same, where there are names
 abbrev pub some_listing : List ℕ → List (List ℕ) → List ℕ
-some_listing title names = if length names == 0 then [] else listing title names
+some_listing title names = if length names == 0 then [] else listing LISTED title names

@@ -4,7 +4,8 @@ use Rattle.bs_bits.specs.Lines.{lines_of, words_of}
 use Rattle.bs_note_files.specs.Notes.{Saying, saying, file_text, plain_text}
 use Rattle.bs_inspect_notes.specs.declared.name.Subject.{Subject}
 use Rattle.bs_inspect_notes.specs.declared.name.Subject.TheVariants.{Inputs, Flops}
-use Rattle.bs_inspect_notes.specs.Listings.{quoted, some_near}
+use Rattle.bs_inspect_notes.specs.declared.name.TheConstants.{UNLISTED}
+use Rattle.bs_inspect_notes.specs.Listings.{listing, quoted, some_near}
 
 -- a name that is none of a netlist with these keys
 abbrev pub name_text : List ℕ → List (List ℕ) → List ℕ
@@ -63,7 +64,8 @@ trace_text file place =
 
 -- ---- an order of a scan chain
 
--- flip-flops that have no line
-abbrev pub unlisted_text : (count width : ℕ) → List ℕ
-unlisted_text count width =
+-- so many of so many flip-flops have no line, and these are their keys, a few of them
+abbrev pub unlisted_text : (count width : ℕ) → List (List ℕ) → List ℕ
+unlisted_text count width keys =
     plain_text (codes "the order has no line for " ++ (decimal count ++ (codes " of " ++ (decimal width ++ codes " flip-flops: `-` stands for each of them"))))
+    ++ listing UNLISTED (codes "their keys:") keys

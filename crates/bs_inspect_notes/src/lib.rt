@@ -12,8 +12,8 @@ mod simulation;
 
 pub use listing::{LISTED, is_one_of, push_name, push_some_near, push_word};
 pub use name::{
-    Subject, first_word, form_saying, key_sentence, keys_label, name_note, net_note, numbered,
-    state_note, trace_note, twice_saying, unlisted_note,
+    Subject, UNLISTED, first_word, form_saying, key_sentence, keys_label, name_note, net_note,
+    numbered, state_note, trace_note, twice_saying, unlisted_note,
 };
 pub use simulation::{
     clock_note, cycles_note, data_clock_note, early_note, ended_note, foreign, input_note,

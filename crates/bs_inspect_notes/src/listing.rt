@@ -118,33 +118,38 @@ pub fn push_some_near(
 }
 
 /// Appends that there are more than are listed, where there are.
-fn push_more(text: &mut Vec<u8>, count: usize) -> Result<(), NoMemory>
-    ensures { OnOk result (text.new.items ≡ text.old.items ++ more_piece count) }
+fn push_more(text: &mut Vec<u8>, most: usize, count: usize) -> Result<(), NoMemory>
+    ensures { OnOk result (text.new.items ≡ text.old.items ++ more_piece most count) }
 {
-    if LISTED < count {
+    if most < count {
         push_piece(text, b" ..")
     } else {
         Ok(())
     }
 }
 
-/// Appends the first of these names.
+/// Appends the first of these names, so many at most.
 #[tactic(auto, using(crate::proofs::NearLemmas::listed_of))]
-fn push_listed(text: &mut Vec<u8>, names: &[&[u8]]) -> Result<(), NoMemory>
-    ensures { OnOk result (text.new.items ≡ text.old.items ++ listed (map (λ n. n.now) names.now)) }
+fn push_listed(text: &mut Vec<u8>, names: &[&[u8]], most: usize) -> Result<(), NoMemory>
+    ensures { OnOk result (text.new.items ≡ text.old.items ++ listed most (map (λ n. n.now) names.now)) }
 {
-    push_front(text, names, LISTED)?;
-    push_more(text, names.len())?;
+    push_front(text, names, most)?;
+    push_more(text, most, names.len())?;
     Ok(())
 }
 
-/// Appends a line of the first of these names, behind a title.
-fn push_listing(text: &mut Vec<u8>, title: &str, names: &[&[u8]]) -> Result<(), NoMemory>
-    ensures { OnOk result (text.new.items ≡ text.old.items ++ listing title.now (map (λ n. n.now) names.now)) }
+/// Appends a line of the first of these names, so many at most, behind a title.
+pub fn push_listing(
+    text: &mut Vec<u8>,
+    title: &str,
+    names: &[&[u8]],
+    most: usize,
+) -> Result<(), NoMemory>
+    ensures { OnOk result (text.new.items ≡ text.old.items ++ listing most title.now (map (λ n. n.now) names.now)) }
 {
     push_piece(text, b"note: ")?;
     push_piece(text, title.as_bytes())?;
-    push_listed(text, names)?;
+    push_listed(text, names, most)?;
     push_piece(text, b"\n")
 }
 
@@ -156,6 +161,6 @@ pub fn push_some_listing(text: &mut Vec<u8>, title: &str, names: &[&[u8]]) -> Re
     if names.is_empty() {
         return Ok(());
     }
-    push_listing(text, title, names)?;
+    push_listing(text, title, names, LISTED)?;
     Ok(())
 }

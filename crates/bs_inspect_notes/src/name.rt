@@ -3,10 +3,13 @@ ghost use Rattle.std.specs.Prelude.{◌≡◌, ◌-◌, map, IfOk};
 ghost use Rattle.bs_note_files.specs.Notes.{said};
 ghost use Rattle.bs_inspect_notes.specs.Names.{first_word, form_saying, key_sentence, keys_label, name_text, net_text, numbered, state_text, subject_word, trace_text, twice_saying, unlisted_text};
 
-use crate::listing::{push_name, push_some_near};
+use crate::listing::{push_listing, push_name, push_some_near};
 use bs_bits::{NoMemory, next_line, next_word, push_number, push_piece};
 use bs_note_files::{Message, file_note, plain_note};
 use std::alloc::Global;
+
+/// How many flip-flops that an order does not list are named.
+pub const UNLISTED: usize = 8;
 
 /// What has a key, and a name in a simulation.
 #[derive(Clone, Copy, Debug, PartialEq, Eq)]
@@ -162,15 +165,22 @@ pub fn trace_note(alloc: Global, file: &str, place: u64) -> Result<Vec<u8>, NoMe
     Ok(note)
 }
 
-/// A note on flip-flops of which nothing is known, where so many of so many are not in an order.
-pub fn unlisted_note(alloc: Global, count: usize, width: usize) -> Result<Vec<u8>, NoMemory>
-    ensures { IfOk result (λ note. note.items ≡ unlisted_text count width) }
+/// A note on flip-flops of which nothing is known, where so many of so many are not in an order: how many there are, and the keys of the
+/// first `UNLISTED`.
+pub fn unlisted_note(
+    alloc: Global,
+    count: usize,
+    width: usize,
+    keys: &[&[u8]],
+) -> Result<Vec<u8>, NoMemory>
+    ensures { IfOk result (λ note. note.items ≡ unlisted_text count width (map (λ k. k.now) keys.now)) }
 {
     let mut said = b"the order has no line for ".to_vec(alloc)?;
     push_number(&mut said, count as u64)?;
     push_piece(&mut said, b" of ")?;
     push_number(&mut said, width as u64)?;
     push_piece(&mut said, b" flip-flops: `-` stands for each of them")?;
-    let note = plain_note(alloc, &said)?;
+    let mut note = plain_note(alloc, &said)?;
+    push_listing(&mut note, "their keys:", keys, UNLISTED)?;
     Ok(note)
 }

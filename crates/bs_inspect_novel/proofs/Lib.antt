@@ -6,3 +6,5 @@ pub mod SetLemmas
 pub mod OwnLemmas
 pub mod TextLemmas
 pub mod NovelLemmas
+pub mod ValueBitLemmas
+pub mod NoveltyLemmas

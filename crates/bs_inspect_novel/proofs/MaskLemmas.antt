@@ -1,12 +1,11 @@
 -- Which lanes are looked at, and one word of each plane.
-use Rattle.std.proofs.Common.{◌≡◌, ℕ, ◌<◌, ◌≤◌, ◌+◌, ◌-◌, ◌*◌, ◌/◌, ◌%◌, Bool, true, false, not, ◌&&◌, List, [], length, get_or, set}
+use Rattle.std.proofs.Common.{◌≡◌, ℕ, ◌<◌, ◌≤◌, ◌+◌, ◌-◌, ◌*◌, ◌/◌, ◌%◌, Bool, false, not, ◌&&◌, List, [], length, get_or, set}
 use Rattle.std.proofs.Common.{refl, ap, sym, subst, ◌∙◌, ⊎_elim, arith}
 use Rattle.std.specs.Prelude.{◌==◌, nat_le}
 use Rattle.std.specs.Int.{bit_at}
 use Rattle.std.proofs.lemmas.Bool.{cases_eq, le-ltb, lt-ltb}
 use Rattle.std.proofs.lemmas.List.{get_or_default, get_or-map, get_or-set_other, get_or-set_same, length-map, length-set}
 use Rattle.std.proofs.lemmas.Nat.{row_fits}
-use Rattle.bs_break.specs.Masks.{has}
 use Rattle.bs_stim.specs.Packing.{HasPut, bit_in}
 use Rattle.bs_stim.specs.Runs.{Recorded, Stimulus, inputs_of, no_run, run_at}
 use Rattle.bs_scan.specs.Moments.{Run}
@@ -28,17 +27,15 @@ viewed_none s first number cycle k n e le =
     (ap (λ (b : Bool). b && (not (first + k + 1 == number) && nat_le cycle (length (lane_run (inputs_of s) first k))))
     (le-ltb (first + k) (length (inputs_of s)) (omega (arith, e, le, runs_count s))))
 
-pub viewed_one : (s : Stimulus) (first number cycle k n m : ℕ) (b differs lasts : Bool) → b ≡ (differs && lasts) →
-    differs ≡ not (first + k + 1 == number) → lasts ≡ nat_le cycle m → n ≡ length s.runs → first + k < n →
-    m ≡ length (run_at s (first + k + 1)).inputs → b ≡ is_viewed (inputs_of s) first number cycle k
-viewed_one s first number cycle k n m b differs lasts both d l e lt is =
+pub viewed_one : (s : Stimulus) (first number cycle k n m : ℕ) (b : Bool) → b ≡ (not (first + k + 1 == number) && nat_le cycle m) →
+    n ≡ length s.runs → first + k < n → m ≡ length (run_at s (first + k + 1)).inputs → b ≡ is_viewed (inputs_of s) first number cycle k
+viewed_one s first number cycle k n m b both e lt is =
     let there : first + k < length s.runs = omega (arith, e, lt) in
     both
-    ∙ ((λ i. d i && l i)
     ∙ (ap (λ (x : ℕ). not (first + k + 1 == number) && nat_le cycle x) (is ∙ ap length (run_is s (first + k) there))
     ∙ sym
     (ap (λ (x : Bool). x && (not (first + k + 1 == number) && nat_le cycle (length (lane_run (inputs_of s) first k))))
-    (lt-ltb (first + k) (length (inputs_of s)) (omega (arith, there, runs_count s))))))
+    (lt-ltb (first + k) (length (inputs_of s)) (omega (arith, there, runs_count s)))))
 
 -- ---- a mask that is made bit by bit
 

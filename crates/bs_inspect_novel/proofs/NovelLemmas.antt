@@ -1,10 +1,10 @@
 -- The text of all signals.
-use Rattle.std.proofs.Common.{◌≡◌, ℕ, ◌<◌, ◌≤◌, ◌+◌, ◌-◌, List, [], ◌∷◌, ◌++◌, length, map, get_or, take, Option, Some, None}
-use Rattle.std.proofs.Common.{refl, ap, sym, subst, ◌∙◌, ◌⊎◌, inl, inr, arith, zero, suc}
-use Rattle.std.specs.Prelude.{All, Result, IfOk}
+use Rattle.std.proofs.Common.{◌≡◌, ℕ, ◌<◌, ◌≤◌, ◌-◌, List, [], ◌∷◌, length, map, get_or, take, Option, Some, None}
+use Rattle.std.proofs.Common.{refl, ap, sym, subst, ◌∙◌, arith, zero, suc}
+use Rattle.std.specs.Prelude.{All}
 use Rattle.std.specs.List.{flat_map}
 use Rattle.std.specs.List.Sorted.{IsPermutation, IsSorted}
-use Rattle.std.proofs.lemmas.List.{get_or_default, length-append, length-map}
+use Rattle.std.proofs.lemmas.List.{length-map}
 use Rattle.std.proofs.lemmas.List.Elements.{All-append, All-nil, All-take}
 use Rattle.std.proofs.lemmas.List.Sorted.{All-permutation}
 use Rattle.bs_net.specs.Circuit.{Circuit}
@@ -15,8 +15,8 @@ use Rattle.bs_net.specs.Netlist.{circuit_of}
 use Rattle.bs_stim.specs.Runs.{Recorded, Stimulus, inputs_of}
 use Rattle.bs_scan.specs.Moments.{Run}
 use Rattle.bs_inspect_report.specs.Keys.{flop_keys}
-use Rattle.bs_inspect_novelty.specs.declared.novelty.Novelty.{Novelty}
-use Rattle.bs_inspect_novelty.specs.Novelties.{AreNovelties, IsNovelty, novelty_cmp, one_or_none, signal_at}
+use Rattle.bs_inspect_novel.specs.declared.novelty.Novelty.{Novelty}
+use Rattle.bs_inspect_novel.specs.Novelties.{AreNovelties, novelty_cmp, one_or_none}
 use Rattle.bs_inspect_novel.specs.Novel.{TellsNovel, TellsOf, TellsSignals, alone_text, novelties_text}
 use Rattle.bs_inspect_novel.specs.Shown.{IsShowable}
 

@@ -1,6 +1,6 @@
 -- A signal has no more bits than there are keys.
 use Rattle.std.proofs.Common.{◌≡◌, ◌≤◌, ℕ, suc, ◌<◌, ◌+◌, ◌^◌, Bool, true, false, List, [], ◌∷◌, length, map, get_or, refl, ap, ◌∙◌, arith, Option}
-use Rattle.std.specs.Prelude.{Vec, Result, IfOk, if◌then◌else◌}
+use Rattle.std.specs.Prelude.{Vec, Result, IfOk}
 use Rattle.std.specs.List.{All, flat_map}
 use Rattle.std.specs.declared.alloc.Global.{Global}
 use Rattle.std.proofs.lemmas.List.{length-map, get_or-map, length-append}

@@ -1,24 +1,24 @@
 -- The values of other runs, of each signal, word by word and cycle by cycle.
 use Rattle.std.proofs.Common.{◌≡◌, ◌≢◌, ℕ, zero, suc, ◌<◌, ◌≤◌, ◌+◌, ◌-◌, ◌*◌, ◌/◌, ◌%◌, Bool, true, false, not, ◌&&◌, List, [], ◌∷◌, ◌++◌, length, map, get_or, set}
 use Rattle.std.proofs.Common.{refl, ap, sym, subst, ◌∙◌, ◌⊎◌, inl, inr, ⊎_elim, arith}
-use Rattle.std.specs.Prelude.{◌==◌, nat_le, nat_lt}
+use Rattle.std.specs.Prelude.{◌==◌}
 use Rattle.std.specs.Int.{bit_at}
 use Rattle.std.specs.List.{range_with_len}
 use Rattle.std.proofs.lemmas.Bool.{cases_eq, cases_lt, eqb-true, le-leb, lt-ltb}
-use Rattle.std.proofs.lemmas.List.{get_or_append_left, get_or_default, get_or-map, get_or_push, get_or-set_other, get_or-set_same, length-map, length_push, length-set}
+use Rattle.std.proofs.lemmas.List.{get_or_append_left, get_or_default, get_or_push, get_or-set_other, get_or-set_same, length-map, length_push, length-set}
 use Rattle.bs_net.specs.Circuit.{Circuit}
 use Rattle.bs_net_names.specs.declared.signal.Signal.{Signal as CodeSignal}
 use Rattle.bs_stim.specs.Packing.{bit_in}
 use Rattle.bs_lanes_planes.specs.Planes.{bit_place, lane}
 use Rattle.bs_break.specs.Masks.{has}
-use Rattle.bs_scan.specs.Moments.{IsMoment, Moment, Run, is_listed, moment, run_of, state_at}
+use Rattle.bs_scan.specs.Moments.{IsMoment, Moment, Run, is_listed, state_at}
 use Rattle.bs_chip.specs.Lockstep.{IsLongest, Passing, ShowsCycle, wide_of}
-use Rattle.bs_inspect_novelty.specs.declared.novelty.TheConstants.{MAX_VALUES}
-use Rattle.bs_inspect_novelty.specs.Values.{AreElsewhere, value_at}
-use Rattle.bs_inspect_novel.specs.Shown.{AreEmpty, AreSets, Grows, IsColumn, IsFull, IsMask, IsSet, ShowsWords, is_viewed, lane_run, words_value}
-use Rattle.bs_inspect_novelty.specs.Known.{AreWhole, IsWhole, all_places}
+use Rattle.bs_inspect_novel.specs.declared.novelty.TheConstants.{MAX_VALUES}
+use Rattle.bs_inspect_novel.specs.Values.{AreElsewhere, value_at}
+use Rattle.bs_inspect_novel.specs.Shown.{AreEmpty, AreSets, Grows, IsColumn, IsFull, IsMask, IsSet, ShowsWords, is_viewed, lane_run}
+use Rattle.bs_inspect_novel.specs.Known.{AreWhole, all_places}
 use Rattle.bs_inspect_novel.proofs.ValueLemmas.{words_are}
-use Rattle.bs_inspect_novelty.proofs.NoveltyLemmas.{places_here}
+use Rattle.bs_inspect_novel.proofs.NoveltyLemmas.{places_here}
 
 -- ---- one set
 

@@ -1,7 +1,7 @@
 -- The line of what is found.
-use Rattle.std.proofs.Common.{◌≡◌, ℕ, ◌<◌, ◌≤◌, ◌+◌, ◌-◌, ◌^◌, Bool, true, false, List, [], ◌∷◌, ◌++◌, length, map, get_or, take, append_assoc, Some, None}
-use Rattle.std.proofs.Common.{refl, ap, sym, subst, ◌∙◌, arith}
-use Rattle.std.specs.Prelude.{All, ◌==◌, codes, decimal, if◌then◌else◌}
+use Rattle.std.proofs.Common.{◌≡◌, ℕ, ◌<◌, ◌≤◌, ◌+◌, ◌-◌, Bool, true, false, List, [], ◌∷◌, ◌++◌, length, map, get_or, take, append_assoc}
+use Rattle.std.proofs.Common.{ap, sym, ◌∙◌, arith}
+use Rattle.std.specs.Prelude.{◌==◌, codes, decimal, if◌then◌else◌}
 use Rattle.std.specs.List.{flat_map}
 use Rattle.std.proofs.lemmas.Grind.{flat_map-append}
 use Rattle.std.proofs.lemmas.List.{append-nil, get_or_default, get_or-map, length-map, take_all, take_more}
@@ -11,14 +11,14 @@ use Rattle.bs_net_names.specs.Rtl.{rtl_text}
 use Rattle.bs_net_names.specs.Signals.{Signal, signal_in}
 use Rattle.bs_net_names.specs.Values.{value_text}
 use Rattle.bs_net_names.specs.declared.signal.Signal.{Signal as CodeSignal}
-use Rattle.bs_inspect_novelty.specs.Values.{state_bit, value_in, value_at}
+use Rattle.bs_inspect_novel.specs.Values.{value_in, value_at}
 use Rattle.bs_scan.specs.Moments.{Run}
-use Rattle.bs_inspect_novelty.specs.Novelties.{no_signal, signal_at}
+use Rattle.bs_inspect_novel.specs.Novelties.{no_signal, signal_at}
 use Rattle.bs_inspect_novel.specs.Novel.{nothing_text, novelties_text, novelty_line}
-use Rattle.bs_inspect_novelty.specs.Known.{AreOwn}
+use Rattle.bs_inspect_novel.specs.Known.{AreOwn}
 use Rattle.bs_inspect_novel.specs.Shown.{IsShowable, state_line}
-use Rattle.bs_inspect_novelty.specs.declared.novelty.Novelty.{Novelty}
-use Rattle.bs_inspect_novelty.proofs.NoveltyLemmas.{own_there, own_value}
+use Rattle.bs_inspect_novel.specs.declared.novelty.Novelty.{Novelty}
+use Rattle.bs_inspect_novel.proofs.NoveltyLemmas.{own_there, own_value}
 
 -- the signal at a place
 pub signal_is : (signals : List CodeSignal) (i : ℕ) (s : CodeSignal) → i < length signals → s ≡ get_or signals i s →
@@ -80,3 +80,16 @@ text_some c runs number signals fs empty text e is says =
 -- all of a list, where more are asked for
 pub all_first : (fs : List Novelty) (most n : ℕ) → n ≡ length fs → n ≤ most → fs ≡ take most fs
 all_first fs most n e le = sym (take_all most fs (omega (arith, e, le)))
+
+-- seven pieces and a line feed
+pub state_told : (t a b c d e f g t₁ t₂ t₃ t₄ t₅ t₆ t₇ t₈ : List ℕ) → t₁ ≡ t ++ a → t₂ ≡ t₁ ++ b → t₃ ≡ t₂ ++ c → t₄ ≡ t₃ ++ d → t₅ ≡ t₄ ++ e →
+    t₆ ≡ t₅ ++ f → t₇ ≡ t₆ ++ g → t₈ ≡ t₇ ++ 10 ∷ [] → t₈ ≡ t ++ ((a ++ (b ++ (c ++ (d ++ (e ++ (f ++ g)))))) ++ 10 ∷ [])
+state_told t a b c d e f g t₁ t₂ t₃ t₄ t₅ t₆ t₇ t₈ h₁ h₂ h₃ h₄ h₅ h₆ h₇ h₈ =
+    let four : t₄ ≡ ((((t ++ a) ++ b) ++ c) ++ d) =
+    h₄ ∙ ap (λ (x : List ℕ). x ++ d) (h₃ ∙ ap (λ (x : List ℕ). x ++ c) (h₂ ∙ ap (λ (x : List ℕ). x ++ b) h₁)) in
+    let seven : t₇ ≡ ((((((t ++ a) ++ b) ++ c) ++ d) ++ e) ++ f) ++ g =
+    h₇ ∙ ap (λ (x : List ℕ). x ++ g) (h₆ ∙ ap (λ (x : List ℕ). x ++ f) (h₅ ∙ ap (λ (x : List ℕ). x ++ e) four)) in
+    h₈ ∙ (ap (λ (x : List ℕ). x ++ 10 ∷ []) seven ∙ regroup)
+  where
+    regroup : (((((((t ++ a) ++ b) ++ c) ++ d) ++ e) ++ f) ++ g) ++ 10 ∷ [] ≡ t ++ ((a ++ (b ++ (c ++ (d ++ (e ++ (f ++ g)))))) ++ 10 ∷ [])
+    regroup = simp append_assoc

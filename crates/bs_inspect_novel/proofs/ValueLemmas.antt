@@ -1,11 +1,11 @@
 -- Values that are gathered one after another.
-use Rattle.std.proofs.Common.{◌≡◌, ◌≢◌, ℕ, zero, suc, ◌<◌, ◌≤◌, ◌+◌, ◌-◌, ◌*◌, ◌^◌, Bool, true, false, not, ◌&&◌, ◌||◌, List, [], ◌∷◌, ◌++◌, length, map, take, get_or}
+use Rattle.std.proofs.Common.{◌≡◌, ◌≢◌, ℕ, zero, suc, ◌<◌, ◌≤◌, ◌+◌, ◌-◌, ◌^◌, Bool, true, false, not, ◌&&◌, ◌||◌, List, [], ◌∷◌, ◌++◌, length, get_or}
 use Rattle.std.proofs.Common.{refl, ap, sym, subst, ◌∙◌, ◌⊎◌, inl, inr, arith}
 use Rattle.std.specs.Prelude.{◌==◌, nat_le, nat_lt, All}
 use Rattle.std.specs.Bool.{beq}
 use Rattle.std.specs.Int.{trailing_zeros, w64}
 use Rattle.std.proofs.lemmas.Bool.{and_parts, cases_lt, eq-eqb, leb-true, ltb-true, true≢false}
-use Rattle.std.proofs.lemmas.List.{get_or_append_left, get_or_default, get_or_push, length-map, length_push, map-append, take_more}
+use Rattle.std.proofs.lemmas.List.{get_or_append_left, get_or_default, get_or_push, length-map, length_push}
 use Rattle.std.proofs.lemmas.List.Folds.{list_any-append}
 use Rattle.std.proofs.lemmas.Nat.Bits.{bit_at-trailing_zeros, bit_at-zero}
 use Rattle.bs_net.specs.Circuit.{Circuit}
@@ -13,10 +13,10 @@ use Rattle.bs_bits.specs.Bits.{bits_eq}
 use Rattle.bs_stim.specs.Packing.{bit_in}
 use Rattle.bs_lanes_planes.specs.Planes.{bit_place, lane}
 use Rattle.bs_break.specs.Masks.{has}
-use Rattle.bs_scan.specs.Moments.{IsMoment, Moment, Run, is_listed, moment, run_of, state_at}
-use Rattle.bs_inspect_novelty.specs.declared.novelty.TheConstants.{MAX_VALUES}
-use Rattle.bs_inspect_novelty.specs.Values.{AreElsewhere, EachOnce, IsElsewhere, state_bit, value_at, value_in}
-use Rattle.bs_inspect_novel.specs.Shown.{AllListed, Grows, IsFull, IsMask, Misses, ShowsWords, is_viewed, lane_run, words_value}
+use Rattle.bs_scan.specs.Moments.{IsMoment, Run, is_listed, moment, run_of, state_at}
+use Rattle.bs_inspect_novel.specs.declared.novelty.TheConstants.{MAX_VALUES}
+use Rattle.bs_inspect_novel.specs.Values.{AreElsewhere, EachOnce, IsElsewhere, state_bit, value_at, value_in}
+use Rattle.bs_inspect_novel.specs.Shown.{Grows, IsFull, IsMask, Misses, ShowsWords, is_viewed, lane_run, words_value}
 use Rattle.bs_inspect_novel.proofs.LookLemmas.{bit_beyond, bit_shown}
 
 -- ---- a value

@@ -12,9 +12,9 @@ use Rattle.bs_net_names.specs.Values.{value_text}
 use Rattle.bs_stim.specs.Runs.{Stimulus, inputs_of}
 use Rattle.bs_scan.specs.Moments.{Run}
 use Rattle.bs_inspect_report.specs.Keys.{flop_keys}
-use Rattle.bs_inspect_novelty.specs.Novelties.{AreNovelties, novelty_cmp, signal_at}
-use Rattle.bs_inspect_novelty.specs.Values.{value_at}
-use Rattle.bs_inspect_novelty.specs.declared.novelty.Novelty.{Novelty}
+use Rattle.bs_inspect_novel.specs.Novelties.{AreNovelties, novelty_cmp, signal_at}
+use Rattle.bs_inspect_novel.specs.Values.{value_at}
+use Rattle.bs_inspect_novel.specs.declared.novelty.Novelty.{Novelty}
 
 -- ---- the text
 

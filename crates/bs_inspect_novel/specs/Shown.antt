@@ -1,6 +1,6 @@
 -- What words show of signals: a word a flip-flop, of which bit k belongs to the run with the number first + k + 1.
-use Rattle.std.specs.Prelude.{◌≡◌, ◌≢◌, ◌⊎◌, ℕ, ◌<◌, ◌≤◌, ◌+◌, ◌-◌, ◌*◌, ◌==◌, ◌&&◌, nat_lt, nat_le, not, Bool, true, false, List, [], ◌∷◌, ◌++◌, length, map, codes}
-use Rattle.std.specs.Prelude.{decimal, slice_index_or, Option, Some, None}
+use Rattle.std.specs.Prelude.{◌≡◌, ◌≢◌, ◌⊎◌, ℕ, ◌<◌, ◌≤◌, ◌+◌, ◌*◌, ◌==◌, ◌&&◌, nat_lt, nat_le, not, Bool, true, List, [], ◌++◌, length, codes}
+use Rattle.std.specs.Prelude.{decimal, slice_index_or}
 use Rattle.bs_bits.specs.Bits.{bits_eq}
 use Rattle.bs_bits.specs.Lines.{line}
 use Rattle.bs_net.specs.Circuit.{Circuit}
@@ -8,14 +8,12 @@ use Rattle.bs_net_names.specs.Rtl.{rtl_text}
 use Rattle.bs_net_names.specs.Signals.{Signal}
 use Rattle.bs_net_names.specs.Values.{value_text}
 use Rattle.bs_inspect_report.specs.Signal.{signal_bits}
-use Rattle.bs_net_names.specs.declared.signal.Signal.{Signal as CodeSignal}
-use Rattle.bs_stim.specs.Runs.{Stimulus, inputs_of, run_at}
 use Rattle.bs_lanes_planes.specs.Planes.{lane}
 use Rattle.bs_break.specs.Masks.{has}
-use Rattle.bs_scan.specs.Moments.{IsMoment, Moment, Run, is_listed, moment, run_of, state_at}
-use Rattle.bs_inspect_novelty.specs.Values.{AreElsewhere, value_at, value_in}
-use Rattle.bs_inspect_novelty.specs.declared.novelty.Novelty.{Novelty}
-use Rattle.bs_inspect_novelty.specs.declared.novelty.TheConstants.{MAX_VALUES}
+use Rattle.bs_scan.specs.Moments.{IsMoment, Moment, Run, is_listed, moment, state_at}
+use Rattle.bs_inspect_novel.specs.Values.{AreElsewhere, value_at, value_in}
+use Rattle.bs_inspect_novel.specs.declared.novelty.Novelty.{Novelty}
+use Rattle.bs_inspect_novel.specs.declared.novelty.TheConstants.{MAX_VALUES}
 
 -- ---- lanes
 

@@ -1,5 +1,5 @@
 //! The lanes that show a value of a signal which is none of a set.
-ghost use Rattle.std.specs.Prelude.{◌≡◌, ◌<◌, ◌≤◌, length, All, slice_index_or};
+ghost use Rattle.std.specs.Prelude.{◌≡◌, ◌<◌, length, All, slice_index_or};
 ghost use Rattle.bs_break.specs.Masks.{IsCut};
 ghost use Rattle.bs_inspect_novel.specs.Shown.{Agrees, Misses};
 
@@ -25,7 +25,6 @@ fn cut(mask: u64, word: u64, bit: bool) -> u64
 }
 
 /// The lanes of a mask that show a value of a signal.
-#[tactic(auto, using(crate::proofs::LookLemmas::agrees_begin, crate::proofs::LookLemmas::agrees_none, crate::proofs::LookLemmas::agrees_more, crate::proofs::LookLemmas::agrees_all))]
 fn agreeing(words: &[u64], places: &[u32], value: &Bits, mask: u64) -> u64
     requires { length value.now ≡ length places.now }
     ensures { Agrees words.now places.now value.now mask result }
@@ -42,7 +41,6 @@ fn agreeing(words: &[u64], places: &[u32], value: &Bits, mask: u64) -> u64
 }
 
 /// The lanes of a mask whose value is none of these.
-#[tactic(auto, using(crate::proofs::LookLemmas::misses_begin, crate::proofs::LookLemmas::misses_more, crate::proofs::LookLemmas::misses_all, crate::proofs::LookLemmas::value_wide))]
 pub(crate) fn misses(words: &[u64], places: &[u32], values: &List<Bits>, mask: u64) -> u64
     requires wide { All (λ v. length v ≡ length places.now) values.now }
     ensures { Misses values.now words.now places.now mask result }

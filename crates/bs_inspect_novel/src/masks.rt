@@ -1,5 +1,5 @@
 //! Which lanes are looked at, and the words of a lane's flip-flops out of planes.
-ghost use Rattle.std.specs.Prelude.{◌≡◌, ◌<◌, ◌≤◌, ◌*◌, ◌+◌, ◌&&◌, length, replicate, slice_index_or, IfOk};
+ghost use Rattle.std.specs.Prelude.{◌≡◌, ◌<◌, ◌*◌, ◌+◌, ◌&&◌, length, replicate, slice_index_or, IfOk};
 ghost use Rattle.bs_stim.specs.Runs.{inputs_of};
 ghost use Rattle.bs_inspect_novel.specs.Shown.{is_viewed, IsColumn, IsMask};
 
@@ -16,13 +16,6 @@ pub(crate) fn zeros(alloc: Global, count: usize) -> Result<Vec<u64>, NoMemory>
     Ok(words)
 }
 
-/// Whether both are true.
-fn both(one: bool, other: bool) -> bool
-    ensures { result ≡ (one && other) }
-{
-    one && other
-}
-
 /// Whether a lane has a run that is not the one with a number, and lasts to a cycle.
 #[tactic(auto, using(crate::proofs::MaskLemmas::viewed_none, crate::proofs::MaskLemmas::viewed_one))]
 fn is_viewed(run: &Run<'_>, first: u32, cycle: u32, lane: u32) -> bool
@@ -34,7 +27,8 @@ fn is_viewed(run: &Run<'_>, first: u32, cycle: u32, lane: u32) -> bool
         return false;
     }
     let lasts = cycle <= run.runs.cycles(first + lane + 1);
-    both(first + lane + 1 != run.number, lasts)
+    let differs = first + lane + 1 != run.number;
+    differs && lasts
 }
 
 /// A mask of one word, made bit by bit.
@@ -62,7 +56,7 @@ pub(crate) fn mask_of(run: &Run<'_>, first: u32, cycle: u32) -> Result<u64, NoMe
 }
 
 /// Writes one word of each plane behind one another.
-#[tactic(auto, using(crate::proofs::MaskLemmas::column_begin, crate::proofs::MaskLemmas::column_more, crate::proofs::MaskLemmas::column_all, crate::proofs::MaskLemmas::word_fits))]
+#[tactic(auto, using(crate::proofs::MaskLemmas::word_fits))]
 pub(crate) fn put_column(planes: &[u64], wide: usize, word: usize, words: &mut Vec<u64>)
     requires word { word < wide }
     requires planes { length planes.now ≡ length words.old.items * wide }

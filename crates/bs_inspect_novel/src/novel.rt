@@ -1,18 +1,18 @@
 //! The text of the values that one run alone has.
-ghost use Rattle.std.specs.Prelude.{◌≡◌, ◌<◌, ◌≤◌, ◌+◌, ◌-◌, ◌^◌, [], length, map, All, IfOk};
+ghost use Rattle.std.specs.Prelude.{◌≡◌, ◌<◌, ◌≤◌, ◌-◌, ◌^◌, [], length, map, All, IfOk};
 ghost use Rattle.bs_net.specs.Netlist.{circuit};
 ghost use Rattle.bs_net_names.specs.Signals.{AreSignals, signal_in};
 ghost use Rattle.bs_stim.specs.Runs.{inputs_of};
 ghost use Rattle.bs_inspect_report.specs.Keys.{flop_keys as flop_keys_of};
 ghost use Rattle.bs_inspect_novel.specs.Novel.{TellsSignals, TellsNovel, TellsOf};
-ghost use Rattle.bs_inspect_novelty.specs.Known.{all_places, AreOwn, AreWhole};
+ghost use Rattle.bs_inspect_novel.specs.Known.{all_places, AreOwn, AreWhole};
 
+use crate::novelty::{novelties_of, ordered};
 use crate::own::own_states;
 use crate::run::Run;
 use crate::sets::sets_of;
 use crate::text::{alone_text, first_of, novelties_text};
 use bs_bits::{Bits, List, NoMemory};
-use bs_inspect_novelty::{novelties_of, ordered};
 use bs_inspect_report::flop_keys;
 use bs_net::Netlist;
 use bs_net_names::{Signal, signals};
@@ -20,7 +20,6 @@ use bs_stim::Runs;
 use std::alloc::Global;
 
 /// The text by the states of the run.
-#[tactic(auto, using(crate::proofs::NovelLemmas::first_showable))]
 fn text_by_states(
     run: &Run<'_>,
     most: u64,

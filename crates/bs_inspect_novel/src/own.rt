@@ -4,7 +4,7 @@ ghost use Rattle.bs_lanes_planes.specs.Planes.{lane as lane_in};
 ghost use Rattle.bs_net.specs.Netlist.{circuit};
 ghost use Rattle.bs_scan.specs.Moments.{run_of, state_at};
 ghost use Rattle.bs_stim.specs.Runs.{inputs_of};
-ghost use Rattle.bs_inspect_novelty.specs.Known.{AreOwn};
+ghost use Rattle.bs_inspect_novel.specs.Known.{AreOwn};
 
 use crate::run::Run;
 use bs_bits::{Bits, List, NoMemory};
@@ -13,7 +13,6 @@ use bs_lanes_planes::lane_bit;
 use std::alloc::Global;
 
 /// The bits of a lane.
-#[tactic(auto, using(crate::proofs::OwnLemmas::lane_more, crate::proofs::OwnLemmas::plane_fits, crate::proofs::OwnLemmas::lane_none))]
 fn lane_state(
     alloc: Global,
     planes: &[u64],
@@ -55,7 +54,6 @@ fn state_of(run: &Run<'_>, pass: &Pass<'_>) -> Result<Bits, NoMemory>
 }
 
 /// Puts the states of the run with a number to none, by a pass that stands at reset.
-#[tactic(auto, using(crate::proofs::OwnLemmas::own_begin, crate::proofs::OwnLemmas::own_more, crate::proofs::OwnLemmas::own_all, crate::proofs::OwnLemmas::own_run))]
 fn push_states(run: &Run<'_>, pass: &mut Pass<'_>, own: &mut List<Bits>) -> Result<(), NoMemory>
     requires circuit { pass.old.circuit ≡ circuit run.now.net.now }
     requires runs { pass.old.runs ≡ inputs_of run.now.runs.now }

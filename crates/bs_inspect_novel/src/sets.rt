@@ -1,17 +1,17 @@
 //! The values that other runs have, of each signal: all runs are moved in lock step.
-ghost use Rattle.std.specs.Prelude.{◌≡◌, ◌<◌, ◌≤◌, ◌+◌, ◌*◌, [], length, map, slice_index_or, IfOk, OnOk};
+ghost use Rattle.std.specs.Prelude.{◌≡◌, ◌<◌, ◌≤◌, ◌+◌, ◌*◌, [], length, IfOk, OnOk};
 ghost use Rattle.bs_net.specs.Netlist.{circuit};
 ghost use Rattle.bs_stim.specs.Runs.{inputs_of};
 ghost use Rattle.bs_chip.specs.Lockstep.{ShowsCycle, wide_of};
-ghost use Rattle.bs_inspect_novelty.specs.Known.{all_places, AreWhole};
+ghost use Rattle.bs_inspect_novel.specs.Known.{all_places, AreWhole};
 ghost use Rattle.bs_inspect_novel.specs.Shown.{AreEmpty, AreSets, IsMask, IsSet, ShowsWords};
 
 use crate::masks::{mask_of, put_column, zeros};
+use crate::novelty::MAX_VALUES;
 use crate::run::{Column, Run};
 use crate::values::add_values;
 use bs_bits::{Bits, List, NoMemory};
 use bs_chip::{Pass, step_to};
-use bs_inspect_novelty::MAX_VALUES;
 use bs_net_names::Signal;
 use std::alloc::Global;
 
@@ -90,7 +90,6 @@ fn extend_word(
 }
 
 /// Puts the values of a cycle to the sets.
-#[tactic(auto, using(crate::proofs::SetLemmas::sets_zero, crate::proofs::SetLemmas::cycle_done))]
 fn extend_cycle(
     run: &Run<'_>,
     cycle: u32,
@@ -116,7 +115,6 @@ fn extend_cycle(
 }
 
 /// Puts the values of all cycles to the sets, from reset on.
-#[tactic(auto, using(crate::proofs::SetLemmas::sets_whole, crate::proofs::SetLemmas::pass_shows, crate::proofs::SetLemmas::pass_room, crate::proofs::SetLemmas::pass_wide))]
 fn extend_cycles(
     run: &Run<'_>,
     pass: &mut Pass<'_>,
@@ -142,7 +140,6 @@ fn extend_cycles(
 }
 
 /// Puts so many empty sets to none.
-#[tactic(auto, using(crate::proofs::SetLemmas::empty_none, crate::proofs::SetLemmas::empty_more))]
 fn push_empty(alloc: Global, count: usize, sets: &mut Vec<List<Bits>>) -> Result<(), NoMemory>
     requires { sets.old.items ≡ [] }
     ensures long { OnOk result (length sets.new.items ≡ count) }

@@ -1,16 +1,16 @@
 //! What is found, a line each.
-ghost use Rattle.std.specs.Prelude.{◌≡◌, ◌<◌, ◌≤◌, ◌+◌, ◌^◌, ◌++◌, length, map, take, All, IfOk, OnOk};
+ghost use Rattle.std.specs.Prelude.{◌≡◌, ◌<◌, ◌+◌, ◌^◌, ◌++◌, length, map, take, All, IfOk, OnOk};
 ghost use Rattle.std.specs.List.{flat_map};
 ghost use Rattle.bs_net.specs.Netlist.{circuit};
 ghost use Rattle.bs_net_names.specs.Signals.{signal_in};
 ghost use Rattle.bs_stim.specs.Runs.{inputs_of};
-ghost use Rattle.bs_inspect_novel.specs.Novel.{alone_text, novelty_line, novelties_text, nothing_text};
-ghost use Rattle.bs_inspect_novelty.specs.Known.{AreOwn};
+ghost use Rattle.bs_inspect_novel.specs.Novel.{alone_text, novelty_line, novelties_text};
+ghost use Rattle.bs_inspect_novel.specs.Known.{AreOwn};
 ghost use Rattle.bs_inspect_novel.specs.Shown.{IsShowable, state_line};
 
+use crate::novelty::Novelty;
 use crate::run::Run;
 use bs_bits::{Bits, List, NoMemory, end_line, push_line, push_number, push_piece};
-use bs_inspect_novelty::Novelty;
 use bs_inspect_report::push_signal_value;
 use bs_net_names::{Signal, push_rtl_name};
 use std::alloc::Global;
@@ -33,11 +33,12 @@ fn push_state(
     push_signal_value(text, state, signal.places.slice())?;
     push_piece(text, b", others ")?;
     push_number(text, count as u64)?;
-    end_line(text)
+    end_line(text)?;
+    Ok(())
 }
 
 /// Appends the line of what is found.
-#[tactic(auto, using(crate::proofs::TextLemmas::line_is, crate::proofs::TextLemmas::cycle_there))]
+#[tactic(auto, using(crate::proofs::TextLemmas::cycle_there))]
 fn push_novelty(
     text: &mut Vec<u8>,
     run: &Run<'_>,

@@ -1,16 +1,16 @@
 //! The values of a signal that other runs have, each once.
-ghost use Rattle.std.specs.Prelude.{◌≡◌, ◌<◌, ◌≤◌, ◌+◌, true, [], ◌∷◌, ◌++◌, length, All, IfOk, OnOk};
+ghost use Rattle.std.specs.Prelude.{◌≡◌, ◌<◌, ◌+◌, true, [], ◌∷◌, ◌++◌, length, IfOk, OnOk};
 ghost use Rattle.bs_break.specs.Masks.{has};
 ghost use Rattle.bs_lanes_planes.specs.Planes.{lane as lane_in};
 ghost use Rattle.bs_net.specs.Netlist.{circuit};
 ghost use Rattle.bs_stim.specs.Runs.{inputs_of};
-ghost use Rattle.bs_inspect_novelty.specs.Values.{AreElsewhere, state_bit};
+ghost use Rattle.bs_inspect_novel.specs.Values.{AreElsewhere, state_bit};
 ghost use Rattle.bs_inspect_novel.specs.Shown.{Grows, IsFull, IsMask, ShowsWords, words_value};
 
 use crate::look::misses;
+use crate::novelty::MAX_VALUES;
 use crate::run::{Column, Run};
 use bs_bits::{Bits, List, NoMemory};
-use bs_inspect_novelty::MAX_VALUES;
 use bs_lanes_planes::lane_bit;
 use std::alloc::Global;
 
@@ -28,7 +28,6 @@ fn bit_of(words: &[u64], place: u32, lane: u32) -> bool
 }
 
 /// The value of a signal in a lane.
-#[tactic(auto, using(bs_inspect_novelty::proofs::ValueLemmas::value_more))]
 fn value_of(alloc: Global, words: &[u64], places: &[u32], lane: u32) -> Result<Bits, NoMemory>
     requires { lane < 64 }
     ensures { IfOk result (λ bits. bits ≡ words_value places.now words.now lane) }
@@ -47,22 +46,6 @@ fn lowest(left: u64) -> u32
     ensures one { has left result ≡ true }
 {
     left.trailing_zeros()
-}
-
-/// Puts the value of a lane at the end.
-fn add_value(
-    alloc: Global,
-    words: &[u64],
-    places: &[u32],
-    values: &mut List<Bits>,
-    lane: u32,
-) -> Result<(), NoMemory>
-    requires { lane < 64 }
-    ensures { OnOk result (values.new ≡ values.old ++ words_value places.now words.now lane ∷ []) }
-{
-    let value = value_of(alloc, words, places, lane)?;
-    values.push(value)?;
-    Ok(())
 }
 
 /// Puts the values at the end that lanes show and that are not there, until there are more than `MAX_VALUES`.
@@ -85,8 +68,8 @@ pub(crate) fn add_values(
         if left == 0 {
             return Ok(());
         }
-        let lane = lowest(left);
-        add_value(run.alloc, column.words, places, values, lane)?;
+        let value = value_of(run.alloc, column.words, places, lowest(left))?;
+        values.push(value)?;
     }
     Ok(())
 }

@@ -12,7 +12,7 @@ use Rattle.bs_report.specs.declared.report.Report.{Report}
 use Rattle.bs_report.specs.declared.report.Step.{Step}
 use Rattle.bs_report.specs.declared.report.Stop.{Stop as StopCause}
 use Rattle.bs_report.specs.declared.report.Stop.TheVariants as stops
-use Rattle.bs_inspect_cells.specs.Names.{name_cell, shown_name}
+use Rattle.bs_inspect_html.specs.Names.{name_cell, shown_name}
 use Rattle.bs_inspect_page.specs.Columns.{columns_text, count_text}
 use Rattle.bs_inspect_page.specs.Execution.{cycle_column}
 use Rattle.bs_inspect_page.specs.Last.{cand_cell, cand_column, cand_row, filled_text, list_front, list_text, unmet_list}

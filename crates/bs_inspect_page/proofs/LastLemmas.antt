@@ -9,8 +9,8 @@ use Rattle.bs_net_names.specs.Signals.{Signal, signal_in}
 use Rattle.bs_report.specs.declared.report.Cand.{Cand}
 use Rattle.bs_report.specs.declared.report.Report.{Report}
 use Rattle.bs_report.specs.declared.report.Step.{Step}
-use Rattle.bs_inspect_cells.proofs.PutLemmas.{five_put, three_put}
-use Rattle.bs_inspect_cells.specs.Names.{name_cell}
+use Rattle.bs_inspect_html.proofs.PutLemmas.{five_put, three_put}
+use Rattle.bs_inspect_html.specs.Names.{name_cell}
 use Rattle.bs_inspect_report.proofs.TableLemmas.{piece_more}
 use Rattle.bs_inspect_page.specs.Columns.{count_text}
 use Rattle.bs_inspect_page.specs.declared.last_list.TheConstants.{MAX_SHOWN}

@@ -8,12 +8,12 @@ use Rattle.bs_report.specs.declared.report.Report.{Report}
 use Rattle.bs_inspect_page.specs.Opens.{opens_of}
 use Rattle.bs_net_names.specs.Signals.{Signal}
 use Rattle.bs_inspect_page.specs.Rows.{group_text}
-use Rattle.bs_inspect_cells.proofs.PutLemmas.{four_put, three_put}
+use Rattle.bs_inspect_html.proofs.PutLemmas.{four_put, three_put}
 use Rattle.bs_inspect_report.specs.Lemmas.{lemmas_logged}
-use Rattle.bs_inspect_front.specs.Front.{front_text}
-use Rattle.bs_inspect_front.specs.Signed.{SignatureFile}
-use Rattle.bs_inspect_cells.specs.Cells.{Figure}
-use Rattle.bs_inspect_front.specs.Reads.{signed_of}
+use Rattle.bs_inspect_html.specs.Front.{front_text}
+use Rattle.bs_inspect_html.specs.Signed.{SignatureFile}
+use Rattle.bs_inspect_html.specs.Cells.{Figure}
+use Rattle.bs_inspect_html.specs.Reads.{signed_of}
 use Rattle.bs_inspect_page.specs.Page.{PageOptions, ShowsFigure, ShowsReport, end_text, flops_heading, input_figure, inputs_heading, page_text, state_figure, steps_shown, trace_front, trace_text}
 use Rattle.bs_inspect_page.specs.Steps.{steps_front, steps_part, steps_rows}
 

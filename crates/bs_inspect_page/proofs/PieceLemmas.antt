@@ -4,8 +4,8 @@ use Rattle.std.specs.Prelude.{codes, decimal}
 use Rattle.bs_report.specs.declared.report.Report.{Report}
 use Rattle.bs_report.specs.declared.report.Step.{Step}
 use Rattle.bs_inspect_report.specs.Steps.{differing, list_word}
-use Rattle.bs_inspect_cells.proofs.PutLemmas.{five_put, number_put, three_put}
-use Rattle.bs_inspect_front.proofs.PieceLemmas.{between_put}
+use Rattle.bs_inspect_html.proofs.PutLemmas.{five_put, number_put, three_put}
+use Rattle.bs_inspect_html.proofs.PieceLemmas.{between_put}
 use Rattle.bs_inspect_page.specs.Columns.{far_column, moment_text, origin_text}
 use Rattle.bs_inspect_page.specs.Opens.{step_of}
 use Rattle.bs_inspect_page.specs.Steps.{begin_cells, from_text, next_cell, step_end, step_list}

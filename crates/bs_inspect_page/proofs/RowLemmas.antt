@@ -3,9 +3,9 @@ use Rattle.std.proofs.Common.{◌≡◌, ℕ, ◌<◌, ◌+◌, List, ◌++◌, 
 use Rattle.std.specs.Prelude.{codes}
 use Rattle.bs_net_names.specs.declared.signal.Signal.{Signal as CodeSignal}
 use Rattle.bs_net_names.specs.Signals.{Signal, signal_in}
-use Rattle.bs_inspect_cells.specs.Cells.{Figure}
-use Rattle.bs_inspect_cells.specs.Names.{name_cell}
-use Rattle.bs_inspect_cells.proofs.PutLemmas.{five_put, three_put}
+use Rattle.bs_inspect_html.specs.Cells.{Figure}
+use Rattle.bs_inspect_html.specs.Names.{name_cell}
+use Rattle.bs_inspect_html.proofs.PutLemmas.{five_put, three_put}
 use Rattle.bs_inspect_report.proofs.TableLemmas.{piece_more}
 use Rattle.bs_inspect_page.specs.Rows.{cells_text, group_text, row_text, signal_rows}
 

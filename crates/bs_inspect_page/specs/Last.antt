@@ -7,7 +7,7 @@ use Rattle.bs_report.specs.declared.report.Cand.{Cand}
 use Rattle.bs_report.specs.declared.report.HitLine.{HitLine}
 use Rattle.bs_report.specs.declared.report.Report.{Report}
 use Rattle.bs_report.specs.declared.report.Step.{Step}
-use Rattle.bs_inspect_cells.specs.Names.{name_cell}
+use Rattle.bs_inspect_html.specs.Names.{name_cell}
 use Rattle.bs_inspect_report.specs.Signal.{bit_at, signal_bits}
 use Rattle.bs_inspect_page.specs.Columns.{count_text}
 use Rattle.bs_inspect_page.specs.declared.last_list.TheConstants.{MAX_SHOWN}

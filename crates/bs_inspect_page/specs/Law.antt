@@ -2,7 +2,7 @@
 use Rattle.std.specs.Prelude.{◌≡◌, ℕ, Bool, List, [], slice_index_or}
 use Rattle.bs_report.specs.declared.report.Report.{Report}
 use Rattle.bs_inspect_report.specs.Signal.{signal_bits}
-use Rattle.bs_inspect_cells.specs.Cells.{bits_at}
+use Rattle.bs_inspect_html.specs.Cells.{bits_at}
 use Rattle.bs_inspect_page.specs.Page.{input_figure, state_figure}
 
 -- the bits of a signal of flip-flops at a state, and of one of data inputs at an input

@@ -4,16 +4,16 @@ use Rattle.bs_net.specs.Parts.{Parts}
 use Rattle.bs_net_names.specs.Signals.{AreSignals, Signal}
 use Rattle.bs_report.specs.declared.report.Report.{Report}
 use Rattle.bs_report.specs.declared.report.Step.{Step}
-use Rattle.bs_inspect_cells.specs.Cells.{Figure, is_lively}
+use Rattle.bs_inspect_html.specs.Cells.{Figure, is_lively}
 use Rattle.bs_inspect_page.specs.Rows.{group_text}
 use Rattle.bs_inspect_report.specs.Execution.{is_execution}
 use Rattle.bs_inspect_report.specs.Keys.{flop_keys, input_keys}
 use Rattle.bs_inspect_report.specs.Steps.{differing_bits}
 use Rattle.bs_inspect_view.specs.Drawn.{is_nameless}
 use Rattle.bs_inspect_page.specs.Columns.{columns_text}
-use Rattle.bs_inspect_front.specs.Front.{front_text}
-use Rattle.bs_inspect_front.specs.Reads.{signed_of}
-use Rattle.bs_inspect_front.specs.Signed.{SignatureFile, file_in}
+use Rattle.bs_inspect_html.specs.Front.{front_text}
+use Rattle.bs_inspect_html.specs.Reads.{signed_of}
+use Rattle.bs_inspect_html.specs.Signed.{SignatureFile, file_in}
 use Rattle.bs_inspect_page.specs.Last.{has_open, list_text, unmet_list}
 use Rattle.bs_inspect_page.specs.Opens.{opens_of}
 use Rattle.bs_inspect_page.specs.Steps.{steps_part}

@@ -3,8 +3,8 @@ use Rattle.std.specs.Prelude.{ℕ, ◌-◌, ◌==◌, nat_lt, Bool, true, false,
 use Rattle.std.specs.List.{flat_map, range_with_len}
 use Rattle.bs_net_names.specs.Signals.{Signal}
 use Rattle.bs_net_names.specs.Values.{value_text}
-use Rattle.bs_inspect_cells.specs.Cells.{ValueCell, Figure, begins, cell_from}
-use Rattle.bs_inspect_cells.specs.Names.{name_cell}
+use Rattle.bs_inspect_html.specs.Cells.{ValueCell, Figure, begins, cell_from}
+use Rattle.bs_inspect_html.specs.Names.{name_cell}
 
 -- a bit that is 1, one that is 0, or a vector
 abbrev pub value_class : List Bool → List ℕ

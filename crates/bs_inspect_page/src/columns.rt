@@ -6,7 +6,7 @@ ghost use Rattle.bs_inspect_page.specs.Columns.{column_text, columns_text, corne
 use crate::execution::push_cycle_column;
 use crate::opens::step_of;
 use bs_bits::{NoMemory, push_number, push_piece};
-use bs_inspect_front::push_before;
+use bs_inspect_html::push_before;
 use bs_inspect_report::is_execution;
 use bs_report::{HitLine, ListEnd, Report, Step};
 

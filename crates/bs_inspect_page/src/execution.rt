@@ -3,7 +3,7 @@ ghost use Rattle.std.specs.Prelude.{◌≡◌, ◌<◌, ◌+◌, ◌^◌, ◌++�
 ghost use Rattle.bs_inspect_page.specs.Execution.{cycle_column, cycle_front};
 
 use bs_bits::{NoMemory, push_piece};
-use bs_inspect_front::push_before;
+use bs_inspect_html::push_before;
 use bs_report::Report;
 
 /// Appends the front of the column of a state.

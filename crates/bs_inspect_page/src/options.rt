@@ -1,5 +1,5 @@
 //! What is asked of a page.
-use bs_inspect_front::SignatureFile;
+use bs_inspect_html::SignatureFile;
 
 /// What is asked of a page: the names of the two files, the signature where one is given, the names of the signals that are drawn alone,
 /// where there are any, and how many signals are drawn at most.

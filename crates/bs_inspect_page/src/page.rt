@@ -1,10 +1,10 @@
 //! The page of a report.
 ghost use Rattle.std.specs.Prelude.{◌≡◌, ◌<◌, ◌^◌, ◌++◌, length, map, option_map, All, IfOk, OnOk};
 ghost use Rattle.bs_net_names.specs.Signals.{signal_in};
-ghost use Rattle.bs_inspect_cells.specs.Figures.{figure_in};
+ghost use Rattle.bs_inspect_html.specs.Figures.{figure_in};
 ghost use Rattle.bs_inspect_page.specs.Rows.{group_text};
-ghost use Rattle.bs_inspect_front.specs.Reads.{signed_of};
-ghost use Rattle.bs_inspect_front.specs.Signed.{file_in};
+ghost use Rattle.bs_inspect_html.specs.Reads.{signed_of};
+ghost use Rattle.bs_inspect_html.specs.Signed.{file_in};
 ghost use Rattle.bs_inspect_page.specs.Page.{AreDrawnFlops, AreDrawnInputs, ShowsFigure, ShowsReport, asked_in, end_text, inputs_heading, input_figure, legend_text, page_text, state_figure, steps_shown, table_front, trace_front, trace_text, trace_words};
 
 use crate::columns::push_columns;
@@ -15,8 +15,7 @@ use crate::options::PageOptions;
 use crate::rows::push_group;
 use crate::step_table::push_step_table;
 use bs_bits::{Bits, List, NoMemory, push_piece};
-use bs_inspect_cells::Figure;
-use bs_inspect_front::{SignatureFile, push_front, signed_of};
+use bs_inspect_html::{Figure, SignatureFile, push_front, signed_of};
 use bs_inspect_report::{flop_signals, input_signals, is_execution};
 use bs_net::Netlist;
 use bs_net_names::Signal;

@@ -4,7 +4,7 @@ ghost use Rattle.bs_inspect_page.specs.Steps.{begin_cells, step_end, from_text, 
 
 use crate::columns::push_moment;
 use bs_bits::{NoMemory, push_number, push_piece};
-use bs_inspect_front::push_between;
+use bs_inspect_html::push_between;
 use bs_inspect_report::{differing, lemmas_logged, member, number_at, push_end};
 use bs_report::{Report, Step};
 

@@ -29,8 +29,8 @@ use Rattle.bs_evidence.specs.declared.flaw.Evidence.TheVariants.{Text, Flawed}
 use Rattle.bs_inspect_plans.specs.Work.{to_table, to_steps_table, to_lists, to_keys, to_seen, to_state, to_evidence, to_lengths, to_page, to_novel, to_why, to_check, to_bench, to_near, Work, plan_of, to_help, to_version, to_flops, to_inputs, to_stats, to_steps, to_trace, to_runs, to_dump, to_wave, to_save, to_signature}
 use Rattle.bs_inspect_check.specs.Comparison.{all_agree}
 use Rattle.bs_top_plan.specs.declared.status.Status.TheVariants.{Done, Rejected}
-use Rattle.bs_inspect_bench.specs.declared.fault.Bench.{Bench}
-use Rattle.bs_inspect_bench.specs.declared.fault.Bench.TheVariants as bench
+use Rattle.bs_inspect_report_texts.specs.declared.fault.Bench.{Bench}
+use Rattle.bs_inspect_report_texts.specs.declared.fault.Bench.TheVariants as bench
 use Rattle.bs_inspect_why.specs.declared.denial.Why.{Why}
 use Rattle.bs_inspect_why.specs.declared.denial.Why.TheVariants as why
 use Rattle.bs_inspect_plans.specs.Finishes.{bench_status, evidence_status, finishes, why_status}

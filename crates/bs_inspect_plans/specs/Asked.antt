@@ -2,13 +2,13 @@
 use Rattle.std.specs.Prelude.{ℕ, Bool, List, Option, Some, None}
 use Rattle.bs_inspect_view.specs.Drawn.{ViewRequest}
 use Rattle.bs_scan.specs.Choice.{Chosen}
-use Rattle.bs_inspect_front.specs.Signed.{SignatureFile}
+use Rattle.bs_inspect_html.specs.Signed.{SignatureFile}
 use Rattle.bs_inspect_page.specs.Page.{PageOptions}
 use Rattle.bs_inspect_why.specs.Question.{Question}
 use Rattle.bs_inspect_words.specs.Request.{CheckRequest, DumpRequest, PageRequest, StimulusRequest, WhyRequest}
-use Rattle.bs_inspect_options.specs.declared.window.TraceWindow.{TraceWindow}
+use Rattle.bs_inspect_usages.specs.declared.window.TraceWindow.{TraceWindow}
 use Rattle.bs_inspect_report.specs.declared.window.Window.{Window}
-use Rattle.bs_inspect_check_files.specs.Checked.{CheckFiles}
+use Rattle.bs_inspect_files.specs.Checked.{CheckFiles}
 use Rattle.bs_inspect_values.specs.Dumped.{DumpFiles}
 use Rattle.bs_inspect_values.specs.Simulated.{Clocked}
 

@@ -13,21 +13,21 @@ use Rattle.bs_inspect_view.specs.View.{IsDrawing}
 use Rattle.bs_inspect_lists.specs.Signature.{TellsSignature}
 use Rattle.bs_inspect_novel.specs.Novel.{TellsNovel}
 use Rattle.bs_inspect_near.specs.Tells.{TellsNear}
-use Rattle.bs_inspect_netlist.specs.Called.{TellsKeys}
+use Rattle.bs_inspect_names.specs.Called.{TellsKeys}
 use Rattle.bs_inspect_netlist.specs.Order.{state_line}
 use Rattle.bs_inspect_netlist.specs.Lines.{TellsFlops, TellsInputs}
 use Rattle.bs_inspect_netlist.specs.Sizes.{TellsSizes}
 use Rattle.bs_inspect_page.specs.Page.{ShowsReport}
-use Rattle.bs_inspect_candidates.specs.Lists.{TellsLists}
+use Rattle.bs_inspect_report_texts.specs.Lists.{TellsLists}
 use Rattle.bs_inspect_report.specs.Recorded.{recorded_moments}
 use Rattle.bs_inspect_report.specs.Remarks.{remarks}
 use Rattle.bs_inspect_report.specs.Steps.{steps_text}
 use Rattle.bs_inspect_report.specs.Table.{TellsTable, steps_table}
 use Rattle.bs_inspect_report.specs.Trace.{TellsTrace}
-use Rattle.bs_inspect_bench.specs.Bench.{BenchAnswers}
-use Rattle.bs_inspect_bench.specs.Faults.{bench_fault_text}
-use Rattle.bs_inspect_bench.specs.declared.fault.Bench.{Bench}
-use Rattle.bs_inspect_bench.specs.declared.fault.Bench.TheVariants as bench
+use Rattle.bs_inspect_report_texts.specs.Bench.{BenchAnswers}
+use Rattle.bs_inspect_report_texts.specs.Faults.{bench_fault_text}
+use Rattle.bs_inspect_report_texts.specs.declared.fault.Bench.{Bench}
+use Rattle.bs_inspect_report_texts.specs.declared.fault.Bench.TheVariants as bench
 use Rattle.bs_stim.specs.Runs.{inputs_of}
 use Rattle.bs_inspect_seen.specs.State.{state_line as seen_line}
 use Rattle.bs_inspect_why.specs.Denials.{denial_text}
@@ -44,7 +44,7 @@ use Rattle.bs_evidence.specs.declared.flaw.Evidence.TheVariants.{Text, Flawed}
 use Rattle.bs_evidence.specs.Evidence.{IsEvidence}
 use Rattle.bs_evidence.specs.Words.{flaw_text}
 use Rattle.bs_evidence.specs.Lengths.{IsEvidence as IsLengthEvidence}
-use Rattle.bs_inspect_answers.specs.Searched.{AnswerFiles}
+use Rattle.bs_top_reach.specs.Searched.{AnswerFiles}
 use Rattle.bs_inspect_files.specs.Taken.{BenchFiles, ReportFiles, TraceFiles}
 use Rattle.bs_inspect_plans.specs.Work.{to_table, to_steps_table, to_lists, to_keys, to_seen, to_state, to_evidence, to_lengths, to_page, to_novel, to_why, to_check, to_bench, to_near}
 
@@ -137,5 +137,5 @@ finishes (to_novel most one_run) status text = (status ≡ Done) × TellsNovel o
 finishes (to_why q trace_files) status text = TellsReasons q trace_files status text
 finishes (to_check checked) status text = (status ≡ check_status checked.comparisons) × TellsCheck checked.raw checked.comparisons text
 finishes (to_near near_files) status text =
-    (status ≡ Done) × TellsNear near_files.run_files.raw (inputs_of near_files.run_files.runs) near_files.state text
+    (status ≡ Done) × TellsNear near_files.run_files.raw (inputs_of near_files.run_files.runs) near_files.seen text
 finishes (to_bench top bench_files) status text = TellsBench top bench_files status text

@@ -4,3 +4,5 @@ pub mod Work
 pub mod Sources
 pub mod Finishes
 pub mod Said
+pub mod Readings
+pub mod Taken

@@ -1,6 +1,8 @@
 -- What is said of an answer, besides.
-use Rattle.std.specs.Prelude.{◌≡◌, ℕ, List, find, Option, Some, None, Result, Ok, Err, if◌then◌else◌, [], ◌∷◌}
+use Rattle.std.specs.Prelude.{◌≡◌, ◌==◌, ℕ, List, find, filter, length, map, slice_index_or, Option, Some, None, Result, Ok, Err, if◌then◌else◌, [], ◌∷◌}
+use Rattle.std.specs.List.{range_with_len}
 use Rattle.bs_bits.specs.declared.memory.NoMemory.{NoMemory}
+use Rattle.bs_net.specs.Parts.{Parts}
 use Rattle.bs_outside.specs.Calls.{FetchCall}
 use Rattle.bs_top_plan.specs.declared.reply.Reply.{Reply}
 use Rattle.bs_top_plan.specs.declared.status.Status.{Status}
@@ -13,19 +15,22 @@ use Rattle.bs_top_answer.specs.Prepared.{NoteAlong}
 use Rattle.bs_top_files.specs.Looking.{netlist_looked, report_looked}
 use Rattle.bs_top_files.specs.NoteCases.{NoteCase, NoteSays}
 use Rattle.bs_inspect_words.specs.Request.{Request, Help, Version, Flops, Inputs, Stats, Keys, Seen, Trace, TraceTable, Steps, StepsTable, Lists, Wave, Gtkw, Stimulus, Check, Dump, Signature, Unscan, Bench, Cnf, Lrat, ReachCnf, ReachLrat, Page, Novel, Near, Why}
-use Rattle.bs_inspect_check_files.specs.Checked.{checked_looked}
-use Rattle.bs_inspect_near_files.specs.Taken.{near_files_looked}
+use Rattle.bs_inspect_files.specs.Checked.{checked_looked}
+use Rattle.bs_inspect_plans.specs.Taken.{near_files_looked}
 use Rattle.bs_inspect_values.specs.Dumped.{dumped_looked}
 use Rattle.bs_inspect_values.specs.Simulated.{Simulated, clock_key, simulated_looked}
 use Rattle.bs_inspect_values.specs.SimulatedRun.{SimulatedRun, is_late}
 use Rattle.bs_evidence.specs.declared.evidence.Format.TheVariants.{Clauses, Proof}
-use Rattle.bs_inspect_answers.specs.Searched.{answer_files_looked}
+use Rattle.bs_top_reach.specs.Searched.{answer_files_looked}
 use Rattle.bs_inspect_files.specs.Paged.{page_files_looked}
 use Rattle.bs_inspect_files.specs.Taken.{bench_files_looked, charted_looked, one_run_looked, run_files_looked, report_files_looked, picked_looked}
-use Rattle.bs_inspect_files.specs.FlopFiles.{named_looked, scanned_looked}
+use Rattle.bs_inspect_files.specs.FlopFiles.{Scanned, named_looked, scanned_looked}
 use Rattle.bs_inspect_seen.specs.Taken.{named_looked as named_values_looked}
 use Rattle.bs_inspect_usages.specs.Usages.{words_text}
+use Rattle.bs_inspect_netlist.specs.Order.{is_unlisted, unlisted_count}
+use Rattle.bs_inspect_notes.specs.Names.{unlisted_text}
 use Rattle.bs_inspect_notes.specs.Simulations.{data_clock_text, late_text}
+use Rattle.bs_inspect_report.specs.Keys.{flop_keys}
 use Rattle.bs_inspect_plans.specs.Asked.{check_files, clocked_of, dump_files, page_options, question_of, window_of}
 use Rattle.bs_inspect_plans.specs.Sources.{source_of, sources_of}
 use Rattle.bs_inspect_plans.specs.Work.{Work, to_help, to_version, to_flops, to_inputs, to_stats, to_steps, to_trace, to_runs, to_dump, to_wave, to_save, to_signature, to_table, to_steps_table, to_lists, to_keys, to_seen, to_state, to_evidence, to_lengths, to_page, to_novel, to_why, to_check, to_bench, to_near}
@@ -122,9 +127,24 @@ late_doubt (Some r) = Some (late_text r.run.name r.begin)
 abbrev pub runs_doubt : List ℕ → Simulated → Option (List ℕ)
 runs_doubt clock s = if s.sampled.data_clock then Some (data_clock_text clock (clock_key s.raw)) else late_doubt (find is_late s.sampled.runs)
 
--- what is said of work that is done: what is doubtful about runs; and nothing of other work
+-- the keys of flip-flops, which have these, that an order has no line for
+abbrev pub keys_unlisted : List (List ℕ) → List ℕ → List (List ℕ)
+keys_unlisted keys order = map (λ flop. slice_index_or keys flop []) (filter (is_unlisted order) (range_with_len 0 (length keys)))
+
+abbrev pub unlisted_keys : Parts → List ℕ → List (List ℕ)
+unlisted_keys raw order = keys_unlisted (flop_keys raw) order
+
+-- the flip-flops of a netlist that an order has no line for, so many of them, where there are some
+abbrev pub count_doubt : ℕ → Parts → List ℕ → Option (List ℕ)
+count_doubt count raw order = if count == 0 then None else Some (unlisted_text count (length raw.flops) (unlisted_keys raw order))
+
+abbrev pub order_doubt : Scanned → Option (List ℕ)
+order_doubt scanned = count_doubt (unlisted_count (length scanned.raw.flops) scanned.order) scanned.raw scanned.order
+
+-- what is said of work that is done: what is doubtful about runs, and which flip-flops a scan chain lacks; and nothing of other work
 abbrev pub work_note : Work → Option (List ℕ)
 work_note (to_runs clock simulated) = runs_doubt clock simulated
+work_note (to_state scanned) = order_doubt scanned
 work_note _ = None
 
 abbrev pub WorkSaid : Work → List ℕ → Note → Type 0

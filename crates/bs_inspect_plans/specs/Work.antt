@@ -8,11 +8,11 @@ use Rattle.bs_top_files.specs.Entry.{netlist_of, report_of}
 use Rattle.bs_top_files.specs.Refusals.{Case}
 use Rattle.bs_evidence.specs.declared.evidence.Format.{Format}
 use Rattle.bs_evidence.specs.declared.evidence.Format.TheVariants.{Clauses, Proof}
-use Rattle.bs_inspect_answers.specs.Searched.{AnswerFiles, answer_files_of}
+use Rattle.bs_top_reach.specs.Searched.{AnswerFiles, answer_files_of}
 use Rattle.bs_inspect_files.specs.Taken.{BenchFiles, OneRun, TraceFiles, RunFiles, ReportFiles, bench_files_of, picked_of, charted_of, one_run_of, run_files_of, report_files_of}
 use Rattle.bs_inspect_files.specs.Paged.{page_files_of}
-use Rattle.bs_inspect_check_files.specs.Checked.{Checked, checked_of}
-use Rattle.bs_inspect_near_files.specs.Taken.{NearFiles, near_files_of}
+use Rattle.bs_inspect_files.specs.Checked.{Checked, checked_of}
+use Rattle.bs_inspect_plans.specs.Taken.{NearFiles, near_files_of}
 use Rattle.bs_inspect_values.specs.Dumped.{Dumped, dumped_of}
 use Rattle.bs_inspect_values.specs.Simulated.{Simulated, simulated_of}
 use Rattle.bs_inspect_files.specs.FlopFiles.{Scanned, named_of, scanned_of}
@@ -27,7 +27,7 @@ use Rattle.bs_inspect_plans.specs.Asked.{check_files, clocked_of, dump_files, pa
 -- many items is to be written; a trace or steps as a table, the lists of a report with the names of a netlist, the keys of the flip-flops that names stand for, what names with values show of a state, the state that a
 -- pattern of a scan chain is, or the evidence for the list of a step or for all lists, or for a length of an answer or for all that it
 -- refutes; or a report as a page, or in so many lines the values that a run alone has, or what forces the bits of a name in a trace; or
--- recorded runs beside a simulation; what a dump's state is near to; a trace as a test bench of the module with a name; or what a
+-- recorded runs beside a simulation; what is near to a dump's state; a trace as a test bench of the module with a name; or what a
 -- viewer is to show of the waveform with a name
 pub data Work : Type 0 where
   to_help : Work

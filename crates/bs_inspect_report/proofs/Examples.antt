@@ -1,4 +1,4 @@
--- An execution of two cycles, and one of none, as text, as table and as comments of a waveform.
+-- An execution of two cycles, one of none, and a dump known in part, as text, as table and as comments of a waveform.
 use Rattle.std.proofs.Common.{◌≡◌, ℕ, Bool, true, false, List, [], ◌∷◌, Option, Some, None, refl}
 use Rattle.std.specs.Prelude.{codes}
 use Rattle.std.specs.Fmt.{digits}
@@ -86,3 +86,34 @@ worked_remarks = refl
 worked_reset : trace_lines no_cycle signals false whole ≡ codes "0 state asked\n0 flop q = 1\n"
 unfolding digits
 worked_reset = refl
+
+-- ---- a dump of two flip-flops, of which the second is not known, without a hit
+
+abbrev seen_dump : Report
+seen_dump =
+    record {
+      depth = 1;
+      budgets = record { steps = 4; candidates = 20; conflicts = 100 };
+      steps = [];
+      stop = stops.Nohit;
+      states = (true ∷ false ∷ []) ∷ [];
+      inputs = [];
+      free = false ∷ true ∷ [];
+      log = [];
+    }
+
+abbrev two_flops : Signals
+two_flops = record {
+  flops =
+      (record { base = codes "v"; high = Some 1; places = 0 ∷ 1 ∷ [] }) ∷ (record { base = codes "q"; high = None; places = 1 ∷ [] })
+      ∷ (record { base = codes "w"; high = Some 1; places = 0 ∷ 0 ∷ [] }) ∷ [];
+  inputs = bit (codes "d") ∷ [];
+}
+
+worked_seen : trace_lines seen_dump two_flops false whole ≡ codes "0 state dump\n0 flop v[1:0] = 0b1-\n0 flop q = -\n0 flop w[1:0] = 0x3\n"
+unfolding digits
+worked_seen = refl
+
+worked_seen_table : trace_rows seen_dump two_flops whole ≡ codes "state,from,run,cycle,v[1:0],q,w[1:0],d\n0,dump,,,0b1-,-,0x3,\n"
+unfolding digits
+worked_seen_table = refl

@@ -21,12 +21,17 @@ bits_more bits places i d own lt e =
     ap (λ (bs : List Bool). bs ++ bit_at bits (get_or places i d) ∷ []) e
     ∙ (sym (map-append (bit_at bits) (take i places) (get_or places i d ∷ [])) ∙ ap (signal_bits bits) (sym (take_more places i d lt)))
 
-pub signals_more : (kind : List ℕ) (cycle : ℕ) (before : Option (List Bool)) (now : List Bool) (signals : List CodeSignal) (i : ℕ) (d : CodeSignal)
-    (old text after : List ℕ) → i < length signals → text ≡ old ++ signals_lines kind cycle before now (map signal_in (take i signals)) →
-    after ≡ text ++ signal_piece kind cycle before now (signal_in (get_or signals i d)) →
-    after ≡ old ++ signals_lines kind cycle before now (map signal_in (take (i + 1) signals))
-signals_more kind cycle before now signals i d old text after lt e f =
-    let piece : Signal → List ℕ = signal_piece kind cycle before now in
+-- the same of a list that is made bit by bit
+pub row_more : (bits : List Bool) (places : List ℕ) (i d : ℕ) (own after : List Bool) (b : Bool) → i < length places →
+    own ≡ signal_bits bits (take i places) → b ≡ bit_at bits (get_or places i d) → after ≡ own ++ b ∷ [] → after ≡ signal_bits bits (take (i + 1) places)
+row_more bits places i d own after b lt e f g = g ∙ (ap (λ (x : Bool). own ++ x ∷ []) f ∙ bits_more bits places i d own lt e)
+
+pub signals_more : (kind : List ℕ) (cycle : ℕ) (free before : Option (List Bool)) (now : List Bool) (signals : List CodeSignal) (i : ℕ) (d : CodeSignal)
+    (old text after : List ℕ) → i < length signals → text ≡ old ++ signals_lines kind cycle free before now (map signal_in (take i signals)) →
+    after ≡ text ++ signal_piece kind cycle free before now (signal_in (get_or signals i d)) →
+    after ≡ old ++ signals_lines kind cycle free before now (map signal_in (take (i + 1) signals))
+signals_more kind cycle free before now signals i d old text after lt e f =
+    let piece : Signal → List ℕ = signal_piece kind cycle free before now in
     let more : map signal_in (take (i + 1) signals) ≡ map signal_in (take i signals) ++ signal_in (get_or signals i d) ∷ [] =
     ap (map signal_in) (take_more signals i d lt) ∙ map-append signal_in (take i signals) (get_or signals i d ∷ []) in
     let put : flat_map piece (map signal_in (take (i + 1) signals)) ≡ flat_map piece (map signal_in (take i signals)) ++ piece (signal_in

@@ -24,15 +24,24 @@ piece_more piece signals i d old before after lt e f =
     ∙ (flat_map-append piece rest (own ∷ []) ∙ ap (λ (t : List ℕ). flat_map piece rest ++ t) (append-nil (piece own))) in
     f ∙ (ap (λ (t : List ℕ). t ++ piece own) e ∙ (append_assoc old (flat_map piece rest) (piece own) ∙ ap (λ (t : List ℕ). old ++ t) (sym put)))
 
+-- a row of four parts, one after another
+pub row_told : (old a b c d nl one two three four : List ℕ) → one ≡ old ++ a → two ≡ one ++ b → three ≡ two ++ c → four ≡ three ++ d →
+    four ++ nl ≡ old ++ ((a ++ (b ++ (c ++ d))) ++ nl)
+row_told old a b c d nl one two three four e f g h =
+    let two_is : two ≡ (old ++ a) ++ b = f ∙ ap (λ (t : List ℕ). t ++ b) e in
+    let three_is : three ≡ ((old ++ a) ++ b) ++ c = g ∙ ap (λ (t : List ℕ). t ++ c) two_is in
+    let four_is : four ≡ (((old ++ a) ++ b) ++ c) ++ d = h ∙ ap (λ (t : List ℕ). t ++ d) three_is in
+    ap (λ (t : List ℕ). t ++ nl) four_is ∙ simp append_assoc
+
 pub cells_more : (signals : List CodeSignal) (i : ℕ) (d : CodeSignal) (old before after : List ℕ) → i < length signals →
     before ≡ old ++ name_cells (map signal_in (take i signals)) → after ≡ before ++ name_cell (signal_in (get_or signals i d)) →
     after ≡ old ++ name_cells (map signal_in (take (i + 1) signals))
 cells_more signals i d old before after lt e f = piece_more name_cell signals i d old before after lt e f
 
-pub values_more : (bits : Option (List Bool)) (signals : List CodeSignal) (i : ℕ) (d : CodeSignal) (old before after : List ℕ) → i < length signals →
-    before ≡ old ++ value_cells bits (map signal_in (take i signals)) → after ≡ before ++ value_cell bits (signal_in (get_or signals i d)) →
-    after ≡ old ++ value_cells bits (map signal_in (take (i + 1) signals))
-values_more bits signals i d old before after lt e f = piece_more (value_cell bits) signals i d old before after lt e f
+pub values_more : (free bits : Option (List Bool)) (signals : List CodeSignal) (i : ℕ) (d : CodeSignal) (old before after : List ℕ) → i < length signals →
+    before ≡ old ++ value_cells free bits (map signal_in (take i signals)) → after ≡ before ++ value_cell free bits (signal_in (get_or signals i d)) →
+    after ≡ old ++ value_cells free bits (map signal_in (take (i + 1) signals))
+values_more free bits signals i d old before after lt e f = piece_more (value_cell free bits) signals i d old before after lt e f
 
 -- the row of a step that is there
 pub row_there : (r : Report) (lemmas : List ℕ) (i : ℕ) (step : Step) → slice_get r.steps i ≡ Some step →

@@ -6,16 +6,16 @@ use Rattle.std.specs.Str.{bytes_eq}
 use Rattle.bs_bits.specs.Lines.{line}
 use Rattle.bs_net_names.specs.Rtl.{rtl_text}
 use Rattle.bs_net_names.specs.Signals.{Signal}
-use Rattle.bs_net_names.specs.Values.{value_text}
 use Rattle.bs_net.specs.Parts.{Parts}
 use Rattle.bs_report.specs.declared.report.HitLine.{HitLine}
 use Rattle.bs_report.specs.declared.report.Report.{Report}
 use Rattle.bs_report.specs.declared.report.Step.{Step}
 use Rattle.bs_inspect_report.specs.Execution.{is_execution, place_word}
 use Rattle.bs_inspect_report.specs.Lemmas.{lemmas_logged}
-use Rattle.bs_inspect_report.specs.Signal.{signal_bits}
+use Rattle.bs_inspect_report.specs.Recorded.{step_moment}
+use Rattle.bs_inspect_report.specs.Signal.{seen_value}
 use Rattle.bs_inspect_report.specs.Steps.{differing, list_word}
-use Rattle.bs_inspect_report.specs.Trace.{AreTraced, Signals}
+use Rattle.bs_inspect_report.specs.Trace.{AreTraced, Signals, free_at}
 use Rattle.bs_inspect_report.specs.Window.{shown_piece}
 use Rattle.bs_inspect_report.specs.declared.window.Window.{Window}
 
@@ -55,24 +55,21 @@ abbrev pub head_row : Signals → List ℕ
 head_row signals = line (codes "state,from,run,cycle" ++ (name_cells signals.flops ++ name_cells signals.inputs))
 
 -- the value of a signal, and nothing where there are no bits
-abbrev pub value_cell : Option (List Bool) → Signal → List ℕ
-value_cell None s = codes ","
-value_cell (Some bits) s = codes "," ++ value_text (signal_bits bits s.places)
+abbrev pub value_cell : (free bits : Option (List Bool)) → Signal → List ℕ
+value_cell free None s = codes ","
+value_cell free (Some bits) s = codes "," ++ seen_value free bits s.places
 
-abbrev pub value_cells : Option (List Bool) → List Signal → List ℕ
-value_cells bits signals = flat_map (value_cell bits) signals
+abbrev pub value_cells : (free bits : Option (List Bool)) → List Signal → List ℕ
+value_cells free bits signals = flat_map (value_cell free bits) signals
 
-abbrev pub hit_cells : Option HitLine → List ℕ
-hit_cells None = codes ",none,,"
-hit_cells (Some hit) = codes ",hit," ++ (decimal hit.run ++ (codes "," ++ decimal hit.cycle))
-
-abbrev pub step_cells : Option Step → List ℕ
-step_cells None = codes ",none,,"
-step_cells (Some step) = hit_cells step.hit
+-- the moment at which a state was recorded
+abbrev pub recorded_cells : Option (ℕ × ℕ) → List ℕ
+recorded_cells None = codes ",none,,"
+recorded_cells (Some moment) = codes ",hit," ++ (decimal moment.0 ++ (codes "," ++ decimal moment.1))
 
 -- where a state of a backtrace comes from
 abbrev pub found_cells : Report → ℕ → List ℕ
-found_cells r i = if i + 1 == length r.states then codes ",dump,," else step_cells (slice_get r.steps (length r.states - 2 - i))
+found_cells r i = if i + 1 == length r.states then codes ",dump,," else recorded_cells (step_moment (slice_get r.steps (length r.states - 2 - i)))
 
 -- where a state of an execution stands
 abbrev pub place_cells : Report → ℕ → List ℕ
@@ -85,7 +82,8 @@ origin_cells r i = if is_execution r then place_cells r i else found_cells r i
 -- a state of the trace: where it comes from, all flip-flops, and the input that leads on from it
 abbrev pub state_row : Report → Signals → ℕ → List ℕ
 state_row r signals i =
-    line (decimal i ++ (origin_cells r i ++ (value_cells (slice_get r.states i) signals.flops ++ value_cells (slice_get r.inputs i) signals.inputs)))
+    line (decimal i ++ (origin_cells r i
+    ++ (value_cells (free_at r i) (slice_get r.states i) signals.flops ++ value_cells None (slice_get r.inputs i) signals.inputs)))
 
 -- the rows of the states in the window
 abbrev pub state_rows : Report → Signals → Window → List ℕ

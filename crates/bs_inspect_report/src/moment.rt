@@ -1,29 +1,30 @@
 //! One cycle of a trace.
-ghost use Rattle.std.specs.Prelude.{◌≡◌, ◌<◌, ◌≤◌, ◌+◌, ◌^◌, ◌++◌, length, map, decimal, slice_get, All, OnOk, option_map};
+ghost use Rattle.std.specs.Prelude.{◌≡◌, ◌<◌, ◌≤◌, ◌+◌, ◌^◌, ◌++◌, Some, length, map, decimal, slice_get, All, OnOk, option_map};
 ghost use Rattle.bs_bits.specs.Lines.{line};
 ghost use Rattle.bs_net_names.specs.Signals.{signal_in};
-ghost use Rattle.bs_inspect_report.specs.Trace.{cycle_lines, flops_at, found_words, hit_words, inputs_at, origin_words, place_words, row_before, step_words};
+ghost use Rattle.bs_inspect_report.specs.Trace.{cycle_lines, flops_at, found_words, free_at, inputs_at, is_partial, moment_words, origin_words, place_words, row_before};
 ghost use Rattle.bs_inspect_report.specs.Lines.{signals_in};
 ghost use Rattle.bs_inspect_report.specs.Window.{shown_piece};
 
 use crate::execution::{is_execution, push_place_word};
 use crate::named::Signals;
+use crate::recorded::step_moment;
 use crate::signal::push_signals;
 use crate::window::{Window, is_shown};
 use bs_bits::{Bits, List, NoMemory, end_line, push_number, push_piece};
 use bs_net_names::Signal;
-use bs_report::{HitLine, Report, Step};
+use bs_report::Report;
 
-/// Appends the run and the cycle of a hit.
-fn push_hit(text: &mut Vec<u8>, hit: &Option<HitLine>) -> Result<(), NoMemory>
-    ensures { OnOk result (text.new.items ≡ text.old.items ++ hit_words hit.now) }
+/// Appends the moment at which a state was recorded.
+fn push_moment(text: &mut Vec<u8>, moment: Option<(u32, u32)>) -> Result<(), NoMemory>
+    ensures { OnOk result (text.new.items ≡ text.old.items ++ moment_words moment) }
 {
-    match hit {
-        Some(hit) => {
+    match moment {
+        Some((run, cycle)) => {
             push_piece(text, b" state hit ")?;
-            push_number(text, u64::from(hit.run))?;
+            push_number(text, u64::from(run))?;
             push_piece(text, b" ")?;
-            push_number(text, u64::from(hit.cycle))
+            push_number(text, u64::from(cycle))
         }
         None => push_piece(text, b" state none"),
     }
@@ -36,16 +37,6 @@ pub fn member<T>(list: &List<T>, place: usize) -> Option<&T>
     list.slice().get(place)
 }
 
-/// Appends the hit of a step.
-fn push_step_hit(text: &mut Vec<u8>, step: Option<&Step>) -> Result<(), NoMemory>
-    ensures { OnOk result (text.new.items ≡ text.old.items ++ step_words (option_map (λ s. s.now) step.entry)) }
-{
-    match step {
-        Some(step) => push_hit(text, &step.hit),
-        None => push_piece(text, b" state none"),
-    }
-}
-
 /// Appends where a state of a backtrace comes from.
 fn push_found(text: &mut Vec<u8>, report: &Report, i: usize) -> Result<(), NoMemory>
     requires there { i < length report.now.states }
@@ -55,7 +46,10 @@ fn push_found(text: &mut Vec<u8>, report: &Report, i: usize) -> Result<(), NoMem
     if i + 1 == report.states.len() {
         return push_piece(text, b" state dump");
     }
-    push_step_hit(text, member(&report.steps, report.states.len() - 2 - i))
+    push_moment(
+        text,
+        step_moment(member(&report.steps, report.states.len() - 2 - i)),
+    )
 }
 
 /// Appends where a state of an execution stands.
@@ -81,6 +75,24 @@ pub(crate) fn push_origin(text: &mut Vec<u8>, report: &Report, i: usize) -> Resu
     }
 }
 
+/// Whether some flip-flops of a state are not known.
+fn is_partial(report: &Report, i: usize) -> bool
+    ensures { result ≡ is_partial report.now i }
+{
+    report.free.len() != 0 && report.states.len().saturating_sub(i) == 1
+}
+
+/// The flip-flops that are not known in a state.
+pub(crate) fn free_at(report: &Report, i: usize) -> Option<&Bits>
+    ensures { option_map (λ b. b.now) result ≡ free_at report.now i }
+{
+    if is_partial(report, i) {
+        Some(&report.free)
+    } else {
+        None
+    }
+}
+
 /// The state, or the input, before the one with this number, where what has not changed since is left out.
 fn row_before(rows: &List<Bits>, all: bool, i: usize) -> Option<&Bits>
     ensures { option_map (λ b. b.now) result ≡ row_before rows.now all i }
@@ -91,7 +103,7 @@ fn row_before(rows: &List<Bits>, all: bool, i: usize) -> Option<&Bits>
     member(rows, i - 1)
 }
 
-/// Appends the flip-flops that changed.
+/// Appends the flip-flops that changed, or all where some are not known.
 fn push_flops(
     text: &mut Vec<u8>,
     report: &Report,
@@ -103,14 +115,29 @@ fn push_flops(
     ensures { OnOk result (text.new.items ≡ text.old.items ++ flops_at report.now (map signal_in flops.now) all i (slice_get report.now.states i)) }
 {
     match member(&report.states, i) {
-        Some(state) => push_signals(
-            text,
-            b" flop ",
-            i as u64,
-            row_before(&report.states, all, i),
-            state,
-            flops,
-        ),
+        Some(state) => {
+            if is_partial(report, i) {
+                push_signals(
+                    text,
+                    b" flop ",
+                    i as u64,
+                    Some(&report.free),
+                    None,
+                    state,
+                    flops,
+                )
+            } else {
+                push_signals(
+                    text,
+                    b" flop ",
+                    i as u64,
+                    None,
+                    row_before(&report.states, all, i),
+                    state,
+                    flops,
+                )
+            }
+        }
         None => Ok(()),
     }
 }
@@ -131,6 +158,7 @@ fn push_inputs(
             text,
             b" input ",
             i as u64,
+            None,
             row_before(&report.inputs, all, i),
             input,
             inputs,

@@ -19,7 +19,7 @@ fn moment_of(hit: &Option<HitLine>) -> Option<(u32, u32)>
 }
 
 /// Those of the hit of a step.
-fn step_moment(step: Option<&Step>) -> Option<(u32, u32)>
+pub(crate) fn step_moment(step: Option<&Step>) -> Option<(u32, u32)>
     ensures { result ≡ step_moment (option_map (λ s. s.now) step.entry) }
 {
     match step {

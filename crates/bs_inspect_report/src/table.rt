@@ -4,21 +4,23 @@ ghost use Rattle.std.specs.List.{flat_map, range_with_len};
 ghost use Rattle.std.specs.Str.{bytes_eq};
 ghost use Rattle.bs_net_names.specs.Rtl.{rtl_text};
 ghost use Rattle.bs_net_names.specs.Signals.{signal_in};
-ghost use Rattle.bs_inspect_report.specs.Table.{TellsTable, found_cells, head_row, hit_cells, is_column, mark, name_cell, name_cells, origin_cells, place_cells, state_row, state_rows, step_cells, trace_rows, value_cell, value_cells};
+ghost use Rattle.bs_inspect_report.specs.Table.{TellsTable, found_cells, head_row, is_column, mark, name_cell, name_cells, origin_cells, place_cells, recorded_cells, state_row, state_rows, trace_rows, value_cell, value_cells};
 ghost use Rattle.bs_inspect_report.specs.Lines.{signals_in};
+ghost use Rattle.bs_inspect_report.specs.Trace.{free_at};
 ghost use Rattle.bs_inspect_report.specs.Window.{shown_piece};
 
 use crate::execution::{is_execution, push_place_word};
 use crate::field::push_field;
-use crate::moment::member;
+use crate::moment::{free_at, member};
 use crate::named::Signals;
-use crate::signal::push_signal_value;
+use crate::recorded::step_moment;
+use crate::signal::push_seen_value;
 use crate::trace::trace_signals;
 use crate::window::{Window, is_shown};
 use bs_bits::{Bits, NoMemory, end_line, push_number, push_piece};
 use bs_net::Netlist;
 use bs_net_names::{Signal, push_rtl_name};
-use bs_report::{HitLine, Report, Step};
+use bs_report::Report;
 use std::alloc::Global;
 
 /// The name of a signal, as RTL writes it.
@@ -92,16 +94,17 @@ fn push_head_row(text: &mut Vec<u8>, signals: &Signals<'_>) -> Result<(), NoMemo
 /// Appends the value of a signal behind a comma.
 fn push_value_cell(
     text: &mut Vec<u8>,
+    free: Option<&Bits>,
     bits: Option<&Bits>,
     signal: &Signal<'_>,
 ) -> Result<(), NoMemory>
     requires { length signal.now.places < 2 ^ 32 }
-    ensures { OnOk result (text.new.items ≡ text.old.items ++ value_cell (option_map (λ b. b.now) bits.entry) (signal_in signal.now)) }
+    ensures { OnOk result (text.new.items ≡ text.old.items ++ value_cell (option_map (λ b. b.now) free.entry) (option_map (λ b. b.now) bits.entry) (signal_in signal.now)) }
 {
     match bits {
         Some(bits) => {
             push_piece(text, b",")?;
-            push_signal_value(text, bits, signal.places.slice())
+            push_seen_value(text, free, bits, signal.places.slice())
         }
         None => push_piece(text, b","),
     }
@@ -111,39 +114,30 @@ fn push_value_cell(
 #[tactic(auto, using(crate::proofs::TableLemmas::values_more))]
 fn push_value_cells(
     text: &mut Vec<u8>,
+    free: Option<&Bits>,
     bits: Option<&Bits>,
     signals: &[Signal<'_>],
 ) -> Result<(), NoMemory>
     requires { All (λ s. length s.places < 2 ^ 32) signals.now }
-    ensures { OnOk result (text.new.items ≡ text.old.items ++ value_cells (option_map (λ b. b.now) bits.entry) (map signal_in signals.now)) }
+    ensures { OnOk result (text.new.items ≡ text.old.items ++ value_cells (option_map (λ b. b.now) free.entry) (option_map (λ b. b.now) bits.entry) (map signal_in signals.now)) }
 {
     'signals: for signal in signals {
-        push_value_cell(text, bits, signal)?;
+        push_value_cell(text, free, bits, signal)?;
     }
     Ok(())
 }
 
-/// Appends the run and the cycle of a hit.
-fn push_hit_cells(text: &mut Vec<u8>, hit: &Option<HitLine>) -> Result<(), NoMemory>
-    ensures { OnOk result (text.new.items ≡ text.old.items ++ hit_cells hit.now) }
+/// Appends the moment at which a state was recorded.
+fn push_recorded_cells(text: &mut Vec<u8>, moment: Option<(u32, u32)>) -> Result<(), NoMemory>
+    ensures { OnOk result (text.new.items ≡ text.old.items ++ recorded_cells moment) }
 {
-    match hit {
-        Some(hit) => {
+    match moment {
+        Some((run, cycle)) => {
             push_piece(text, b",hit,")?;
-            push_number(text, u64::from(hit.run))?;
+            push_number(text, u64::from(run))?;
             push_piece(text, b",")?;
-            push_number(text, u64::from(hit.cycle))
+            push_number(text, u64::from(cycle))
         }
-        None => push_piece(text, b",none,,"),
-    }
-}
-
-/// Appends the hit of a step.
-fn push_step_cells(text: &mut Vec<u8>, step: Option<&Step>) -> Result<(), NoMemory>
-    ensures { OnOk result (text.new.items ≡ text.old.items ++ step_cells (option_map (λ s. s.now) step.entry)) }
-{
-    match step {
-        Some(step) => push_hit_cells(text, &step.hit),
         None => push_piece(text, b",none,,"),
     }
 }
@@ -157,7 +151,10 @@ fn push_found_cells(text: &mut Vec<u8>, report: &Report, i: usize) -> Result<(),
     if i + 1 == report.states.len() {
         return push_piece(text, b",dump,,");
     }
-    push_step_cells(text, member(&report.steps, report.states.len() - 2 - i))
+    push_recorded_cells(
+        text,
+        step_moment(member(&report.steps, report.states.len() - 2 - i)),
+    )
 }
 
 /// Appends where a state of an execution stands.
@@ -184,6 +181,19 @@ fn push_origin_cells(text: &mut Vec<u8>, report: &Report, i: usize) -> Result<()
     }
 }
 
+/// Appends the flip-flops of a state.
+fn push_flop_cells(
+    text: &mut Vec<u8>,
+    report: &Report,
+    flops: &[Signal<'_>],
+    i: usize,
+) -> Result<(), NoMemory>
+    requires { All (λ s. length s.places < 2 ^ 32) flops.now }
+    ensures { OnOk result (text.new.items ≡ text.old.items ++ value_cells (free_at report.now i) (slice_get report.now.states i) (map signal_in flops.now)) }
+{
+    push_value_cells(text, free_at(report, i), member(&report.states, i), flops)
+}
+
 /// Appends the row of a state.
 fn push_state_row(
     text: &mut Vec<u8>,
@@ -197,8 +207,13 @@ fn push_state_row(
 {
     push_number(text, i as u64)?;
     push_origin_cells(text, report, i)?;
-    push_value_cells(text, member(&report.states, i), signals.flops.as_slice())?;
-    push_value_cells(text, member(&report.inputs, i), signals.inputs.as_slice())?;
+    push_flop_cells(text, report, signals.flops.as_slice(), i)?;
+    push_value_cells(
+        text,
+        None,
+        member(&report.inputs, i),
+        signals.inputs.as_slice(),
+    )?;
     end_line(text)
 }
 

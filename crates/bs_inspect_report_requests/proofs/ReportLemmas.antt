@@ -4,7 +4,7 @@ use Rattle.std.specs.Prelude.{Bool}
 use Rattle.bs_inspect_view.specs.Drawn.{ViewRequest}
 use Rattle.bs_inspect_view.specs.Save.{IsSaveFile}
 use Rattle.bs_inspect_view.specs.View.{IsDrawing}
-use Rattle.bs_inspect_front.specs.Signed.{SignatureFile}
+use Rattle.bs_inspect_html.specs.Signed.{SignatureFile}
 use Rattle.bs_inspect_page.specs.Page.{PageOptions, ShowsReport}
 use Rattle.bs_report.specs.declared.report.Report.{Report}
 use Rattle.bs_net.specs.Parts.{Parts}
@@ -14,8 +14,8 @@ use Rattle.bs_top_plan.specs.declared.status.Status.{Status}
 use Rattle.bs_inspect_why.specs.Question.{Question}
 use Rattle.bs_inspect_why.specs.Why.{Answers}
 use Rattle.bs_inspect_files.specs.Taken.{BenchFiles, TraceFiles}
-use Rattle.bs_inspect_bench.specs.Bench.{BenchAnswers}
-use Rattle.bs_inspect_bench.specs.declared.fault.Bench.{Bench}
+use Rattle.bs_inspect_report_texts.specs.Bench.{BenchAnswers}
+use Rattle.bs_inspect_report_texts.specs.declared.fault.Bench.{Bench}
 use Rattle.bs_inspect_why.specs.declared.denial.Why.{Why}
 use Rattle.bs_inspect_plans.specs.Finishes.{TellsBench, TellsReasons, bench_status, bench_text, why_status, why_text}
 

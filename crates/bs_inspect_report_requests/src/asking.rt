@@ -17,7 +17,6 @@ use crate::telling::{
     tell_steps_table, tell_table, tell_trace, tell_wave,
 };
 use bs_evidence::Format;
-use bs_inspect_answers::load_answer_files;
 use bs_inspect_files::{
     load_bench_files, load_charted, load_page_files, load_picked, load_report_files,
 };
@@ -29,6 +28,7 @@ use bs_inspect_words::{
 use bs_outside::{NoMemory, Shelf};
 use bs_top_answer::Response;
 use bs_top_files::load_report;
+use bs_top_reach::load_answer_files;
 use std::alloc::Global;
 
 /// The answer to `steps`.

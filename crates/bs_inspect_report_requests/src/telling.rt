@@ -3,38 +3,36 @@ ghost use Rattle.std.specs.Prelude.{◌≡◌, map, Some, IfOk, ◌+◌, length,
 ghost use Rattle.bs_inspect_plans.specs.Finishes.{finishes, bench_status, bench_text as text_of_bench, evidence_status, evidence_text};
 ghost use Rattle.bs_stim.specs.Runs.{inputs_of};
 ghost use Rattle.bs_inspect_files.specs.Taken.{bench_files_in, report_files_in, trace_files_in};
-ghost use Rattle.bs_inspect_bench.specs.Bench.{BenchAnswers};
-ghost use Rattle.bs_inspect_bench.specs.Faults.{bench_fault_text};
+ghost use Rattle.bs_inspect_report_texts.specs.Bench.{BenchAnswers};
+ghost use Rattle.bs_inspect_report_texts.specs.Faults.{bench_fault_text};
 ghost use Rattle.bs_inspect_files.specs.Paged.{page_files_in};
-ghost use Rattle.bs_inspect_front.specs.Signed.{file_in};
+ghost use Rattle.bs_inspect_html.specs.Signed.{file_in};
 ghost use Rattle.bs_inspect_view.specs.View.{IsDrawing};
 ghost use Rattle.bs_net.specs.Netlist.{circuit, circuit_of};
-ghost use Rattle.bs_reach_text.specs.ReadingLaw.{HasAnswerText};
+ghost use Rattle.bs_evidence.specs.ReadingLaw.{HasAnswerText};
 ghost use Rattle.bs_evidence.specs.Lengths.{IsEvidence as IsLengthEvidence};
-ghost use Rattle.bs_inspect_answers.specs.Searched.{answer_files_in};
+ghost use Rattle.bs_top_reach.specs.Searched.{answer_files_in};
 ghost use Rattle.bs_evidence.specs.Evidence.{IsEvidence};
 ghost use Rattle.bs_evidence.specs.Words.{flaw_text};
 ghost use Rattle.bs_inspect_plans.specs.Asked.{drawing_of, page_for, signature_file, window_of};
 ghost use Rattle.bs_inspect_plans.specs.Work.{to_bench, to_evidence, to_lengths, to_lists, to_page, to_save, to_steps, to_steps_table, to_table, to_trace, to_wave};
 
 use bs_evidence::{Evidence, Flaw, Format, evidence_for, evidence_of, flaw_text, length_evidence};
-use bs_inspect_answers::AnswerFiles;
-use bs_inspect_bench::{Bench, BenchFault, bench_fault_text, bench_of};
-use bs_inspect_candidates::lists_text;
 use bs_inspect_files::{BenchFiles, PageFiles, ReportFiles, RunFiles, TraceFiles};
-use bs_inspect_front::SignatureFile;
-use bs_inspect_options::TraceWindow;
+use bs_inspect_html::SignatureFile;
 use bs_inspect_page::{PageOptions, page_text};
 use bs_inspect_report::{
     Window, recorded_moments, remarks_text, steps_table, steps_text, trace_table, trace_text,
 };
+use bs_inspect_report_texts::{Bench, BenchFault, bench_fault_text, bench_of, lists_text};
+use bs_inspect_usages::TraceWindow;
 use bs_inspect_view::{ViewRequest, drawing, save_file};
 use bs_outside::NoMemory;
 use bs_reach::Reach;
 use bs_report::Report;
 use bs_scan::Choice;
-use bs_target::Target;
 use bs_top_plan::{Reply, Status};
+use bs_top_reach::{AnswerFiles, Target};
 use std::alloc::Global;
 
 /// The steps of a report.

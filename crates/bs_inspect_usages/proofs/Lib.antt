@@ -1,3 +1,5 @@
 pub mod WordLemmas
 pub mod ReasonLemmas
 pub mod PlaceLemmas
+pub mod SettingLemmas
+pub mod ValueLemmas

@@ -1,1 +1,3 @@
 pub mod Usages
+pub mod Settings
+pub mod Numbers

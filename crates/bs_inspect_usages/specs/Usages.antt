@@ -11,12 +11,12 @@ use Rattle.bs_note_files.specs.Notes.{pair_text, plain_text}
 use Rattle.bs_inspect_usages.specs.declared.reason.Bounds.{Bounds}
 use Rattle.bs_inspect_usages.specs.declared.reason.TheConstants.{LAST_TIME}
 use Rattle.bs_inspect_usages.specs.declared.positions.TheConstants.{MANY}
-use Rattle.bs_inspect_options.specs.declared.numbers.TheConstants.{MAX_DEPTH, MAX_DRAWN, MAX_LINES}
+use Rattle.bs_inspect_usages.specs.declared.numbers.TheConstants.{MAX_DEPTH, MAX_DRAWN, MAX_LINES}
 use Rattle.bs_stim.specs.declared.limits.TheConstants.{MAX_CYCLES, MAX_RUNS}
 use Rattle.bs_top_words.specs.declared.limits.TheConstants.{MAX_BITS, MAX_BOUND, MAX_STEPS}
 use Rattle.bs_inspect_notes.specs.Listings.{quoted, some_near, word_piece}
 use Rattle.bs_top_words.specs.Given.{Given, read_all, start}
-use Rattle.bs_inspect_options.specs.Settings.{all_flags}
+use Rattle.bs_inspect_usages.specs.Settings.{all_flags}
 
 -- a command, and how its words stand
 pub record Usage : Type 0 where

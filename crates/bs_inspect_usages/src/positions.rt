@@ -4,10 +4,10 @@ ghost use Rattle.bs_bits.specs.Lines.{number_in};
 ghost use Rattle.bs_top_words.specs.Asked.{shown};
 ghost use Rattle.bs_inspect_usages.specs.Usages.{counted_text, given_of, is_bad_run, is_miscounted, lies_outside, placed_text, places_of, run_bounds, run_text, stand_by, stand_sentence, third_text};
 
+use crate::given::given_words;
 use crate::reason::{Bounds, bounds_in, copy_of, is_between, push_bounds};
 use bs_bits::{NoMemory, push_number, push_piece, read_number};
 use bs_inspect_notes::push_name;
-use bs_inspect_options::given_words;
 use bs_stim::MAX_RUNS;
 use bs_top_words::Given;
 use bs_vcd_header::is_text;

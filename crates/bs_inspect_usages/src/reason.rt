@@ -7,11 +7,11 @@ ghost use Rattle.bs_bits.specs.Lines.{number_in};
 ghost use Rattle.bs_inspect_usages.specs.Usages.{bad_text, bad_word_text, bound_text, bounds_in, bounds_of, bounds_or, bounds_piece, first_bad, gives, is_bad, is_between, is_misplaced, is_outside, lack_if, lack_of, number_text, option_name, reason_for, reason_of, stand_of, value_of};
 
 use crate::foreign::{foreign_sentence, is_foreign};
+use crate::numbers::{MAX_DEPTH, MAX_DRAWN, MAX_LINES};
 use crate::positions::placed_sentence;
 use crate::usage::option_name;
 use bs_bits::{NoMemory, push_number, push_piece, read_number};
 use bs_inspect_notes::push_word;
-use bs_inspect_options::{MAX_DEPTH, MAX_DRAWN, MAX_LINES};
 use bs_net_names::first_split;
 use bs_stim::MAX_CYCLES;
 use bs_top_words::{MAX_BITS, MAX_BOUND, MAX_STEPS};

@@ -15,8 +15,8 @@ use Rattle.bs_vcd.specs.declared.cycles.MarkedStates.{MarkedStates}
 use Rattle.bs_inspect_report.specs.Keys.{flop_keys}
 use Rattle.bs_top_plan.specs.declared.diagnostic.WalkStop.{WalkStop}
 use Rattle.bs_top_files.specs.Refusals.{with_reason}
-use Rattle.bs_inspect_values.specs.declared.fault.MapFault.{MapFault}
-use Rattle.bs_inspect_values.specs.Names.{Entry, entries_from, name_of, names_of}
+use Rattle.bs_inspect_names.specs.declared.fault.MapFault.{MapFault}
+use Rattle.bs_inspect_names.specs.Mapping.{Entry, entries_from, name_of, names_of}
 use Rattle.bs_inspect_values.specs.Simulated.{clock_key, names_read}
 use Rattle.bs_inspect_values.specs.Words.{map_reason}
 
@@ -48,15 +48,21 @@ each_named : (keys names : List (List ℕ)) (r : Result (List Entry) MapFault) �
 each_named keys names (Ok es) e = IfOk-at_ok (λ (ns : List (List ℕ)). length ns ≡ length keys) e (length-map keys (name_of es))
 each_named keys names (Err fault) e = absurd cc
 
-pub names_wide : (keys names slice : Texts) (text : List ℕ) (r : Result MarkedStates WalkStop) → slice ≡ names →
-    names_read (map (λ k. k.now) keys) text ≡ Ok (map (λ n. n.now) names) →
-    IfOk r (λ taken. All (λ s. length s ≡ length slice) taken.states) → IfOk r (λ taken. All (λ s. length s ≡ length keys) taken.states)
-names_wide keys names slice text r same is wide =
+pub names_wide : (keys : Texts) (names : List (List ℕ)) (text : List ℕ) (r : Result MarkedStates WalkStop) →
+    names_read (map (λ k. k.now) keys) text ≡ Ok names →
+    IfOk r (λ taken. All (λ s. length s ≡ length names) taken.states) → IfOk r (λ taken. All (λ s. length s ≡ length keys) taken.states)
+names_wide keys names text r is wide =
     let shown : Bor (List ℕ) → List ℕ = λ (k : Bor (List ℕ)). k.now in
-    let each : length slice ≡ length keys =
-    ap length same
-    ∙ (sym (length-map names shown)
-    ∙ (each_named (map shown keys) (map shown names) (entries_from (map shown keys) [] (lines_of text)) is ∙ length-map keys shown)) in
+    let each : length names ≡ length keys =
+    each_named (map shown keys) names (entries_from (map shown keys) [] (lines_of text)) is ∙ length-map keys shown in
+    subst (λ (n : ℕ). IfOk r (λ taken. All (λ s. length s ≡ n) taken.states)) each wide
+
+-- the names as slices
+pub slices_wide : (names : List (List ℕ)) (slices slice : Texts) (r : Result MarkedStates WalkStop) → slice ≡ slices → map (λ n. n.now) slices ≡ names →
+    IfOk r (λ taken. All (λ s. length s ≡ length slice) taken.states) → IfOk r (λ taken. All (λ s. length s ≡ length names) taken.states)
+slices_wide names slices slice r same is wide =
+    let shown : Bor (List ℕ) → List ℕ = λ (k : Bor (List ℕ)). k.now in
+    let each : length slice ≡ length names = ap length same ∙ (sym (length-map slices shown) ∙ ap length is) in
     subst (λ (n : ℕ). IfOk r (λ taken. All (λ s. length s ≡ n) taken.states)) each wide
 
 pub choice_wide : (states : List (List Bool)) (n m : ℕ) → n ≡ m → All (λ s. length s ≡ m) states → All (λ s. length s ≡ n) states

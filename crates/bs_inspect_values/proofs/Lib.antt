@@ -1,5 +1,4 @@
 pub mod RunLemmas
-pub mod NameLemmas
 pub mod KeyLemmas
 pub mod ValueLemmas
 pub mod WalkLemmas

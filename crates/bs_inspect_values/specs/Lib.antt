@@ -1,4 +1,3 @@
-pub mod Names
 pub mod SimulatedRun
 pub mod Law
 pub mod Simulated

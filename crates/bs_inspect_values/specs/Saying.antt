@@ -24,9 +24,9 @@ use Rattle.bs_inspect_notes.specs.Simulations as S
 use Rattle.bs_top_plan.specs.Plan.{Reason, exactly, any_of}
 use Rattle.bs_top_files.specs.NoteCases.{NoteCase, at_line}
 use Rattle.bs_top_files.specs.Noting.{noted_by}
-use Rattle.bs_inspect_values.specs.declared.fault.MapFault.{MapFault}
-use Rattle.bs_inspect_values.specs.declared.fault.MapFault.TheVariants as names
-use Rattle.bs_inspect_values.specs.Names.{map_in}
+use Rattle.bs_inspect_names.specs.declared.fault.MapFault.{MapFault}
+use Rattle.bs_inspect_names.specs.declared.fault.MapFault.TheVariants as names
+use Rattle.bs_inspect_names.specs.Mapping.{map_in}
 use Rattle.bs_inspect_values.specs.Words.{key_at}
 
 -- the keys of the flip-flops and of the data inputs
@@ -42,10 +42,16 @@ return_saying = saying (codes "a carriage return: lines end with a line feed alo
 abbrev pub line_saying : List ℕ → Saying
 line_saying line = if list_any (λ b. b == 13) line then return_saying else N.form_saying
 
+-- a vector's bit that has no number in the simulation's
+abbrev pub range_saying : Saying
+range_saying =
+    saying (codes "the range behind the name in the simulation lacks a bit of this vector") (codes "a bit has the same number in both: write ranges that agree, or none")
+
 abbrev pub map_note_reason : Subject → (path text : List ℕ) → List (List ℕ) → MapFault → Reason NoteCase
 map_note_reason subject path text keys (names.Line number) = any_of (at_line path text number (line_saying (N.numbered text number)))
 map_note_reason subject path text keys (names.Unknown number) = any_of (at_line path text number (N.key_saying subject keys (N.numbered text number)))
 map_note_reason subject path text keys (names.Twice number) = any_of (at_line path text number N.twice_saying)
+map_note_reason subject path text keys (names.Range number) = any_of (at_line path text number range_saying)
 map_note_reason subject path text keys names.NoMemory = exactly []
 
 -- the names that inputs or flip-flops with these keys have in a simulation

@@ -17,7 +17,7 @@ use Rattle.bs_top_files.specs.Refusals.{Case, with_reason}
 use Rattle.bs_inspect_values.specs.declared.ready.Simulated.{Simulated as CodeSimulated}
 use Rattle.bs_inspect_values.specs.declared.ready.Sampled.{Sampled as CodeSampled}
 use Rattle.bs_inspect_values.specs.declared.simulated.Clocked.{Clocked as CodeClocked}
-use Rattle.bs_inspect_values.specs.Names.{map_in}
+use Rattle.bs_inspect_names.specs.Mapping.{map_in}
 use Rattle.bs_inspect_values.specs.SimulatedRun.{SimulatedRun, is_data, run_in, simulated}
 use Rattle.bs_inspect_values.specs.Saying.{lines_noted, names_noted}
 use Rattle.bs_inspect_values.specs.Words.{map_reason, vcd_reason, cycles_reason}

@@ -1,8 +1,8 @@
 -- The words behind a file's name in a refusal line, for the faults that are told of by no other program (docs/FORMATS.md, "Words of
 -- `backspace_inspect`").
 use Rattle.std.specs.Prelude.{ℕ, List, [], ◌++◌, codes, decimal, slice_index_or}
-use Rattle.bs_inspect_values.specs.declared.fault.MapFault.{MapFault}
-use Rattle.bs_inspect_values.specs.declared.fault.MapFault.TheVariants as names
+use Rattle.bs_inspect_names.specs.declared.fault.MapFault.{MapFault}
+use Rattle.bs_inspect_names.specs.declared.fault.MapFault.TheVariants as names
 use Rattle.bs_vcd_header.specs.declared.fault.VcdFault.{VcdFault}
 use Rattle.bs_vcd_header.specs.declared.fault.VcdFault.TheVariants as vcd
 use Rattle.bs_top_plan.specs.Plan.{Reason, exactly}
@@ -13,6 +13,7 @@ abbrev pub map_words : MapFault → List ℕ
 map_words (names.Line line) = codes "Line " ++ decimal line
 map_words (names.Unknown line) = codes "Unknown " ++ decimal line
 map_words (names.Twice line) = codes "Twice " ++ decimal line
+map_words (names.Range line) = codes "Range " ++ decimal line
 map_words names.NoMemory = []
 
 -- the key of the input or flip-flop with a number from 0

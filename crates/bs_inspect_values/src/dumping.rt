@@ -14,6 +14,8 @@ use crate::keys::flop_bytes;
 use crate::mapping::names_or_diagnostic;
 use crate::ready::{Dumped, Signed, Unsigned};
 use crate::values::{Sampling, states_or_diagnostic};
+use bs_bits::List;
+use bs_inspect_names::slices_of;
 use bs_inspect_notes::Subject;
 use bs_net::{NetId, Netlist};
 use bs_outside::Shelf;
@@ -111,13 +113,36 @@ fn load_keyed<S: Shelf>(
     }
 }
 
+/// The same, by names that are lent.
+fn load_spelled<S: Shelf>(
+    alloc: Global,
+    shelf: &mut S,
+    keys: &[&[u8]],
+    names: &List<List<u8>>,
+    taking: Taking<'_>,
+) -> Result<MarkedStates, WalkStop>
+    ensures walks { WalksDiagnosed CheckSays NoteSays S.held S.faults S.leads shelf.old shelf.new
+        (states_of (map (λ k. k.now) keys.now) names.now (taking_in taking.entry)) (states_looked (map (λ k. k.now) keys.now) names.now (taking_in taking.entry))
+        (λ taken. taken) (λ taken. taken) result }
+    ensures some { IfOk result (λ taken. 0 < length taken.states) }
+    ensures wide { IfOk result (λ taken. All (λ s. length s ≡ length names.now) taken.states) }
+{
+    match slices_of(alloc, names) {
+        Ok(slices) => {
+            let slices = slices.as_slice();
+            load_states(alloc, shelf, keys, slices, taking)
+        }
+        Err(_) => Err(WalkStop::Plain(JobFault::NoMemory)),
+    }
+}
+
 /// The same, by the names that a text gives.
-fn load_by_names<'a, S: Shelf>(
+fn load_by_names<S: Shelf>(
     alloc: Global,
     shelf: &mut S,
     path: &str,
-    text: &'a [u8],
-    keys: &[&'a [u8]],
+    text: &[u8],
+    keys: &[&[u8]],
     taking: Taking<'_>,
 ) -> Result<MarkedStates, WalkStop>
     requires { length text.now ≤ MAX_MAP_BYTES }
@@ -129,10 +154,7 @@ fn load_by_names<'a, S: Shelf>(
     ensures wide { IfOk result (λ taken. All (λ s. length s ≡ length keys.now) taken.states) }
 {
     match names_or_diagnostic(alloc, Subject::Flops, path, text, keys) {
-        Ok(names) => {
-            let names = names.as_slice();
-            load_states(alloc, shelf, keys, names, taking)
-        }
+        Ok(names) => load_spelled(alloc, shelf, keys, &names, taking),
         Err(unread) => settle_diagnostic(File::Map, Err(unread)),
     }
 }

@@ -9,16 +9,15 @@ ghost use Rattle.bs_top_plan.specs.Walks.{Reads};
 ghost use Rattle.bs_top_files.specs.NoteCases.{HasNote, IsNoteAtLine, NoteSays};
 ghost use Rattle.bs_top_files.specs.Refusals.{CheckSays, HasWords};
 ghost use Rattle.bs_inspect_notes.specs.Names.{key_saying, numbered, twice_saying};
-ghost use Rattle.bs_inspect_values.specs.declared.fault.MapFault.TheVariants.{NoMemory as MapWant};
-ghost use Rattle.bs_inspect_values.specs.Saying.{line_saying, map_note_reason, names_noted};
+ghost use Rattle.bs_inspect_names.specs.declared.fault.MapFault.TheVariants.{NoMemory as MapWant};
+ghost use Rattle.bs_inspect_values.specs.Saying.{line_saying, map_note_reason, names_noted, range_saying};
 ghost use Rattle.bs_inspect_values.specs.Simulated.{names_read};
 ghost use Rattle.bs_inspect_values.specs.Words.{map_words};
 
-use crate::fault::MapFault;
 use crate::lines::line_note;
-use crate::names::read_names;
 use crate::refusals::map_refusal;
-use bs_bits::NoMemory;
+use bs_bits::{List, NoMemory};
+use bs_inspect_names::{MapFault, read_names};
 use bs_inspect_notes::{
     Subject, first_word, form_saying, key_sentence, keys_label, numbered, twice_saying,
 };
@@ -89,6 +88,25 @@ fn twice_note(alloc: Global, path: &str, text: &[u8], number: u64) -> Result<Vec
     Ok(note)
 }
 
+/// What is said of a line with a bit of a vector that has no number in the simulation's.
+fn range_saying() -> Message<'static>
+    ensures { said result ≡ range_saying }
+{
+    Message {
+        sentence: b"the range behind the name in the simulation lacks a bit of this vector",
+        label: b"a bit has the same number in both: write ranges that agree, or none",
+    }
+}
+
+/// A note on such a line.
+fn range_note(alloc: Global, path: &str, text: &[u8], number: u64) -> Result<Vec<u8>, NoMemory>
+    ensures { IfOk result (λ note. IsNoteAtLine path.now text.now number range_saying note.items) }
+{
+    let message = range_saying();
+    let note = line_note(alloc, path, text, number, message)?;
+    Ok(note)
+}
+
 /// The note on a text that gives no names.
 fn map_note(
     alloc: Global,
@@ -104,6 +122,7 @@ fn map_note(
         MapFault::Line(number) => form_note(alloc, path, text, number),
         MapFault::Unknown(number) => key_note(alloc, subject, path, text, number, keys),
         MapFault::Twice(number) => twice_note(alloc, path, text, number),
+        MapFault::Range(number) => range_note(alloc, path, text, number),
         MapFault::NoMemory => Err(NoMemory),
     }
 }
@@ -129,15 +148,15 @@ fn map_diagnostic(
 }
 
 /// The names that inputs or flip-flops with these keys have in a simulation, or the diagnostic of their text.
-pub fn names_or_diagnostic<'a>(
+pub fn names_or_diagnostic(
     alloc: Global,
     subject: Subject,
     path: &str,
-    text: &'a [u8],
-    keys: &[&'a [u8]],
-) -> Result<Vec<&'a [u8]>, Unread>
-    ensures words { Reads CheckSays (λ names. map (λ n. n.now) names.items) (names_read (map (λ k. k.now) keys.now) text.now) (worded result) }
-    ensures note { Reads NoteSays (λ names. map (λ n. n.now) names.items) (names_noted subject path.now (map (λ k. k.now) keys.now) text.now) (noted result) }
+    text: &[u8],
+    keys: &[&[u8]],
+) -> Result<List<List<u8>>, Unread>
+    ensures words { Reads CheckSays (λ names. names) (names_read (map (λ k. k.now) keys.now) text.now) (worded result) }
+    ensures note { Reads NoteSays (λ names. names) (names_noted subject path.now (map (λ k. k.now) keys.now) text.now) (noted result) }
 {
     match read_names(alloc, text, keys) {
         Ok(names) => Ok(names),

@@ -1,13 +1,13 @@
 //! The words of a refusal line, for each fault of the readers (docs/FORMATS.md, "Refusal lines").
 ghost use Rattle.std.specs.Prelude.{◌≡◌, ◌++◌, codes, decimal, map, IfOk, IfErr};
-ghost use Rattle.bs_inspect_values.specs.declared.fault.MapFault.TheVariants.{NoMemory as MapWant};
+ghost use Rattle.bs_inspect_names.specs.declared.fault.MapFault.TheVariants.{NoMemory as MapWant};
 ghost use Rattle.bs_vcd_header.specs.declared.fault.VcdFault.TheVariants.{NoMemory as VcdWant};
 ghost use Rattle.bs_top_plan.specs.declared.walk.Refusal.TheVariants.{NoMemory as Want};
 ghost use Rattle.bs_top_files.specs.Refusals.{HasWords};
 ghost use Rattle.bs_inspect_values.specs.Words.{key_at, map_words, vcd_words};
 
-use crate::fault::MapFault;
 use bs_bits::{NoMemory, push_number, push_piece};
+use bs_inspect_names::MapFault;
 use bs_top_files::worded;
 use bs_top_plan::Refusal;
 use bs_vcd_header::VcdFault;
@@ -54,6 +54,7 @@ pub fn map_refusal(alloc: Global, fault: MapFault) -> Refusal
         MapFault::Line(line) => numbered(alloc, b"Line ", line),
         MapFault::Unknown(line) => numbered(alloc, b"Unknown ", line),
         MapFault::Twice(line) => numbered(alloc, b"Twice ", line),
+        MapFault::Range(line) => numbered(alloc, b"Range ", line),
         MapFault::NoMemory => Refusal::NoMemory,
     }
 }

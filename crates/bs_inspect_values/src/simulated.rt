@@ -18,7 +18,8 @@ use crate::mapping::names_or_diagnostic;
 use crate::ready::{Sampled, Simulated};
 use crate::run::{SimulatedRun, simulated};
 use crate::values::{Sampling, lines_or_diagnostic};
-use bs_bits::NoMemory;
+use bs_bits::{List, NoMemory};
+use bs_inspect_names::slices_of;
 use bs_inspect_notes::Subject;
 use bs_net::Netlist;
 use bs_net_names::{KeyParts, key_parts, same_name};
@@ -203,13 +204,36 @@ fn load_keyed<S: Shelf>(
     }
 }
 
+/// The same, by names that are lent.
+fn load_spelled<S: Shelf>(
+    alloc: Global,
+    shelf: &mut S,
+    keys: &[&[u8]],
+    names: &List<List<u8>>,
+    at: Clocked<'_>,
+    vcds: &[&str],
+) -> Result<Sampled, WalkStop>
+    ensures { WalksDiagnosed CheckSays NoteSays S.held S.faults S.leads shelf.old shelf.new
+        (sampled_of (map (λ k. k.now) keys.now) names.now (clocked_in at.entry) (map (λ s. s.now) vcds.now))
+        (sampled_looked (map (λ k. k.now) keys.now) names.now (clocked_in at.entry) (map (λ s. s.now) vcds.now))
+        sampled_in sampled_in result }
+{
+    match slices_of(alloc, names) {
+        Ok(slices) => {
+            let slices = slices.as_slice();
+            load_sampled(alloc, shelf, keys, slices, at, vcds)
+        }
+        Err(_) => Err(WalkStop::Plain(JobFault::NoMemory)),
+    }
+}
+
 /// The same, by the names that a text gives.
-fn load_by_names<'a, S: Shelf>(
+fn load_by_names<S: Shelf>(
     alloc: Global,
     shelf: &mut S,
     path: &str,
-    text: &'a [u8],
-    keys: &[&'a [u8]],
+    text: &[u8],
+    keys: &[&[u8]],
     at: Clocked<'_>,
     vcds: &[&str],
 ) -> Result<Sampled, WalkStop>
@@ -220,10 +244,7 @@ fn load_by_names<'a, S: Shelf>(
         sampled_in sampled_in result }
 {
     match names_or_diagnostic(alloc, Subject::Inputs, path, text, keys) {
-        Ok(names) => {
-            let names = names.as_slice();
-            load_sampled(alloc, shelf, keys, names, at, vcds)
-        }
+        Ok(names) => load_spelled(alloc, shelf, keys, &names, at, vcds),
         Err(unread) => settle_diagnostic(File::Map, Err(unread)),
     }
 }

@@ -20,7 +20,7 @@ use Rattle.bs_net_facts.specs.Seen.{Seen}
 use Rattle.bs_net_names.specs.Keys.{key_parts}
 use Rattle.bs_net_names.specs.Signals.{Member, is_wanted, member_in, member_of, members_from, members_of, wanted}
 use Rattle.bs_net_names.specs.declared.signal.Member.{Member as CodeMember}
-use Rattle.bs_inspect_accounts.specs.Accounts.{has_net}
+use Rattle.bs_inspect_causes.specs.Accounts.{has_net}
 use Rattle.bs_inspect_why.specs.Question.{AreAsked, IsAsked, asked_net, asked_nets, is_driven, net_id}
 
 -- ---- nets
@@ -174,3 +174,8 @@ facts_more m nets at i n f facts after lt here are is goes =
         subst (λ (j : ℕ). IsAsked m (get_or nets j d) at (get_or (facts ++ f ∷ []) j e)) same
         (subst (IsAsked m (get_or nets i d) at) (sym (get_or_push facts f e i are.size))
         (subst (λ (x : NetId). IsAsked m x at f) (here ∙ get_or_default nets i n d lt) is))
+
+pub facts_put : (m : Seen) (nets : List NetId) (at i : ℕ) (d : NetId) (f : Fact) (facts after : List Fact) → i < length nets → AreAsked m nets at i facts →
+    IsAsked m (get_or nets i d) at f → after ≡ facts ++ f ∷ [] → AreAsked m nets at (i + 1) after
+facts_put m nets at i d f facts after lt are is goes =
+    facts_more m nets at i (get_or nets i d) f facts after lt (get_or_default nets i d (get_or nets i d) lt) are is goes

@@ -11,8 +11,8 @@ use Rattle.bs_net.specs.Netlist.{circuit}
 use Rattle.bs_net_facts.specs.declared.fact.Fact.{Fact}
 use Rattle.bs_net_facts.specs.Facts.{IsReal, IsWayOf}
 use Rattle.bs_net_facts.specs.Seen.{Seen}
-use Rattle.bs_inspect_accounts.specs.Accounts.{AreFactsOf}
-use Rattle.bs_inspect_accounts.specs.Since.{AreAges}
+use Rattle.bs_inspect_causes.specs.Accounts.{AreFactsOf}
+use Rattle.bs_inspect_causes.specs.Since.{AreAges}
 use Rattle.bs_inspect_why.specs.Stills.{AreStills, AreStillsFor, AreStillsWhere, no_fact, still_at, still_since, stills_of}
 
 -- ---- which they are

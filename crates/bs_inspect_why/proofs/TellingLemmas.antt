@@ -14,18 +14,18 @@ use Rattle.bs_net_facts.specs.Blocks.{IsBlock, moved, stretch}
 use Rattle.bs_net_facts.specs.Facts.{IsReal, IsWayOf}
 use Rattle.bs_net_facts.specs.Seen.{Seen}
 use Rattle.bs_report.specs.declared.report.Report.{Report}
-use Rattle.bs_inspect_accounts.specs.Accounts.{IsAccount, is_cause}
-use Rattle.bs_inspect_accounts.specs.declared.account.Account.{Account}
+use Rattle.bs_inspect_causes.specs.Accounts.{IsAccount, is_cause}
+use Rattle.bs_inspect_causes.specs.declared.account.Account.{Account}
 use Rattle.bs_inspect_why_words.specs.Blocks.{Appends, TellsBlock}
 use Rattle.bs_inspect_why_words.specs.Heads.{Episode}
 use Rattle.bs_inspect_why_words.specs.Limits.{limits_of}
 use Rattle.bs_inspect_why_words.specs.Throughout.{TellsStills}
 use Rattle.bs_inspect_why_words.specs.declared.limits.Limits.{Limits}
 use Rattle.bs_inspect_why_words.proofs.BlockLemmas.{parts_begin, parts_more}
-use Rattle.bs_inspect_accounts.proofs.ChainLemmas.{chain_within}
-use Rattle.bs_inspect_accounts.specs.declared.chain.Chain.{Chain}
-use Rattle.bs_inspect_accounts.specs.declared.chain.Place.{Place}
-use Rattle.bs_inspect_accounts.specs.Chains.{ArePlaces, IsWithin, account_at, alone, chain_at, chains_of, no_account, place_of, places_of}
+use Rattle.bs_inspect_causes.proofs.ChainLemmas.{chain_within}
+use Rattle.bs_inspect_causes.specs.declared.chain.Chain.{Chain}
+use Rattle.bs_inspect_causes.specs.declared.chain.Place.{Place}
+use Rattle.bs_inspect_causes.specs.Chains.{ArePlaces, IsWithin, account_at, alone, chain_at, chains_of, no_account, place_of, places_of}
 use Rattle.bs_inspect_why.specs.Stills.{AreStillsFor, is_covered, shown, used}
 use Rattle.bs_inspect_why.specs.Why.{TellsAccounts, TellsBlocks, TellsBlocksWith, TellsChain, TellsChains, TellsPlaces, episode_of, episode_with, ordered_at}
 use Rattle.bs_inspect_why.specs.Table.{accounts_table}

@@ -12,8 +12,8 @@ use Rattle.bs_net_facts.specs.declared.fact.Fact.{Fact}
 use Rattle.bs_net_facts.specs.Facts.{IsReal, IsWayOf}
 use Rattle.bs_net_facts.specs.Seen.{Seen}
 use Rattle.bs_report.specs.declared.report.Report.{Report}
-use Rattle.bs_inspect_accounts.specs.Accounts.{Explain, IsBreak, LeadsOn, has_net}
-use Rattle.bs_inspect_accounts.specs.declared.account.Account.{Account}
+use Rattle.bs_inspect_causes.specs.Accounts.{Explain, IsBreak, LeadsOn, has_net}
+use Rattle.bs_inspect_causes.specs.declared.account.Account.{Account}
 use Rattle.bs_inspect_why.specs.declared.denial.Denial.{Denial}
 use Rattle.bs_inspect_why.specs.declared.denial.Denial.TheVariants.{Input, Trace, Open}
 use Rattle.bs_inspect_why.specs.declared.denial.Why.{Why}

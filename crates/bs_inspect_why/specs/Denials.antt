@@ -3,7 +3,7 @@ use Rattle.std.specs.Prelude.{◌≡◌, ℕ, ◌≤◌, Bool, List, [], ◌++�
 use Rattle.bs_bits.specs.Lines.{line}
 use Rattle.bs_net.specs.Netlist.{circuit_of}
 use Rattle.bs_net.specs.Parts.{Parts}
-use Rattle.bs_inspect_accounts.specs.Accounts.{IsBreak}
+use Rattle.bs_inspect_causes.specs.Accounts.{IsBreak}
 use Rattle.bs_inspect_why.specs.declared.denial.Denial.{Denial}
 use Rattle.bs_inspect_why.specs.declared.denial.Denial.TheVariants.{Moment, Input, Trace, Open}
 use Rattle.bs_inspect_why.specs.Question.{Question, asked_nets, moment_in}

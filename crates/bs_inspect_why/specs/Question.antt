@@ -9,7 +9,7 @@ use Rattle.bs_net_facts.specs.declared.fact.Fact.{Fact}
 use Rattle.bs_net_facts.specs.Facts.{IsReal}
 use Rattle.bs_net_facts.specs.Seen.{Seen}
 use Rattle.bs_net_names.specs.Signals.{Member, members_of}
-use Rattle.bs_inspect_accounts.specs.Accounts.{has_net}
+use Rattle.bs_inspect_causes.specs.Accounts.{has_net}
 use Rattle.bs_inspect_why.specs.declared.question.Question.{Question as CodeQuestion}
 
 -- a name, a moment of the trace or the last one, how many layers, whether nets with a name of the RTL do not end a cone, whether all is

@@ -1,13 +1,13 @@
 -- Data inputs that stand still nearly all through a trace. They are told once, and no more at each block (docs/FORMATS.md, "Causes").
-use Rattle.std.specs.Prelude.{◌≡◌, ℕ, ◌+◌, ◌-◌, ◌*◌, ◌<◌, ◌==◌, ◌&&◌, nat_le, nat_lt, not, Bool, true, false, List, [], ◌∷◌, length, filter, slice_index_or, if◌then◌else◌}
+use Rattle.std.specs.Prelude.{◌≡◌, ℕ, ◌+◌, ◌-◌, ◌*◌, ◌==◌, ◌&&◌, nat_le, nat_lt, not, Bool, true, false, List, [], ◌∷◌, length, filter, slice_index_or, if◌then◌else◌}
 use Rattle.std.specs.List.{flat_map, list_any, range_with_len}
 use Rattle.bs_net.specs.Netlist.{circuit}
 use Rattle.bs_net_facts.specs.declared.fact.Fact.{Fact}
 use Rattle.bs_net_facts.specs.Blocks.{moved}
 use Rattle.bs_net_facts.specs.Seen.{Seen}
-use Rattle.bs_inspect_accounts.specs.declared.account.Account.{Account}
-use Rattle.bs_inspect_accounts.specs.Accounts.{AreFactsOf}
-use Rattle.bs_inspect_accounts.specs.Since.{AreAges}
+use Rattle.bs_inspect_causes.specs.declared.account.Account.{Account}
+use Rattle.bs_inspect_causes.specs.Accounts.{AreFactsOf}
+use Rattle.bs_inspect_causes.specs.Since.{AreAges}
 use Rattle.bs_inspect_why.specs.declared.still.TheConstants.{STILL_CYCLES, STILL_SHARE}
 
 -- ---- which they are

@@ -7,8 +7,8 @@ use Rattle.bs_net_names.specs.Rtl.{rtl_name}
 use Rattle.bs_net_names.specs.Values.{value_text}
 use Rattle.bs_net_facts.specs.declared.fact.Fact.{Fact}
 use Rattle.bs_inspect_report.specs.Table.{field}
-use Rattle.bs_inspect_accounts.specs.Accounts.{last_bits}
-use Rattle.bs_inspect_accounts.specs.declared.account.Account.{Account}
+use Rattle.bs_inspect_causes.specs.Accounts.{last_bits}
+use Rattle.bs_inspect_causes.specs.declared.account.Account.{Account}
 
 -- the layer of an account, and when its bits stand
 abbrev pub account_cells : Account → List ℕ

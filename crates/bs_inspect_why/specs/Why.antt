@@ -6,20 +6,20 @@ use Rattle.bs_net.specs.declared.net.NetId.{NetId}
 use Rattle.bs_net_facts.specs.declared.fact.Fact.{Fact}
 use Rattle.bs_net_facts.specs.Seen.{Seen}
 use Rattle.bs_report.specs.declared.report.Report.{Report}
-use Rattle.bs_inspect_accounts.specs.Accounts.{Explain}
-use Rattle.bs_inspect_accounts.specs.declared.account.Account.{Account}
+use Rattle.bs_inspect_causes.specs.Accounts.{Explain}
+use Rattle.bs_inspect_causes.specs.declared.account.Account.{Account}
 use Rattle.bs_inspect_why_words.specs.Blocks.{TellsBlock, TellsParts}
 use Rattle.bs_inspect_why_words.specs.Heads.{Episode}
 use Rattle.bs_inspect_why_words.specs.Limits.{limits_of}
 use Rattle.bs_inspect_why_words.specs.Throughout.{TellsStills}
 use Rattle.bs_inspect_why_words.specs.declared.limits.Limits.{Limits}
-use Rattle.bs_inspect_accounts.specs.declared.chain.Chain.{Chain}
-use Rattle.bs_inspect_accounts.specs.declared.chain.Place.{Place}
+use Rattle.bs_inspect_causes.specs.declared.chain.Chain.{Chain}
+use Rattle.bs_inspect_causes.specs.declared.chain.Place.{Place}
 use Rattle.bs_inspect_why.specs.declared.denial.Why.{Why}
 use Rattle.bs_inspect_why.specs.declared.denial.Why.TheVariants.{Text, Denied}
 use Rattle.bs_inspect_why.specs.declared.denial.Denial.TheVariants.{Open}
 use Rattle.bs_inspect_why.specs.Denials.{IsDenied}
-use Rattle.bs_inspect_accounts.specs.Chains.{ArePlaces, account_at, chain_at, chains_of}
+use Rattle.bs_inspect_causes.specs.Chains.{ArePlaces, account_at, chain_at, chains_of}
 use Rattle.bs_inspect_why.specs.Question.{AreAsked, Question, asked_nets, moment_in}
 use Rattle.bs_inspect_why.specs.Stills.{AreStillsFor, shown, used}
 use Rattle.bs_inspect_why.specs.Table.{accounts_table}

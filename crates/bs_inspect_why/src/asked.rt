@@ -3,7 +3,7 @@ ghost use Rattle.std.specs.Prelude.{◌≡◌, ◌<◌, ◌≤◌, ◌==◌, ◌
 ghost use Rattle.std.specs.List.{flat_map, list_any};
 ghost use Rattle.bs_net.specs.Netlist.{circuit};
 ghost use Rattle.bs_net_names.specs.Signals.{member_in, members_of};
-ghost use Rattle.bs_inspect_accounts.specs.Accounts.{has_net};
+ghost use Rattle.bs_inspect_causes.specs.Accounts.{has_net};
 ghost use Rattle.bs_inspect_why.specs.Question.{AreAsked, asked_net, asked_nets, IsAsked, is_driven};
 
 use bs_bits::{List, NoMemory};
@@ -115,7 +115,7 @@ fn fact_of(moments: &Moments<'_>, net: NetId, at: u32) -> Option<Fact>
 }
 
 /// The facts of nets at a moment; none where a bit is open.
-#[tactic(auto, using(crate::proofs::AskedLemmas::facts_begin, crate::proofs::AskedLemmas::facts_more, crate::proofs::AskedLemmas::net_here))]
+#[tactic(auto, using(crate::proofs::AskedLemmas::facts_begin, crate::proofs::AskedLemmas::net_here))]
 pub(crate) fn asked_facts(
     alloc: Global,
     moments: &Moments<'_>,

@@ -3,7 +3,7 @@
 //! Modules: `question` (what is asked), `asked` (the nets with a name, and their facts), `setting` (where cones end, and which nets make
 //! a vector), `still` (data inputs that stand still), `telling` (the text of accounts), `table` (the same for scripts),
 //! `denial` (why there is no account), `why` (`why_text`). Accounts are made by bs_inspect_causes, joined to chains by
-//! bs_inspect_accounts, the text of a block is made by bs_inspect_why_words. Used above: `TellsWhy` (`specs/Why`), whose accounts
+//! bs_inspect_causes, the text of a block is made by bs_inspect_why_words. Used above: `TellsWhy` (`specs/Why`), whose accounts
 //! `Explain` what is asked, and `IsDenied` (`specs/Denials`).
 #![tactic(auto)]
 

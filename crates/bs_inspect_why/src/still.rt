@@ -3,13 +3,12 @@ ghost use Rattle.std.specs.Prelude.{◌≡◌, ◌<◌, ◌-◌, ◌∷◌, [], 
 ghost use Rattle.std.specs.List.{list_any};
 ghost use Rattle.bs_net.specs.Netlist.{circuit};
 ghost use Rattle.bs_net_facts.specs.Facts.{IsWayOf};
-ghost use Rattle.bs_inspect_accounts.specs.Accounts.{AreFactsOf};
+ghost use Rattle.bs_inspect_causes.specs.Accounts.{AreFactsOf};
 ghost use Rattle.bs_inspect_why.specs.Stills.{AreStills, AreStillsFor, covers, is_covered, is_given_in, is_still, shown as shown_of, still_since, stills_of, used as used_of};
 
 use crate::table::moved;
 use bs_bits::{List, NoMemory};
-use bs_inspect_accounts::{Account, ages};
-use bs_inspect_causes::input_facts;
+use bs_inspect_causes::{Account, ages, input_facts};
 use bs_net_facts::{Fact, Moments};
 use std::alloc::Global;
 

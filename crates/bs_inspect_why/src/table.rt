@@ -7,11 +7,11 @@ ghost use Rattle.bs_net_facts.specs.Blocks.{moved};
 ghost use Rattle.bs_net_names.specs.Rtl.{rtl_name};
 ghost use Rattle.bs_net_names.specs.Signals.{range_text};
 ghost use Rattle.bs_inspect_report.specs.Table.{field};
-ghost use Rattle.bs_inspect_accounts.specs.Accounts.{last_bits};
+ghost use Rattle.bs_inspect_causes.specs.Accounts.{last_bits};
 ghost use Rattle.bs_inspect_why.specs.Table.{account_cells, account_rows, accounts_table, fact_cells, fact_row, fact_rows};
 
 use bs_bits::{NoMemory, end_line, push_line, push_number, push_piece};
-use bs_inspect_accounts::Account;
+use bs_inspect_causes::Account;
 use bs_inspect_report::push_field;
 use bs_inspect_why_words::key_of;
 use bs_net::{NetId, Raw};

@@ -2,10 +2,10 @@
 ghost use Rattle.std.specs.Prelude.{◌≡◌, ◌<◌, length, All, IfOk, OnOk};
 ghost use Rattle.bs_net.specs.Netlist.{circuit};
 ghost use Rattle.bs_net_facts.specs.Facts.{IsWayOf};
-ghost use Rattle.bs_inspect_accounts.specs.Accounts.{IsAccount};
+ghost use Rattle.bs_inspect_causes.specs.Accounts.{IsAccount};
 ghost use Rattle.bs_inspect_why_words.specs.Blocks.{Appends, TellsBlock};
 ghost use Rattle.bs_inspect_why_words.specs.Heads.{episode_in};
-ghost use Rattle.bs_inspect_accounts.specs.Chains.{ArePlaces, chain_at, chains_of as all_chains, IsWithin};
+ghost use Rattle.bs_inspect_causes.specs.Chains.{ArePlaces, chain_at, chains_of as all_chains, IsWithin};
 ghost use Rattle.bs_inspect_why.specs.Stills.{shown};
 ghost use Rattle.bs_inspect_why.specs.Why.{episode_of, episode_with, ordered_at, TellsAccounts, TellsBlocks, TellsBlocksWith, TellsChain, TellsChains, TellsPlaces};
 
@@ -13,7 +13,7 @@ use crate::question::Asked;
 use crate::still::{shown, stills_for, used};
 use crate::table::accounts_table;
 use bs_bits::NoMemory;
-use bs_inspect_accounts::{Account, Chain, Place, chains_of, ordered_chains};
+use bs_inspect_causes::{Account, Chain, Place, chains_of, ordered_chains};
 use bs_inspect_why_words::{Episode, Limits, limits_of, push_block, push_stills};
 use bs_net_facts::{Fact, Moments};
 use bs_report::Report;

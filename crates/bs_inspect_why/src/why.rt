@@ -1,8 +1,8 @@
 //! What forces a name's bits in a trace.
-ghost use Rattle.std.specs.Prelude.{◌≡◌, ◌<◌, ◌≤◌, ◌^◌, false, length, All, IfOk, MatchOption};
+ghost use Rattle.std.specs.Prelude.{◌≡◌, ◌<◌, ◌≤◌, false, length, All, IfOk, MatchOption};
 ghost use Rattle.bs_net.specs.Netlist.{circuit};
 ghost use Rattle.bs_net_facts.specs.Facts.{IsReal, IsWayOf};
-ghost use Rattle.bs_inspect_accounts.specs.Accounts.{Explain, has_net, LeadsOn};
+ghost use Rattle.bs_inspect_causes.specs.Accounts.{Explain, has_net, LeadsOn};
 ghost use Rattle.bs_inspect_why.specs.Question.{AreAsked, asked_nets as nets_asked, moment_in, question_in};
 ghost use Rattle.bs_inspect_why.specs.Why.{Answers, AnswersAt, AnswersOn, TellsFacts};
 
@@ -12,8 +12,7 @@ use crate::question::{Asked, Question};
 use crate::setting::{groups, stops};
 use crate::telling::accounts_text;
 use bs_bits::{List, NoMemory};
-use bs_inspect_accounts::Account;
-use bs_inspect_causes::{accounts_of, first_break};
+use bs_inspect_causes::{Account, accounts_of, first_break};
 use bs_inspect_holds::Scene;
 use bs_net::Netlist;
 use bs_net_facts::{Fact, Moments};

@@ -1,8 +1,8 @@
 -- The lines of causes.
-use Rattle.std.proofs.Common.{◌≡◌, ℕ, ◌<◌, ◌≤◌, ◌+◌, ◌-◌, Bool, true, false, List, [], ◌∷◌, ◌++◌, length, map, take, get_or, refl, ap, sym, subst, ◌∙◌, arith, zero, suc}
-use Rattle.std.specs.Prelude.{codes, nat_lt, ◌^◌, ◌==◌, ◌&&◌, if◌then◌else◌}
+use Rattle.std.proofs.Common.{◌≡◌, ℕ, ◌<◌, ◌+◌, ◌-◌, Bool, true, false, List, [], ◌∷◌, ◌++◌, length, map, take, get_or, refl, ap, sym, subst, ◌∙◌, arith, zero, suc}
+use Rattle.std.specs.Prelude.{codes, nat_lt, ◌==◌, ◌&&◌, if◌then◌else◌}
 use Rattle.std.specs.Bool.{beq}
-use Rattle.std.specs.List.{All, flat_map, range_with_len}
+use Rattle.std.specs.List.{All}
 use Rattle.std.specs.List.Sorted.{IsPermutation, IsSorted}
 use Rattle.std.proofs.lemmas.List.{append-nil, length-map}
 use Rattle.std.proofs.lemmas.List.Elements.{All-append, All-nil, All-take}
@@ -20,7 +20,7 @@ use Rattle.bs_inspect_why_words.specs.Blocks.{Appends}
 use Rattle.bs_inspect_why_words.specs.Causes.{HasRows, TellsRows, TellsRowsOf, by_line, first_cycle, is_old, old_line, old_row, old_rows, old_words, only_bit, row_line, row_name, row_names, rows_lines}
 use Rattle.bs_inspect_why_words.specs.Facts.{fact_bits, fact_keys, signal_at}
 use Rattle.bs_inspect_why_words.specs.Rows.{AreRows, row_cmp, row_of, rows_of}
-use Rattle.bs_inspect_accounts.specs.Since.{AreAges}
+use Rattle.bs_inspect_causes.specs.Since.{AreAges}
 use Rattle.bs_net_names.specs.Rtl.{rtl_text}
 use Rattle.bs_inspect_why_words.specs.declared.limits.TheConstants.{RECENT}
 use Rattle.bs_inspect_why_words.proofs.RowLemmas.{rows_are, signal_is}

@@ -1,13 +1,13 @@
 -- Which group stands first.
 use Rattle.std.proofs.Common.{◌≡◌, ℕ, ◌<◌, ◌≤◌, ◌+◌, suc, Bool, List, ◌∷◌, ◌++◌, length, take, drop, get_or, le_refl, refl, ap, sym, subst, ◌∙◌, ◌⊎◌, inl, inr, arith}
-use Rattle.std.specs.Prelude.{count_by, nat_lt, if◌then◌else◌}
+use Rattle.std.specs.Prelude.{count_by, if◌then◌else◌}
 use Rattle.std.specs.Str.{bytes_eq}
 use Rattle.std.proofs.lemmas.Bool.{cases_lt, le-ltb, lt-ltb}
 use Rattle.std.proofs.lemmas.List.{get_or_default}
 use Rattle.bs_inspect_why_words.specs.declared.limits.TheConstants.{MAX_APART}
 use Rattle.bs_inspect_why_words.specs.declared.reason.Reason.{Reason}
 use Rattle.bs_inspect_why_words.specs.declared.group.Group.{Group}
-use Rattle.bs_inspect_why_words.specs.Groups.{AreFronted, IsWidest, IsWidestOf, fronted, no_group, told_at, told_in}
+use Rattle.bs_inspect_why_words.specs.Groups.{AreFronted, IsWidest, IsWidestOf, no_group, told_at, told_in}
 
 -- ---- the widest
 

@@ -1,7 +1,7 @@
 -- The first line of a block.
 use Rattle.std.proofs.Common.{◌≡◌, ◌≢◌, ℕ, ◌<◌, ◌≤◌, ◌+◌, ◌-◌, Bool, false, List, [], ◌∷◌, ◌++◌, length, get_or, refl, ap, sym, subst, ◌∙◌, ◌⊎◌, inl, inr, arith, append_assoc}
 use Rattle.std.specs.List.{All}
-use Rattle.std.specs.Prelude.{◌==◌, if◌then◌else◌}
+use Rattle.std.specs.Prelude.{if◌then◌else◌}
 use Rattle.std.proofs.lemmas.Bool.{cases_lt, ne_eqb}
 use Rattle.std.proofs.lemmas.List.{get_or_append_left, get_or_default, get_or_push, length_push}
 use Rattle.bs_net.specs.Circuit.{Circuit}
@@ -47,6 +47,14 @@ befores_more c states inputs facts since i f bit befores after lt at are real go
         subst (λ (n : ℕ). One n d (get_or (befores ++ bit ∷ []) n false)) same
         (subst (One i d) (sym (get_or_push befores bit false i are.size))
         (subst (λ (g : Fact). IsReal c states inputs (one_before since g bit)) (at ∙ get_or_default facts i f d lt) real))
+
+-- the same of a list's member
+pub befores_put : (c : Circuit) (states inputs : List (List Bool)) (facts : List Fact) (since i : ℕ) (d : Fact) (bit : Bool) (befores after : List Bool) →
+    i < length facts → AreBefore c states inputs facts since i befores →
+    IsReal c states inputs (record { net = (get_or facts i d).net; cycle = since - 1; bit = bit }) → after ≡ befores ++ bit ∷ [] →
+    AreBefore c states inputs facts since (i + 1) after
+befores_put c states inputs facts since i d bit befores after lt are real goes =
+    befores_more c states inputs facts since i (get_or facts i d) bit befores after lt (get_or_default facts i d (get_or facts i d) lt) are real goes
 
 pub befores_none : (c : Circuit) (states inputs : List (List Bool)) (facts : List Fact) (since : ℕ) (befores : List Bool) → since ≡ 0 → befores ≡ [] →
     AreBefore c states inputs facts since (before_count since facts) befores

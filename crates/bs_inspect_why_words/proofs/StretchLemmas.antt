@@ -1,5 +1,5 @@
 -- Facts of one cycle.
-use Rattle.std.proofs.Common.{◌≡◌, ℕ, ◌<◌, ◌≤◌, List, length, map, get_or, ap, sym, ◌∙◌}
+use Rattle.std.proofs.Common.{◌≡◌, ℕ, ◌<◌, ◌≤◌, List, length, get_or, ap, sym, ◌∙◌}
 use Rattle.std.proofs.lemmas.List.{get_or_default, get_or_past, get_or-map}
 use Rattle.bs_net_facts.specs.declared.fact.Fact.{Fact}
 use Rattle.bs_inspect_why_words.specs.Stretches.{cycle_at}

@@ -16,7 +16,7 @@ use Rattle.bs_inspect_why_words.specs.declared.limits.Limits.{Limits}
 use Rattle.bs_inspect_why_words.specs.declared.row.Row.{Row}
 use Rattle.bs_inspect_why_words.specs.Facts.{fact_bits, fact_keys, more_words, signal_at, signal_words}
 use Rattle.bs_inspect_why_words.specs.Rows.{AreRows}
-use Rattle.bs_inspect_accounts.specs.Since.{AreAges}
+use Rattle.bs_inspect_causes.specs.Since.{AreAges}
 
 -- a signal's change in the cycle is new
 abbrev pub age_words : ℕ → ℕ → List ℕ

@@ -5,7 +5,7 @@ use Rattle.bs_net_facts.specs.declared.fact.Fact.{Fact}
 use Rattle.bs_inspect_why_words.specs.declared.reason.Reason.{Reason}
 use Rattle.bs_inspect_why_words.specs.Causes.{first_cycle}
 use Rattle.bs_inspect_why_words.specs.Facts.{TellsFirst}
-use Rattle.bs_inspect_why_words.specs.Stretches.{starts, stretch_back}
+use Rattle.bs_inspect_why_words.specs.Stretches.{stretch_back}
 
 -- the first facts of a stretch, and their cycle
 pub record IsReason (raw : Parts) (most : ℕ) (facts : List Fact) (r : Reason) : Type 0 where

@@ -1,5 +1,5 @@
 -- Signals in the order of their last change.
-use Rattle.std.specs.Prelude.{◌≡◌, ℕ, max, List, length, map, fold, slice_index_or}
+use Rattle.std.specs.Prelude.{ℕ, max, List, length, map, fold, slice_index_or}
 use Rattle.std.specs.List.{range_with_len}
 use Rattle.std.specs.List.Sorted.{IsPermutation, IsSorted}
 use Rattle.std.specs.declared.cmp.Ordering.{Ordering}

@@ -14,7 +14,7 @@ use crate::limits::{Limits, RECENT};
 use crate::row::{Row, ordered, rows_of};
 use crate::words::{first_of, push_comma, push_more, push_signal};
 use bs_bits::{Bits, NoMemory, end_line, push_number, push_piece};
-use bs_inspect_accounts::ages;
+use bs_inspect_causes::ages;
 use bs_inspect_report::bit_at;
 use bs_net_facts::{Fact, Moments};
 use bs_net_names::{Signal, push_rtl_name, push_value};

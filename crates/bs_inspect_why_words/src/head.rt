@@ -9,7 +9,7 @@ use crate::episode::Episode;
 use crate::key::{fact_bits, fact_signals};
 use crate::words::push_signals;
 use bs_bits::{Bits, NoMemory, end_line, push_number, push_piece};
-use bs_inspect_accounts::known_bit;
+use bs_inspect_causes::known_bit;
 use bs_inspect_report::{is_execution, member, push_signal_value};
 use bs_net_facts::{Fact, Moments};
 use bs_net_names::Signal;
@@ -142,7 +142,7 @@ fn push_before(text: &mut Vec<u8>, change: &Change<'_>) -> Result<(), NoMemory>
 }
 
 /// The bits of nets in the cycle before one, where there is such a one.
-#[tactic(auto, using(crate::proofs::HeadLemmas::befores_begin, crate::proofs::HeadLemmas::befores_more, crate::proofs::HeadLemmas::net_here, crate::proofs::HeadLemmas::befores_none, crate::proofs::HeadLemmas::befores_all))]
+#[tactic(auto, using(crate::proofs::HeadLemmas::befores_begin, crate::proofs::HeadLemmas::net_here, crate::proofs::HeadLemmas::befores_none, crate::proofs::HeadLemmas::befores_all))]
 fn bits_before(
     alloc: Global,
     moments: &Moments<'_>,

@@ -35,7 +35,6 @@ fn fact_keys<'a>(alloc: Global, raw: &'a Raw, facts: &[Fact]) -> Result<Vec<&'a 
 }
 
 /// The bits of facts.
-#[tactic(auto, using(crate::proofs::KeyLemmas::bits_more))]
 pub(crate) fn fact_bits(alloc: Global, facts: &[Fact]) -> Result<Bits, NoMemory>
     ensures { IfOk result (λ bits. bits ≡ fact_bits facts.now) }
 {

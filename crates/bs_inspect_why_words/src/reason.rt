@@ -1,5 +1,5 @@
 //! What is told of each cycle of some facts.
-ghost use Rattle.std.specs.Prelude.{◌≡◌, length, IfOk};
+ghost use Rattle.std.specs.Prelude.{length, IfOk};
 ghost use Rattle.bs_net.specs.Netlist.{parts_of};
 ghost use Rattle.bs_inspect_why_words.specs.Reasons.{AreReasons, IsReason};
 ghost use Rattle.bs_inspect_why_words.specs.Stretches.{starts as starts_of};

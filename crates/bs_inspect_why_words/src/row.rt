@@ -41,7 +41,6 @@ fn latest(ages: &[u32], places: &[u32]) -> u32
 }
 
 /// The signals with their last changes.
-#[tactic(auto, using(crate::proofs::RowLemmas::rows_more))]
 pub(crate) fn rows_of(
     alloc: Global,
     ages: &[u32],

@@ -15,9 +15,9 @@ use Rattle.bs_inspect_words.specs.Asked.{shown_request}
 use Rattle.bs_inspect_words.specs.Request.{LengthsRequest, lengths_behind, lengths_words}
 use Rattle.bs_inspect_words.specs.Request.{EvidenceRequest, Cnf, Lrat, cnf_request, evidence_words, lrat_request}
 use Rattle.bs_inspect_words.specs.Request.{Request, Check, Keys, Stimulus, are_runs, bare, check_for, Seen, seen_of, seen_request, keys_of, keys_request, lists_flags, lists_of, lists_words, name_of, only_name, stimulus_for, trace_flags, trace_of, trace_words, near_of, near_request, unscan_of, unscan_request, bench_asked, bench_request, gtkw_of, gtkw_words, wave_flags, wave_of, wave_words, page_flags, page_of, page_words}
-use Rattle.bs_inspect_options.specs.declared.window.TraceWindow.{TraceWindow}
-use Rattle.bs_inspect_options.specs.Numbers.{drawn_most, from_of, window_of}
-use Rattle.bs_inspect_options.specs.Settings.{fit, is_given, value_of, values_of}
+use Rattle.bs_inspect_usages.specs.declared.window.TraceWindow.{TraceWindow}
+use Rattle.bs_inspect_usages.specs.Numbers.{drawn_most, from_of, window_of}
+use Rattle.bs_inspect_usages.specs.Settings.{fit, is_given, value_of, values_of}
 
 abbrev Words : Type 0
 Words = List (List ℕ)

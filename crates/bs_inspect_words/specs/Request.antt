@@ -11,9 +11,9 @@ use Rattle.bs_top_words.specs.Job.{is_state}
 use Rattle.bs_top_words.specs.Options.{number_between}
 use Rattle.bs_vcd.specs.declared.cycles.When.{When}
 use Rattle.bs_vcd.specs.declared.cycles.When.TheVariants as W
-use Rattle.bs_inspect_options.specs.declared.window.TraceWindow.{TraceWindow}
-use Rattle.bs_inspect_options.specs.Numbers.{cycle_at, drawn_most, from_of, items_in, layers, length_of, most_lines, step_in, window_of}
-use Rattle.bs_inspect_options.specs.Settings.{all_flags, fit, is_given, value_of, values_of}
+use Rattle.bs_inspect_usages.specs.declared.window.TraceWindow.{TraceWindow}
+use Rattle.bs_inspect_usages.specs.Numbers.{cycle_at, drawn_most, from_of, items_in, layers, length_of, most_lines, step_in, window_of}
+use Rattle.bs_inspect_usages.specs.Settings.{all_flags, fit, is_given, value_of, values_of}
 
 -- the file of `keys`, and one name or more
 pub record KeysRequest : Type 0 where

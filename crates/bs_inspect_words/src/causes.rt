@@ -1,6 +1,6 @@
 //! What `why` asks.
 ghost use Rattle.std.specs.Prelude.{◌≤◌};
-ghost use Rattle.bs_inspect_options.specs.declared.numbers.TheConstants.{MAX_DEPTH};
+ghost use Rattle.bs_inspect_usages.specs.declared.numbers.TheConstants.{MAX_DEPTH};
 
 /// `why`: the names of its files, the name whose bits it accounts for, the cycle of the trace where one is given, how many layers of
 /// accounts, whether they end at flip-flops and inputs alone, whether all is told, and whether as a table.

@@ -5,7 +5,7 @@ ghost use Rattle.bs_inspect_words.specs.Asked.{evidence_in, shown_request};
 ghost use Rattle.bs_inspect_words.specs.Request.{cnf_request, evidence_of, evidence_words, lrat_request};
 
 use crate::request::{EvidenceRequest, Request};
-use bs_inspect_options::{fit, step_in, value_of};
+use bs_inspect_usages::{fit, step_in, value_of};
 use bs_top_words::{Flag, Given, Setting};
 
 /// What is asked of lists by what the words say.

@@ -9,7 +9,7 @@ ghost use Rattle.bs_inspect_words.specs.Request.{lengths_at, lengths_behind, len
 
 use crate::request::{LengthsRequest, Request};
 use bs_bits::NoMemory;
-use bs_inspect_options::length_of;
+use bs_inspect_usages::length_of;
 use bs_top_words::{Given, read_given};
 use std::alloc::Global;
 

@@ -2,7 +2,7 @@
 //!
 //! Modules: `request` and `proposed` (`Request`), `named`, `report`, `simulation`, `signature`, `novel`, `evidence`, `lengths`, `page`,
 //! `why` (the commands; what the last two ask: `paged`, `causes`), `reading` (`read_request`). Words by position and options are parted by
-//! bs_top_words, and options are read by bs_inspect_options. Used above: `read_request` answers `request_of` (`specs/Request`). A command:
+//! bs_top_words, and options are read by bs_inspect_usages. Used above: `read_request` answers `request_of` (`specs/Request`). A command:
 //! a record and a variant of `Request` in code and specs, its words in a module, and a line in `command_request` or its kin.
 #![tactic(auto)]
 

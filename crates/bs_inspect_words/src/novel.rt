@@ -6,7 +6,7 @@ ghost use Rattle.bs_inspect_words.specs.Request.{novel_for, novel_of, novel_requ
 
 use crate::proposed::NovelRequest;
 use crate::request::Request;
-use bs_inspect_options::{fit, most_lines, value_of};
+use bs_inspect_usages::{fit, most_lines, value_of};
 use bs_stim::MAX_RUNS;
 use bs_top_words::{Flag, Given, Setting, number_between};
 

@@ -7,7 +7,7 @@ ghost use Rattle.bs_inspect_words.specs.Request.{page_of, page_request, page_wor
 use crate::paged::PageRequest;
 use crate::request::Request;
 use bs_bits::NoMemory;
-use bs_inspect_options::{drawn_most, fit, value_of, values_of};
+use bs_inspect_usages::{drawn_most, fit, value_of, values_of};
 use bs_top_words::{Flag, Given, Setting};
 use std::alloc::Global;
 

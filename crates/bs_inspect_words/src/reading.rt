@@ -18,7 +18,7 @@ use crate::signature::signature_request;
 use crate::simulation::{check_request, dump_request, stimulus_request};
 use crate::why::why_request;
 use bs_bits::NoMemory;
-use bs_inspect_options::given_words;
+use bs_inspect_usages::given_words;
 use bs_top_words::Given;
 use std::alloc::Global;
 

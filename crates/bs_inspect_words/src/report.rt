@@ -6,7 +6,7 @@ ghost use Rattle.bs_inspect_words.specs.Request.{gtkw_of, gtkw_request, gtkw_wor
 
 use crate::request::{GtkwRequest, ListsRequest, Request, TraceRequest, WaveRequest};
 use bs_bits::NoMemory;
-use bs_inspect_options::{TraceWindow, fit, from_of, is_given, value_of, values_of, window_of};
+use bs_inspect_usages::{TraceWindow, fit, from_of, is_given, value_of, values_of, window_of};
 use bs_top_words::{Flag, Given, Setting};
 use std::alloc::Global;
 

@@ -2,7 +2,7 @@
 use crate::causes::WhyRequest;
 use crate::paged::PageRequest;
 use crate::proposed::{NovelRequest, SignatureRequest};
-use bs_inspect_options::TraceWindow;
+use bs_inspect_usages::TraceWindow;
 use bs_vcd::When;
 
 /// `keys`: the name of its file, and one name or more.

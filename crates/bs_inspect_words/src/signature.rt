@@ -6,7 +6,7 @@ ghost use Rattle.bs_inspect_words.specs.Request.{signature_of, signature_request
 
 use crate::proposed::SignatureRequest;
 use crate::request::Request;
-use bs_inspect_options::{fit, items_in, value_of};
+use bs_inspect_usages::{fit, items_in, value_of};
 use bs_top_words::{Flag, Given, Setting};
 
 /// The request of `signature` by what its words say.

@@ -3,13 +3,13 @@ ghost use Rattle.std.specs.Prelude.{◌≡◌, ◌∷◌, map, option_map, IfOk}
 ghost use Rattle.bs_bits.specs.Lines.{number_in};
 ghost use Rattle.bs_top_words.specs.Asked.{given_in, setting_of};
 ghost use Rattle.bs_inspect_words.specs.Asked.{shown_request};
-ghost use Rattle.bs_inspect_options.specs.Settings.{fit};
+ghost use Rattle.bs_inspect_usages.specs.Settings.{fit};
 ghost use Rattle.bs_inspect_words.specs.Request.{are_runs, at_cycle, at_time, check_for, check_of, check_request, check_words, dump_flags, dump_of, dump_options, dump_request, dump_words, stimulus_for, stimulus_of, stimulus_request, stimulus_words, when_of};
 
 use crate::named::copied;
 use crate::request::{CheckRequest, DumpRequest, Request, StimulusRequest};
 use bs_bits::{NoMemory, read_number};
-use bs_inspect_options::{fit, is_given, value_of};
+use bs_inspect_usages::{fit, is_given, value_of};
 use bs_stim::{MAX_CYCLES, MAX_RUNS};
 use bs_top_words::{Flag, Given, Setting, number_between};
 use bs_vcd::When;

@@ -1,13 +1,13 @@
 //! The request of `why`.
 ghost use Rattle.std.specs.Prelude.{◌≡◌, ◌≤◌, map, IfSome};
 ghost use Rattle.bs_top_words.specs.Asked.{given_in, setting_of};
-ghost use Rattle.bs_inspect_options.specs.declared.numbers.TheConstants.{MAX_DEPTH};
+ghost use Rattle.bs_inspect_usages.specs.declared.numbers.TheConstants.{MAX_DEPTH};
 ghost use Rattle.bs_inspect_words.specs.Asked.{shown_request};
 ghost use Rattle.bs_inspect_words.specs.Request.{why_for, why_of, why_request, why_words};
 
 use crate::causes::WhyRequest;
 use crate::request::Request;
-use bs_inspect_options::{cycle_at, fit, is_given, layers, value_of};
+use bs_inspect_usages::{cycle_at, fit, is_given, layers, value_of};
 use bs_top_words::{Flag, Given, Setting};
 
 /// The request of `why` of a name, by its cycle and its layers.

@@ -1,4 +1,5 @@
 pub mod RecordedLemmas
+pub mod HitInputLemmas
 pub mod KnownLemmas
 pub mod LookoutLemmas
 pub mod MadeLemmas

@@ -36,6 +36,7 @@ use Rattle.bs_preimage.specs.declared.listing.Listing.{Listing}
 use Rattle.bs_preimage.specs.Preimage.{PreimageState, next_activation}
 use Rattle.bs_preimage.specs.Listed.{HasListed}
 use Rattle.bs_loop.specs.Made.{encoding_in, activation_at, IsLoggedStep, state_after, HasMade, StandsAt}
+use Rattle.bs_loop.specs.HitInput.{TakesRecorded}
 use Rattle.bs_loop.specs.Recorded.{last_moment}
 use Rattle.bs_loop.specs.declared.known.SearchAnswer.{SearchAnswer}
 use Rattle.bs_loop.specs.declared.known.Reach.{Reach}
@@ -111,9 +112,9 @@ step_made : (r : Recording) (dump : Dump) (budgets : Budgets) (steps : List Step
     (stored : List Bool) (listing : Listing) (hit : Option Hit) (reach : Reach) →
     HasMade (crash_of r dump) budgets steps old → StandsAt (crash_of r dump) steps now → DumpFits r.circuit r.choice now → at ≡ last_moment steps →
     signatures_of now ≡ stored ∷ option_to_list now.older →
-    HasLookedFrom r budgets old new now stored at listing hit reach →
+    HasLookedFrom r budgets old new now stored at listing hit reach → TakesRecorded r.circuit r.runs (step_of now stored listing hit) →
     HasMade (crash_of r dump) budgets (steps ++ step_of now stored listing hit ∷ []) new
-step_made r dump budgets steps old new now at stored listing hit reach made stands fits last held from =
+step_made r dump budgets steps old new now at stored listing hit reach made stands fits last held from takes =
     let back : HasLookedBack r budgets old new now stored from.known listing hit = from.back in
     let crash : Crash = crash_of r dump in
     let step : Step = step_of now stored listing hit in
@@ -156,6 +157,8 @@ step_made r dump budgets steps old new now at stored listing hit reach made stan
           (All-from_recursion (λ (step : Step). IsOfDepth (depth_of crash.choice) step.older) (step ∷ []) (λ one. fits.sound.alone (fits.depth ∙ one), tt));
       befores = All-append (λ (step : Step). HaveBefores crash.circuit crash.choice step.older step.cands) steps (step ∷ []) made.befores
           (All-from_recursion (λ (step : Step). HaveBefores crash.circuit crash.choice step.older step.cands) (step ∷ []) (l.befores, tt));
+      takes = All-append (TakesRecorded crash.circuit crash.runs) steps (step ∷ []) made.takes
+          (All-from_recursion (TakesRecorded crash.circuit crash.runs) (step ∷ []) (takes, tt));
       back = before_more crash steps step made.back
           (lists_before r dump steps (state_after crash steps old.history) new now at stored from.known from.answer budgets.candidates budgets.conflicts listing
           hit last from.answered l);
@@ -179,4 +182,5 @@ pub made_more : (r : Recording) (dump : Dump) (budgets : Budgets) (steps : List 
     HasMade (crash_of r dump) budgets (steps ++ step ∷ []) new
 made_more r dump budgets steps old new now at step hit made stands fits last is =
     subst (λ (s : Step). HasMade (crash_of r dump) budgets (steps ++ s ∷ []) new) (sym is.step_is)
-    (step_made r dump budgets steps old new now at is.stored is.listing hit is.reach made stands fits last is.held is.from)
+    (step_made r dump budgets steps old new now at is.stored is.listing hit is.reach made stands fits last is.held is.from
+    (subst (TakesRecorded r.circuit r.runs) is.step_is is.takes))

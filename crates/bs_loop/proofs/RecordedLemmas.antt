@@ -34,11 +34,11 @@ input_width : (r : Recording) (run cycle : ℕ) → IsRecording r → IsMoment r
 input_width r run cycle sound is j low =
     sound.inputs (run - 1) [] (omega (arith, is.from_one, is.recorded)) j [] (omega (arith, is.lasts, low))
 
-state_next : (c : Circuit) (run : Run) (cycle : ℕ) → next c (state_at c run cycle) (get_or run cycle []) ≡ state_at c run (suc cycle)
+pub state_next : (c : Circuit) (run : Run) (cycle : ℕ) → next c (state_at c run cycle) (get_or run cycle []) ≡ state_at c run (suc cycle)
 unfolding state_at
 state_next c run cycle = refl
 
-leads_on : (r : Recording) (run cycle : ℕ) → IsRecording r → IsMoment r.runs (moment run (suc cycle)) →
+pub leads_on : (r : Recording) (run cycle : ℕ) → IsRecording r → IsMoment r.runs (moment run (suc cycle)) →
     Leads r.circuit (state_at r.circuit (run_of r.runs run) cycle) (get_or (run_of r.runs run) cycle []) (state_at r.circuit (run_of r.runs run) (suc cycle))
 leads_on r run cycle sound is =
     let c : Circuit = r.circuit in

@@ -14,6 +14,7 @@ use Rattle.bs_preimage.specs.declared.listing.Listing.{Listing}
 use Rattle.bs_preimage.specs.Preimage.{PreimageState}
 use Rattle.bs_scan.specs.Moments.{Moment, moment}
 use Rattle.bs_loop.specs.declared.known.Reach.{Reach}
+use Rattle.bs_loop.specs.HitInput.{TakesRecorded}
 use Rattle.bs_loop.specs.Turn.{step_of, HasLookedFrom, HasStepped, HasStopped}
 
 -- what a turn has done, where the step stands behind the others, and the present is the moment hit
@@ -21,25 +22,25 @@ turned_here : (r : Recording) (budgets : Budgets) (steps more : List Step) (old 
     (at next_at : Option Moment) (stored : List Bool)
     (listing : Listing) (step : Step) (reach : Reach) (hit : Option Hit) (stop : Option Stop) →
     signatures_of now ≡ stored ∷ option_to_list now.older → HasLookedFrom r budgets old new now stored at listing hit reach → step ≡ step_of now stored listing hit →
-    more ≡ steps ++ step ∷ [] →
+    TakesRecorded r.circuit r.runs step → more ≡ steps ++ step ∷ [] →
     MatchOption hit (stop ≡ Some (cause_of_end step step.end)) (λ hit. (stop ≡ None) × (next ≡ hit.dump) × (next_at ≡ Some (moment hit.run hit.cycle))) →
     MatchOption stop (HasStepped r budgets steps more old new now next at next_at) (HasStopped r budgets steps more old new now at)
-turned_here r budgets steps more old new now next at next_at stored listing step reach None stop held back is made ends =
+turned_here r budgets steps more old new now next at next_at stored listing step reach None stop held back is takes made ends =
     subst (λ (stop : Option Stop). MatchOption stop (HasStepped r budgets steps more old new now next at next_at) (HasStopped r budgets steps more old new now at)) (sym ends)
     (inr
     (record {
       step = step;
-      back = record { stored = stored; held = held; listing = listing; reach = reach; from = back; step_is = is };
+      back = record { stored = stored; held = held; listing = listing; reach = reach; from = back; step_is = is; takes = takes };
       made = made;
       cause = refl;
     }))
-turned_here r budgets steps more old new now next at next_at stored listing step reach (Some hit) stop held back is made ends =
+turned_here r budgets steps more old new now next at next_at stored listing step reach (Some hit) stop held back is takes made ends =
     subst (λ (stop : Option Stop). MatchOption stop (HasStepped r budgets steps more old new now next at next_at) (HasStopped r budgets steps more old new now at))
     (sym ends.0)
     (record {
       step = step;
       hit = hit;
-      back = record { stored = stored; held = held; listing = listing; reach = reach; from = back; step_is = is };
+      back = record { stored = stored; held = held; listing = listing; reach = reach; from = back; step_is = is; takes = takes };
       made = made;
       there = ends.1;
       next_is = ends.2;
@@ -49,9 +50,9 @@ pub turned : {E : Type 0} (r : Recording) (budgets : Budgets) (steps more : List
     (at next_at : Option Moment) (stored : List Bool)
     (listing : Listing) (step : Step) (reach : Reach) (hit : Option Hit) (result : Result (Option Stop) E) →
     signatures_of now ≡ stored ∷ option_to_list now.older → HasLookedFrom r budgets old new now stored at listing hit reach → step ≡ step_of now stored listing hit →
-    IfOk result (λ _. more ≡ steps ++ step ∷ []) →
+    TakesRecorded r.circuit r.runs (step_of now stored listing hit) → IfOk result (λ _. more ≡ steps ++ step ∷ []) →
     IfOk result (λ stop. MatchOption hit (stop ≡ Some (cause_of_end step step.end)) (λ hit. (stop ≡ None) × (next ≡ hit.dump) × (next_at ≡ Some (moment hit.run hit.cycle)))) →
     IfOk result (λ stop. MatchOption stop (HasStepped r budgets steps more old new now next at next_at) (HasStopped r budgets steps more old new now at))
-turned r budgets steps more old new now next at next_at stored listing step reach hit (Ok stop) held back is made ends =
-    turned_here r budgets steps more old new now next at next_at stored listing step reach hit stop held back is made ends
-turned r budgets steps more old new now next at next_at stored listing step reach hit (Err want) held back is made ends = tt
+turned r budgets steps more old new now next at next_at stored listing step reach hit (Ok stop) held back is takes made ends =
+    turned_here r budgets steps more old new now next at next_at stored listing step reach hit stop held back is (subst (TakesRecorded r.circuit r.runs) (sym is) takes) made ends
+turned r budgets steps more old new now next at next_at stored listing step reach hit (Err want) held back is takes made ends = tt

@@ -25,6 +25,7 @@ use Rattle.bs_report_good.proofs.LoopLemmas.{last_present_more, last_more}
 use Rattle.bs_report_good.proofs.ProgressLemmas.{hit_at}
 use Rattle.bs_preimage.specs.Preimage.{PreimageState, fresh}
 use Rattle.bs_loop.specs.Budget.{IsBudget}
+use Rattle.bs_loop.specs.HitInput.{TakesRecorded}
 use Rattle.bs_loop.specs.Made.{HasMade}
 use Rattle.bs_loop.specs.Turn.{line_of, HasItsDump, HasStepped, IsAtReset, IsUnhit, HasStopped}
 use Rattle.bs_loop.specs.Recorded.{StandsIn}
@@ -40,6 +41,7 @@ none_made r dump budgets =
       right = All-from_recursion (IsRightStep (crash_of r dump)) [] tt;
       older = All-from_recursion (λ (step : Step). IsOfDepth (depth_of r.choice) step.older) [] tt;
       befores = All-from_recursion (λ (step : Step). HaveBefores r.circuit r.choice step.older step.cands) [] tt;
+      takes = All-from_recursion (TakesRecorded r.circuit r.runs) [] tt;
       follow = tt;
       back = λ i earlier later e h c. cc;
       few = tt;

@@ -2,6 +2,7 @@
 pub mod Budget
 pub mod Bound
 pub mod Searched
+pub mod HitInput
 -- what inner functions promise each other
 pub mod Recorded
 pub mod KnownCand

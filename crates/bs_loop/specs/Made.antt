@@ -24,6 +24,7 @@ use Rattle.bs_report_good.specs.Progress.{ListBefore}
 use Rattle.bs_solve.specs.Budget.{HasFewLemmas}
 use Rattle.bs_report_good.specs.Valid.{HaveBefores, blocks_due, are_right_blocks, blocks_in, is_right_finish, finishes_in}
 use Rattle.bs_preimage.specs.Preimage.{PreimageState}
+use Rattle.bs_loop.specs.HitInput.{TakesRecorded}
 
 -- the clauses of the crash's circuit and signature
 abbrev pub encoding_in : Crash → Encoded
@@ -62,6 +63,7 @@ pub record HasMade (crash : Crash) (budgets : Budgets) (steps : List Step) (s : 
   pub right : All (IsRightStep crash) steps
   pub older : All (λ step. IsOfDepth (depth_of crash.choice) step.older) steps
   pub befores : All (λ step. HaveBefores crash.circuit crash.choice step.older step.cands) steps
+  pub takes : All (TakesRecorded crash.circuit crash.runs) steps
   pub follow : Follow crash (Some (present_in crash.dump)) steps
   pub back : ListBefore crash steps
   pub few : HasFewLemmas budgets.conflicts s.history

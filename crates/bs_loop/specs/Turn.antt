@@ -17,6 +17,7 @@ use Rattle.bs_report_good.specs.Valid.{cause_of_end}
 use Rattle.bs_preimage.specs.declared.listing.Listing.{Listing}
 use Rattle.bs_preimage.specs.Preimage.{PreimageState}
 use Rattle.bs_preimage.specs.Listed.{HasListed}
+use Rattle.bs_loop.specs.HitInput.{TakesRecorded}
 use Rattle.bs_loop.specs.KnownCand.{reach_by, IsAnswered}
 use Rattle.bs_loop.specs.declared.known.SearchAnswer.{SearchAnswer}
 use Rattle.bs_loop.specs.declared.known.Reach.{Reach}
@@ -68,6 +69,7 @@ pub record IsStepBack (r : Recording) (budgets : Budgets) (old new : PreimageSta
   pub reach : Reach
   pub from : HasLookedFrom r budgets old new now stored at listing hit reach
   pub step_is : step ≡ step_of now stored listing hit
+  pub takes : TakesRecorded r.circuit r.runs step
 
 -- one more step, with a hit, whose moment is the next present
 pub record HasStepped (r : Recording) (budgets : Budgets) (steps more : List Step) (old new : PreimageState) (now next : Dump)

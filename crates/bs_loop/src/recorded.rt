@@ -11,7 +11,12 @@ use bs_scan::Moment;
 use std::alloc::Global;
 
 /// The state of a run at a cycle, and the input that was recorded there.
-fn recorded_at(alloc: Global, chip: &mut Chip<'_>, run: u32, cycle: u32) -> Result<Before, NoMemory>
+pub fn recorded_at(
+    alloc: Global,
+    chip: &mut Chip<'_>,
+    run: u32,
+    cycle: u32,
+) -> Result<Before, NoMemory>
     requires { IsMoment chip.old.recording.runs (moment run (cycle + 1)) }
     ensures recorded { IfOk result (λ before. before ≡ recorded_at chip.old.recording run cycle) }
     ensures chip { chip.new ≡ chip.old }

@@ -9,11 +9,13 @@ ghost use Rattle.bs_scan.specs.Moments.{first_moment, IsMoment};
 ghost use Rattle.bs_report_good.specs.Step.{listed};
 ghost use Rattle.bs_report_good.specs.Valid.{cause_of_end};
 ghost use Rattle.bs_loop.specs.Budget.{IsBudget};
+ghost use Rattle.bs_loop.specs.HitInput.{TakesRecorded};
 ghost use Rattle.bs_loop.specs.KnownCand.{Sees};
 ghost use Rattle.bs_loop.specs.Recorded.{StandsIn};
 ghost use Rattle.bs_loop.specs.Searched.{IsTurnSearched};
 ghost use Rattle.bs_loop.specs.Turn.{line_of, step_of, HasListedFrom, HasLookedFrom, HasStepped, HasStopped};
 
+use crate::hit_input::take_recorded;
 use crate::known::{Reach, SearchAnswer, Sight, reach_of, sight_of};
 use crate::lookout::Lookout;
 use crate::stop::cause_after;
@@ -179,7 +181,7 @@ fn step_of(now: &Dump, stored: Bits, listing: Listing, hit: &Option<Hit>) -> Res
 }
 
 /// What is before a present: the list, and the first moment hit.
-fn look_from<'a>(
+fn meet_from<'a>(
     alloc: Global,
     chip: &mut Chip<'a>,
     finder: &mut Finder<'a, '_>,
@@ -209,6 +211,44 @@ fn look_from<'a>(
     let reach = reach_of(answer);
     Ok(Looked {
         listing,
+        hit,
+        reach,
+    })
+}
+
+/// The same, where the state hit has its recorded input, if that leads to what is known of the present.
+fn look_from<'a>(
+    alloc: Global,
+    chip: &mut Chip<'a>,
+    finder: &mut Finder<'a, '_>,
+    preimage: &mut Preimage<'_>,
+    now: &Dump,
+    at: Option<Moment>,
+    stored: &Bits,
+    budgets: &Budgets,
+) -> Result<Looked, NoMemory>
+    requires finder { finder.old.recording ≡ chip.old.recording }
+    requires circuit { preimage.old.circuit ≡ chip.old.recording.circuit }
+    requires choice { preimage.old.choice ≡ chip.old.recording.choice }
+    requires dump { DumpFits chip.old.recording.circuit chip.old.recording.choice now.now }
+    requires at { IfSome at (StandsIn chip.old.recording now.now) }
+    requires stored { signatures_of now.now ≡ stored.now ∷ option_to_list now.now.older }
+    requires budgets { IsBudget budgets.now }
+    requires calls { preimage.old.calls < MAX_STEPS }
+    ensures back { IfOk result (λ back. HasLookedFrom chip.old.recording budgets.now preimage.old preimage.new now.now stored.now at back.listing back.hit back.reach) }
+    ensures takes { IfOk result (λ back. TakesRecorded chip.old.recording.circuit chip.old.recording.runs (step_of now.now stored.now back.listing back.hit)) }
+    ensures chip { chip.new.recording ≡ chip.old.recording }
+    ensures finder { finder.new.recording ≡ finder.old.recording }
+{
+    chip.is_recording();
+    let Looked {
+        listing,
+        hit,
+        reach,
+    } = meet_from(alloc, chip, finder, preimage, now, at, stored, budgets)?;
+    let with_input = take_recorded(alloc, chip, &now.state, &hit, listing)?;
+    Ok(Looked {
+        listing: with_input,
         hit,
         reach,
     })

@@ -4,7 +4,7 @@ ghost use Rattle.bs_report_good.specs.Trace.{hit_state, input_for, trace_inputs,
 
 use bs_bits::{Bits, List, NoMemory};
 use bs_report::Step;
-use bs_trace::input_for;
+use bs_report_good::input_for;
 use std::alloc::Global;
 
 /// Puts a copy of a state behind the others.

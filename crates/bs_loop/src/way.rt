@@ -15,9 +15,10 @@ ghost use Rattle.bs_report_good.specs.Valid.{IsValid};
 ghost use Rattle.bs_report.specs.declared.report.Stop.TheVariants.{Reset, Length};
 ghost use Rattle.bs_preimage.specs.Preimage.{fresh};
 ghost use Rattle.bs_loop.specs.Budget.{IsBudget};
+ghost use Rattle.bs_loop.specs.HitInput.{TakesRecorded};
 ghost use Rattle.bs_loop.specs.Made.{HasMade};
 ghost use Rattle.bs_loop.specs.Way.{HasEnded};
-ghost use Rattle.bs_trace.specs.WideCands.{HasWideCands};
+ghost use Rattle.bs_report_good.specs.WideCands.{HasWideCands};
 ghost use Rattle.bs_loop.specs.Report.{IsAlikeButLog, IsOfWay, IsWithLog};
 ghost use Rattle.bs_loop.specs.Bound.{HasBound};
 ghost use Rattle.bs_loop.specs.Searched.{AreSearched, is_cut, is_last_cut, TellsCut, WereSearched};
@@ -31,9 +32,9 @@ use bs_log::Log;
 use bs_preimage::Preimage;
 use bs_preimage_recorded::Finder;
 use bs_report::{Budgets, Report, Step, Stop};
+use bs_report_good::end_of;
 use bs_scan::Dump;
 use bs_seen::Seen;
-use bs_trace::end_of;
 use std::alloc::Global;
 
 /// The steps made, and why no more are made.
@@ -300,6 +301,7 @@ fn logged(report: Result<Report, NoMemory>, preimage: Preimage<'_>) -> Result<Re
 /// state is a predecessor that agrees with the stored signatures, of all predecessors and not only of the listed ones, unless its list
 /// ends with conflicts; and where it was cut, no moment before the one that it came to is in a predecessor. It was cut where it had asked
 /// about as many states as it may, or where a solve about that moment's state spent its budget, or the state cannot be asked about.
+/// Where the dump is known in part and the input recorded at the first hit leads to what is known of it, the first step lists this input.
 /// Behind the call `cut` tells whether the search for the last step was cut.
 pub fn backtrace(
     alloc: Global,
@@ -322,6 +324,7 @@ pub fn backtrace(
     ensures lean { IfOk result (λ r. IsLean (basis_of chip.old.recording.circuit chip.old.recording.choice (map present_of r.steps)).problem (history_of r.log)) }
     ensures searched { IfOk result (λ r. WereSearched chip.old.recording budgets.now.conflicts r.steps) }
     ensures cut { IfOk result (λ r. TellsCut chip.old.recording budgets.now.conflicts r.steps cut.new) }
+    ensures takes { IfOk result (λ r. All (TakesRecorded chip.old.recording.circuit chip.old.recording.runs) r.steps) }
     ensures chip { chip.new.recording ≡ chip.old.recording }
 {
     chip.is_recording();

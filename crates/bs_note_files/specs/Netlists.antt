@@ -19,7 +19,7 @@ place_of verilog.NoMemory = 0
 -- what is said of it
 abbrev pub fault_saying : List ℕ → VerilogFault → Saying
 fault_saying text (verilog.Syntax at) = syntax_saying (slice_get text at)
-fault_saying text (verilog.Unsupported at what) = what_saying (slice_get text at) what
+fault_saying text (verilog.Unsupported at what) = what_saying text at what
 fault_saying text (verilog.Port at) = port_saying
 fault_saying text (verilog.Redeclared at) = redeclared_saying
 fault_saying text (verilog.TooManyNets at) = nets_saying

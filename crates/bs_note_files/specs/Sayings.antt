@@ -1,9 +1,10 @@
 -- What is said of a fault, and what to do: a sentence, and a few words behind the caret.
-use Rattle.std.specs.Prelude.{ℕ, ◌==◌, nat_eq, nat_lt, Bool, false, ◌&&◌, ◌||◌, not, List, ◌++◌, codes, decimal, length, Option, Some, None, if◌then◌else◌}
+use Rattle.std.specs.Prelude.{ℕ, ◌==◌, nat_eq, nat_lt, Bool, false, ◌&&◌, ◌||◌, not, List, ◌++◌, codes, decimal, length, slice_get, Option, Some, None, if◌then◌else◌}
 use Rattle.std.specs.List.{list_all, starts_with}
 use Rattle.std.specs.Str.{bytes_eq}
 use Rattle.bs_verilog_syntax.specs.declared.fault.What.{What}
 use Rattle.bs_verilog_syntax.specs.declared.fault.What.TheVariants as what
+use Rattle.bs_note_files.specs.Checks.{stands_at}
 use Rattle.bs_note_files.specs.Notes.{Saying, saying}
 
 -- ---- a line at sight
@@ -28,37 +29,60 @@ loose_saying = saying (codes "a space too many: words are parted by one space, a
 
 -- ---- a netlist
 
--- a cell that is not known, by the byte with which its name begins
+-- the byte begins an escaped name
 abbrev pub is_escaped : Option ℕ → Bool
 is_escaped None = false
 is_escaped (Some b) = b == 92
 
-abbrev pub cell_saying : Option ℕ → Saying
-cell_saying byte =
-    if is_escaped byte then saying (codes "an escaped name is no gate and no cell: `\\not` is another name than `not`")
-    (codes "map cells to gates and take the `\\` out of their names: examples/yosys/synth.sh does both")
-    else saying (codes "no cell of this name is known")
-    (codes "cells are dff and dffs (CK, Q, D), dffe (E too), dffr (R too), gates and nand or nor xor xnor buf not: flatten and map to these (docs/FORMATS.md)")
+-- the word stands at a place of a text
+abbrev pub is_word : List ℕ → ℕ → List ℕ → Bool
+is_word text at word = nat_lt at (length text) && stands_at text word at
 
--- a part of the language that is left out, by the byte with which it begins
-abbrev pub what_saying : Option ℕ → What → Saying
-what_saying byte what.Behaviour =
+-- a word with which SystemVerilog declares
+abbrev pub declares : List ℕ → ℕ → Bool
+declares text at = is_word text at (codes "logic") || (is_word text at (codes "typedef") || is_word text at (codes "enum"))
+
+-- a word with which it begins a block of behaviour
+abbrev pub begins_block : List ℕ → ℕ → Bool
+begins_block text at = is_word text at (codes "always_ff") || (is_word text at (codes "always_comb") || is_word text at (codes "always_latch"))
+
+abbrev pub rtl_saying : Saying
+rtl_saying =
+    saying (codes "this is a word of SystemVerilog RTL, and no cell")
+    (codes "synthesize and map it, as examples/yosys/synth.sh does; in a netlist write wire in place of logic")
+
+abbrev pub behaviour_saying : Saying
+behaviour_saying =
     saying (codes "behavioural Verilog is left out") (codes "synthesize it, and map it to gates and flip-flops, as examples/yosys/synth.sh does both")
-what_saying byte what.Parameter = saying (codes "parameters are left out") (codes "let synthesis settle them")
-what_saying byte what.NetType =
+
+-- a name at a place of a text that is no gate and no cell: an escaped one, a word of RTL, or another one
+abbrev pub cell_saying : List ℕ → ℕ → Saying
+cell_saying text at =
+    if is_escaped (slice_get text at) then saying (codes "an escaped name is no gate and no cell: `\\not` is another name than `not`")
+    (codes "map cells to gates and take the `\\` out of their names: examples/yosys/synth.sh does both")
+    else (if declares text at then rtl_saying
+    else (if begins_block text at then behaviour_saying
+    else saying (codes "no cell of this name is known")
+    (codes "cells are dff and dffs (CK, Q, D), dffe (E too), dffr (R too), gates and nand or nor xor xnor buf not: flatten and map to these (docs/FORMATS.md)")))
+
+-- a part of the language that is left out, at a place of a text
+abbrev pub what_saying : List ℕ → ℕ → What → Saying
+what_saying text at what.Behaviour = behaviour_saying
+what_saying text at what.Parameter = saying (codes "parameters are left out") (codes "let synthesis settle them")
+what_saying text at what.NetType =
     saying (codes "net types other than wire, supply0 and supply1 are left out")
     (codes "is this RTL? synthesize and map it, as examples/yosys/synth.sh does; else write wire")
-what_saying byte what.Primitive = saying (codes "tri-state, switch and user primitives are left out") (codes "gates are and nand or nor xor xnor buf not")
-what_saying byte what.Direction = saying (codes "inout ports are left out") (codes "split it into an input and an output")
-what_saying byte what.Strength = saying (codes "drive strengths are left out") (codes "take it out")
-what_saying byte what.Array = saying (codes "arrays of instances are left out") (codes "write each instance")
-what_saying byte what.Expression =
+what_saying text at what.Primitive = saying (codes "tri-state, switch and user primitives are left out") (codes "gates are and nand or nor xor xnor buf not")
+what_saying text at what.Direction = saying (codes "inout ports are left out") (codes "split it into an input and an output")
+what_saying text at what.Strength = saying (codes "drive strengths are left out") (codes "take it out")
+what_saying text at what.Array = saying (codes "arrays of instances are left out") (codes "write each instance")
+what_saying text at what.Expression =
     saying (codes "expressions and concatenations are left out")
     (codes "a net, a bit of a vector or a constant of one bit may stand here; examples/yosys/synth.sh maps the rest to gates")
-what_saying byte what.Width = saying (codes "a whole vector or a part of it is left out") (codes "name one bit, as a[0]")
-what_saying byte what.Constant = saying (codes "a constant here is 1'b0 or 1'b1") (codes "x, z and wider constants are left out")
-what_saying byte what.Directive = saying (codes "this compiler directive is left out") (codes "take it out, or run a preprocessor first")
-what_saying byte what.Hierarchy = cell_saying byte
+what_saying text at what.Width = saying (codes "a whole vector or a part of it is left out") (codes "name one bit, as a[0]")
+what_saying text at what.Constant = saying (codes "a constant here is 1'b0 or 1'b1") (codes "x, z and wider constants are left out")
+what_saying text at what.Directive = saying (codes "this compiler directive is left out") (codes "take it out, or run a preprocessor first")
+what_saying text at what.Hierarchy = cell_saying text at
 
 -- a byte that is none of a text: neither white space nor one of ` ` to `~`
 abbrev pub is_binary : ℕ → Bool
@@ -75,7 +99,7 @@ syntax_saying (Some b) =
     (codes "cells are dff and dffs (CK, Q, D), dffe (E too), dffr (R too): flatten and map to these (docs/FORMATS.md, Netlists)")
     else (if b == 31 then packed_saying
     else (if b == 59 then saying (codes "a `;` cannot stand here")
-    (codes "is something missing before it, as an instance's terminals? is this SystemVerilog, as `logic r;`? synthesize it, as by examples/yosys/synth.sh")
+    (codes "is something missing before it, as an instance's terminals?")
     else (if is_binary b then saying (codes "a byte that no text has: is this file packed or binary?") (codes "give the text of a structural netlist")
     else saying (codes "what begins here cannot stand here")
     (codes "is a `;` missing before it? is this RTL or SystemVerilog? synthesize it, as by examples/yosys/synth.sh (docs/FORMATS.md, Netlists)")))))

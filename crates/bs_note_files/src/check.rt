@@ -73,7 +73,7 @@ fn joins_before(text: &[u8], at: usize) -> bool
 }
 
 /// Whether a name stands at a place of a text, with no byte of a name before it or behind it.
-fn stands_at(text: &[u8], at: usize, name: &[u8]) -> bool
+pub(crate) fn stands_at(text: &[u8], at: usize, name: &[u8]) -> bool
     requires { at ≤ length text.now }
     ensures { result ≡ stands_at text.now name.now at }
 {

@@ -2,33 +2,80 @@
 ghost use Rattle.std.specs.Prelude.{◌≡◌, slice_get, IfOk, Some};
 ghost use Rattle.bs_note_files.specs.Netlists.{fault_saying, IsNetlistNote, place_of};
 ghost use Rattle.bs_note_files.specs.Notes.{said};
-ghost use Rattle.bs_note_files.specs.Sayings.{cell_saying, is_binary, is_escaped, syntax_saying, what_saying};
+ghost use Rattle.bs_note_files.specs.Sayings.{begins_block, behaviour_saying, cell_saying, declares, is_binary, is_escaped, is_word, syntax_saying, what_saying};
 
+use crate::check::stands_at;
 use crate::flaw::packed_message;
 use crate::form::{Message, note_on, say};
 use bs_bits::NoMemory;
 use bs_verilog_syntax::{VerilogFault, What};
 use std::alloc::Global;
 
-/// Whether a byte begins an escaped name.
-fn is_escaped(byte: Option<u8>) -> bool
-    ensures { result ≡ is_escaped byte }
+/// Whether the byte at a place begins an escaped name.
+fn is_escaped(text: &[u8], at: usize) -> bool
+    ensures { result ≡ is_escaped (slice_get text.now at) }
 {
-    match byte {
-        Some(byte) => byte == b'\\',
+    match text.get(at) {
+        Some(byte) => *byte == b'\\',
         None => false,
     }
 }
 
-/// What is said of a cell that is not known, by the byte with which its name begins.
-fn cell_message(byte: Option<u8>) -> Message<'static>
-    ensures { said result ≡ cell_saying byte }
+/// Whether a word stands at a place of a text.
+fn is_word(text: &[u8], at: usize, word: &[u8]) -> bool
+    ensures { result ≡ is_word text.now at word.now }
 {
-    if is_escaped(byte) {
+    at < text.len() && stands_at(text, at, word)
+}
+
+/// Whether a word stands there with which SystemVerilog declares.
+fn declares(text: &[u8], at: usize) -> bool
+    ensures { result ≡ declares text.now at }
+{
+    let logic = is_word(text, at, b"logic");
+    let typedef = is_word(text, at, b"typedef");
+    let enumeration = is_word(text, at, b"enum");
+    logic || (typedef || enumeration)
+}
+
+/// Whether a word stands there with which it begins a block of behaviour.
+fn begins_block(text: &[u8], at: usize) -> bool
+    ensures { result ≡ begins_block text.now at }
+{
+    let clocked = is_word(text, at, b"always_ff");
+    let combinational = is_word(text, at, b"always_comb");
+    let latched = is_word(text, at, b"always_latch");
+    clocked || (combinational || latched)
+}
+
+/// What is said of behaviour.
+fn behaviour_message() -> Message<'static>
+    ensures { said result ≡ behaviour_saying }
+{
+    say(
+        "behavioural Verilog is left out",
+        "synthesize it, and map it to gates and flip-flops, as examples/yosys/synth.sh does both",
+    )
+}
+
+/// What is said of a name at a place that is no gate and no cell.
+fn cell_message(text: &[u8], at: usize) -> Message<'static>
+    ensures { said result ≡ cell_saying text.now at }
+{
+    if is_escaped(text, at) {
         return say(
             "an escaped name is no gate and no cell: `\\not` is another name than `not`",
             "map cells to gates and take the `\\` out of their names: examples/yosys/synth.sh does both",
         );
+    }
+    if declares(text, at) {
+        return say(
+            "this is a word of SystemVerilog RTL, and no cell",
+            "synthesize and map it, as examples/yosys/synth.sh does; in a netlist write wire in place of logic",
+        );
+    }
+    if begins_block(text, at) {
+        return behaviour_message();
     }
     say(
         "no cell of this name is known",
@@ -36,15 +83,12 @@ fn cell_message(byte: Option<u8>) -> Message<'static>
     )
 }
 
-/// What is said of a part of the language that is left out, by the byte with which it begins.
-fn what_message(byte: Option<u8>, what: What) -> Message<'static>
-    ensures { said result ≡ what_saying byte what }
+/// What is said of a part of the language that is left out, at a place of a text.
+fn what_message(text: &[u8], at: usize, what: What) -> Message<'static>
+    ensures { said result ≡ what_saying text.now at what }
 {
     match what {
-        What::Behaviour => say(
-            "behavioural Verilog is left out",
-            "synthesize it, and map it to gates and flip-flops, as examples/yosys/synth.sh does both",
-        ),
+        What::Behaviour => behaviour_message(),
         What::Parameter => say("parameters are left out", "let synthesis settle them"),
         What::NetType => say(
             "net types other than wire, supply0 and supply1 are left out",
@@ -76,17 +120,7 @@ fn what_message(byte: Option<u8>, what: What) -> Message<'static>
             "this compiler directive is left out",
             "take it out, or run a preprocessor first",
         ),
-        What::Hierarchy => cell_message(byte),
-    }
-}
-
-/// The byte at a place, where there is one.
-fn byte_at(text: &[u8], at: usize) -> Option<u8>
-    ensures { result ≡ slice_get text.now at }
-{
-    match text.get(at) {
-        Some(byte) => Some(*byte),
-        None => None,
+        What::Hierarchy => cell_message(text, at),
     }
 }
 
@@ -119,7 +153,7 @@ fn byte_message(byte: u8) -> Message<'static>
     if byte == b';' {
         return say(
             "a `;` cannot stand here",
-            "is something missing before it, as an instance's terminals? is this SystemVerilog, as `logic r;`? synthesize it, as by examples/yosys/synth.sh",
+            "is something missing before it, as an instance's terminals?",
         );
     }
     if is_binary(byte) {
@@ -153,7 +187,7 @@ fn message_of(text: &[u8], fault: VerilogFault) -> Message<'static>
 {
     match fault {
         VerilogFault::Syntax(at) => syntax_message(text, at as usize),
-        VerilogFault::Unsupported(at, what) => what_message(byte_at(text, at as usize), what),
+        VerilogFault::Unsupported(at, what) => what_message(text, at as usize, what),
         VerilogFault::Port(_) => say(
             "each name of the header has one direction, and each direction a name of the header",
             "declare it as input or output once, and name it in the header",

@@ -9,3 +9,4 @@ pub mod GoodLemmas
 pub mod LoggedLemmas
 pub mod LoopLemmas
 pub mod Examples
+pub mod WideLemmas

@@ -7,3 +7,4 @@ pub mod Law
 pub mod Valid
 pub mod ValidLaw
 pub mod Progress
+pub mod WideCands

@@ -1,5 +1,6 @@
-//! Worked rows of the program's call that no run of the program shows: outputs in memory of which a given put fails, faults that tell
-//! no reason, and the generated job. All other rows are whole runs (tools/rows/).
+//! Worked rows of the program's call that no run of the program shows: outputs in memory of which a given put
+//! fails, faults that tell no reason, and the generated job; and a law that holds limits to their numbers,
+//! where no row comes to them. All other rows are whole runs (tools/rows/).
 #![tactic(auto)]
 
 #[cfg(test)]
@@ -10,3 +11,6 @@ mod demo_rows;
 mod fault_rows;
 #[cfg(test)]
 mod gen_rows;
+mod limits;
+
+pub use limits::limits_are;

@@ -1,6 +1,6 @@
 -- What holds of a backtrace's report.
 use Rattle.std.proofs.Common.{◌≡◌, map, subst, sym, ◌∙◌, None, Result, Ok, Err}
-use Rattle.std.specs.Prelude.{IfOk}
+use Rattle.std.specs.Prelude.{All, IfOk}
 use Rattle.bs_scan.specs.declared.dump.Dump.{Dump}
 use Rattle.bs_scan.specs.Crash.{Recording, Crash, crash_of, IsCrash}
 use Rattle.bs_log.specs.Lean.{IsLean}
@@ -17,6 +17,7 @@ use Rattle.bs_report_good.proofs.EndLemmas.{unhit_is_first, finished_reach_reset
 use Rattle.bs_report_good.proofs.ProgressLemmas.{progress}
 use Rattle.bs_report_good.proofs.ExecutionLemmas.{executed}
 use Rattle.bs_loop.specs.Bound.{HasBound}
+use Rattle.bs_loop.specs.HitInput.{TakesRecorded}
 use Rattle.bs_loop.specs.Searched.{WereSearched}
 use Rattle.bs_audit.specs.declared.parts.Finding.{Finding}
 use Rattle.bs_audit.specs.Finding.{part_of, basis_for}
@@ -43,6 +44,7 @@ pub record IsMade (chip : Recording) (dump : Dump) (budgets : Budgets) (r : Repo
   pub lean : IsLean (basis_of chip.circuit chip.choice (map present_of r.steps)).problem (history_of r.log)
   pub bound : HasBound (basis_of chip.circuit chip.choice (map present_of r.steps)).problem r
   pub searched : WereSearched chip budgets.conflicts r.steps
+  pub takes : All (TakesRecorded chip.circuit chip.runs) r.steps
   pub readable : HasReportText r
 
 made_alike : (chip : Recording) (dump : Dump) (budgets : Budgets) (r : Report) → IsCrash (crash_of chip dump) → IsMade chip dump budgets r →
@@ -54,6 +56,7 @@ made_alike chip dump budgets r crash_files made = record {
   lean = made.lean;
   bound = made.bound;
   searched = made.searched;
+  takes = made.takes;
   readable = made.readable;
 }
 
@@ -64,13 +67,24 @@ pub backtrace_ok : {E : Type 0} (recorded chip : Recording) (dump : Dump) (budge
     IfOk r (λ report. IsValid (crash_of chip dump) (basis_of chip.circuit chip.choice (map present_of report.steps)) report) → IfOk r GoesBack →
     IfOk r (λ report. IsLean (basis_of chip.circuit chip.choice (map present_of report.steps)).problem (history_of report.log)) →
     IfOk r (λ report. HasBound (basis_of chip.circuit chip.choice (map present_of report.steps)).problem report) →
-    IfOk r (λ report. WereSearched chip budgets.conflicts report.steps) → IfOk r HasReportText →
+    IfOk r (λ report. WereSearched chip budgets.conflicts report.steps) → IfOk r (λ report. All (TakesRecorded chip.circuit chip.runs) report.steps) →
+    IfOk r HasReportText →
     IfOk r (IsBacktrace (crash_of recorded dump) budgets)
-backtrace_ok recorded chip dump budgets (Ok report) is crash_files asked good valid back lean bound searched readable =
+backtrace_ok recorded chip dump budgets (Ok report) is crash_files asked good valid back lean bound searched takes readable =
     made_alike recorded dump budgets report crash_files
     (subst (λ c. IsMade c dump budgets report) is
-    (record { asked = asked; good = good; valid = valid; progress = back; lean = lean; bound = bound; searched = searched; readable = readable }))
-backtrace_ok recorded chip dump budgets (Err want) is crash_files asked good valid back lean bound searched readable = tt
+    (record {
+      asked = asked;
+      good = good;
+      valid = valid;
+      progress = back;
+      lean = lean;
+      bound = bound;
+      searched = searched;
+      takes = takes;
+      readable = readable;
+    }))
+backtrace_ok recorded chip dump budgets (Err want) is crash_files asked good valid back lean bound searched takes readable = tt
 
 -- what an audit finds
 pub finds_ok : {E : Type 0} (crash : Crash) (report : Report) (r : Result Finding E) → IsCrash crash →

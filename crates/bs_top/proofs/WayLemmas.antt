@@ -17,7 +17,7 @@ use Rattle.bs_report_good.specs.Trace.{hit_state, input_for, trace_end}
 use Rattle.bs_report_good.specs.Good.{IsGood}
 use Rattle.bs_report_good.proofs.ProgressLemmas.{hit_at}
 use Rattle.bs_report_good.proofs.ExecutionLemmas.{cand_for, led_widths}
-use Rattle.bs_trace.proofs.WideLemmas.{end_width}
+use Rattle.bs_report_good.proofs.WideLemmas.{end_width}
 use Rattle.bs_wave.specs.Wave.{IsWayOf}
 
 -- as many states as inputs, each of its width

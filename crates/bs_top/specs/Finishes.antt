@@ -1,5 +1,5 @@
 -- The status and the text of work that is done.
-use Rattle.std.specs.Prelude.{◌≡◌, ℕ, List, Option, None, Ok}
+use Rattle.std.specs.Prelude.{◌≡◌, ℕ, List, Option, None, Ok, All}
 use Rattle.bs_seen.specs.declared.seen.Seen.{Seen}
 use Rattle.bs_scan.specs.DumpText.{dump_text}
 use Rattle.bs_log.specs.Lean.{IsLean}
@@ -16,6 +16,7 @@ use Rattle.bs_report_good.specs.Valid.{first_failing}
 use Rattle.bs_top_plan.specs.declared.status.Status.{Status}
 use Rattle.bs_top_plan.specs.declared.status.Status.TheVariants as S
 use Rattle.bs_loop.specs.Bound.{HasBound}
+use Rattle.bs_loop.specs.HitInput.{TakesRecorded}
 use Rattle.bs_loop.specs.Searched.{WereSearched}
 use Rattle.bs_top_files.specs.Entry.{recording_in}
 use Rattle.bs_top_files.specs.Law.{HasModules, MeansDesign}
@@ -54,7 +55,8 @@ recording_for crash = record { circuit = crash.circuit; choice = crash.choice; r
 -- Each step of its log leaves the lemmas that are kept and no block, and each lemma is a new resolvent; a list ends in conflicts only
 -- as the budget of lemmas allows. Each step whose list did not end with conflicts hits the first moment of any run in a predecessor, listed
 -- or not, and where it has no hit no recorded moment is in one; or else the search for that moment was cut, far enough, or where a solve
--- spent its budget. And the report is read back from its text.
+-- spent its budget. Where the dump is known in part, and the input recorded at the first hit leads to a state that shows it, the first step
+-- lists this input for the state hit. And the report is read back from its text.
 pub record IsBacktrace (crash : Crash) (budgets : Budgets) (report : Report) : Type 0 where
   pub asked : report.budgets ≡ budgets
   pub sound : IsSoundReport crash report
@@ -62,6 +64,7 @@ pub record IsBacktrace (crash : Crash) (budgets : Budgets) (report : Report) : T
   pub lean : IsLean (basis_for crash report).problem (history_of report.log)
   pub bound : HasBound (basis_for crash report).problem report
   pub searched : WereSearched (recording_for crash) budgets.conflicts report.steps
+  pub takes : All (TakesRecorded crash.circuit crash.runs) report.steps
   pub readable : HasReportText report
 
 -- ---- what is answered and written

@@ -15,7 +15,7 @@ use Rattle.bs_report.specs.declared.report.Budgets.{Budgets}
 use Rattle.bs_report.specs.declared.report.Report.{Report}
 use Rattle.bs_report.specs.Text.{report_text}
 use Rattle.bs_report_good.specs.declared.part.Part.{Part}
-use Rattle.bs_target.specs.Target.{target_looked}
+use Rattle.bs_top_reach.specs.Target.{target_looked}
 use Rattle.bs_top_answer.specs.declared.note.Note.{Note}
 use Rattle.bs_top_answer.specs.declared.note.Note.TheVariants.{Silent, Wanting}
 use Rattle.bs_top_answer.specs.Endings.{is_looked, miss_text_of, rejected_text_if, run_text}

@@ -5,7 +5,7 @@ use Rattle.bs_top_words.specs.Job.{RunJob, AuditJob, DumpJob, Job, Run, Audit, D
 use Rattle.bs_top_plan.specs.Plan.{Plan, end, ◌>>=◌}
 use Rattle.bs_top_files.specs.Entry.{FileNames, MomentFiles, moment_files_of, CrashFiles, crash_files_of, AuditFiles, audit_files_of, drawn_of}
 use Rattle.bs_top_files.specs.Refusals.{Case}
-use Rattle.bs_target.specs.Target.{Target, target_of}
+use Rattle.bs_top_reach.specs.Target.{Target, target_of}
 use Rattle.bs_top.specs.Demo.{demo_of}
 
 -- the backtrace of a dump within budgets, what an audit finds of a report, the dump of a moment, the line of a generated

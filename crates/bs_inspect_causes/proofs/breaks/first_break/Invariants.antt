@@ -1,6 +1,6 @@
 use Rattle.std.proofs.Common.{◌≡◌}
 use Rattle.bs_net.specs.Netlist.{circuit}
-use Rattle.bs_inspect_accounts.specs.Accounts.{LeadsBefore}
+use Rattle.bs_inspect_causes.specs.Accounts.{LeadsBefore}
 use Rattle.bs_inspect_causes.proofs.breaks.first_break.Given as goal
 
 abbrev pub invariant-moments : goal.invariant-moments

@@ -1,5 +1,5 @@
 use Rattle.std.proofs.Common.{take}
-use Rattle.bs_inspect_accounts.specs.Accounts.{AreFactsOf}
+use Rattle.bs_inspect_causes.specs.Accounts.{AreFactsOf}
 use Rattle.bs_inspect_causes.proofs.facts.facts_at.Given as goal
 
 abbrev pub invariant-nets : goal.invariant-nets

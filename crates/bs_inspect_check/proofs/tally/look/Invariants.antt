@@ -1,7 +1,7 @@
 use Rattle.std.proofs.Common.{◌≡◌, ◌≤◌, take}
 use Rattle.std.specs.List.{count_by, list_any, range_with_len}
 use Rattle.bs_vcd.specs.Levels.{known_in}
-use Rattle.bs_inspect_check.specs.Comparison.{differs_at, is_unknown}
+use Rattle.bs_inspect_check.specs.Flops.{differs_at, is_unknown}
 use Rattle.bs_inspect_check.specs.Samples.{levels_by}
 use Rattle.bs_inspect_check.proofs.tally.look.Given as goal
 

@@ -5,4 +5,4 @@ use Rattle.bs_inspect_check.specs.Text.{run_at}
 use Rattle.bs_inspect_check.proofs.text.push_runs.Given as goal
 
 abbrev pub invariant-runs : goal.invariant-runs
-invariant-runs l = l.text.items ≡ l.initial.text.items ++ flat_map (run_at (map signal_in l.signals) l.comparisons) (range_with_len 0 l.i)
+invariant-runs l = l.text.items ≡ l.initial.text.items ++ flat_map (run_at (map signal_in l.flops) (map signal_in l.inputs) l.comparisons) (range_with_len 0 l.i)

@@ -10,9 +10,9 @@ use Rattle.bs_inspect_near.proofs.hints.are_held.Goals as goal
 
 pub returns : goal.returns
 returns c =
-    held_told (circuit c.args.net.now) (inputs_of c.args._runs.now) c.args._state.now c.args.nears.now (get_or c.args.nears.now 6 no_near)
+    held_told (circuit c.args.net.now) (inputs_of c.args._runs.now) c.args._seen.now c.args.nears.now (get_or c.args.nears.now 6 no_near)
     c.width.result ((get_or c.args.nears.now 6 no_near).count == c.width.result) c.requires
     (get_or_default c.args.nears.now 6 no_near (get_or c.args.nears.now 6 no_near)
-    (asked_there (circuit c.args.net.now) (inputs_of c.args._runs.now) (reset_state (circuit c.args.net.now)) c.args._state.now c.args.nears.now 6
+    (asked_there (circuit c.args.net.now) (inputs_of c.args._runs.now) (reset_state (circuit c.args.net.now)) c.args._seen.now c.args.nears.now 6
     c.requires (omega arith)))
     c.width.ensures refl

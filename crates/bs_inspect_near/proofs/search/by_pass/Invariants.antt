@@ -1,7 +1,7 @@
 use Rattle.std.proofs.Common.{◌≡◌, ◌≤◌, ◌+◌}
 use Rattle.bs_net.specs.Netlist.{circuit}
 use Rattle.bs_stim.specs.Runs.{inputs_of}
-use Rattle.bs_inspect_near.specs.Seen.{AreBest}
+use Rattle.bs_inspect_near.specs.Visited.{AreBest}
 use Rattle.bs_inspect_near.proofs.search.by_pass.Given as goal
 
 abbrev pub invariant-cycles : goal.invariant-cycles

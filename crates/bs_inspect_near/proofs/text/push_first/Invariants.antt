@@ -6,4 +6,4 @@ use Rattle.bs_inspect_near.proofs.text.push_first.Given as goal
 
 abbrev pub invariant-places : goal.invariant-places
 invariant-places l =
-    ToldSo (differing_line (map (λ s. s.now) l.keys) l.recorded l.state) (differs l.recorded l.state) l.i l.told l.initial.text.items l.text.items
+    ToldSo (differing_line (map (λ s. s.now) l.keys) l.recorded l.seen) (differs l.recorded l.seen) l.i l.told l.initial.text.items l.text.items

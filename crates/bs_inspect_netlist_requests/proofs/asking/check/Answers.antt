@@ -1,6 +1,6 @@
 use Rattle.std.proofs.Common.{ℕ, Bor, List, Option, map, refl, sym}
 use Rattle.std.specs.Option.{option_map}
-use Rattle.bs_inspect_check_files.specs.Checked.{checked_looked, checked_of}
+use Rattle.bs_inspect_files.specs.Checked.{checked_looked, checked_of}
 use Rattle.bs_inspect_words.specs.Request.{Request, Check}
 use Rattle.bs_inspect_plans.specs.Sources.{source_of, sources_of}
 use Rattle.bs_inspect_plans.specs.Work.{to_check}

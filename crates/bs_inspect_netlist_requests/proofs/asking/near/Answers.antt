@@ -1,5 +1,5 @@
 use Rattle.std.proofs.Common.{refl}
-use Rattle.bs_inspect_near_files.specs.Taken.{near_files_looked, near_files_of}
+use Rattle.bs_inspect_plans.specs.Taken.{near_files_looked, near_files_of}
 use Rattle.bs_inspect_words.specs.Asked.{near_in}
 use Rattle.bs_inspect_words.specs.Request.{Near as Asked}
 use Rattle.bs_inspect_plans.specs.Sources.{source_of, sources_of}

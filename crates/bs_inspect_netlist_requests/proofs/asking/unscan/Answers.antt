@@ -1,17 +1,19 @@
-use Rattle.std.proofs.Common.{refl}
+use Rattle.bs_top_answer.proofs.AnswerLemmas.{diagnosed_as, diagnosed_work}
 use Rattle.bs_inspect_files.specs.FlopFiles.{scanned_looked, scanned_of}
 use Rattle.bs_inspect_words.specs.Asked.{unscan_in}
 use Rattle.bs_inspect_words.specs.Request.{Unscan}
+use Rattle.bs_inspect_plans.specs.Said.{WorkSaid}
 use Rattle.bs_inspect_plans.specs.Sources.{source_of, sources_of}
 use Rattle.bs_inspect_plans.specs.Work.{to_state}
-use Rattle.bs_inspect_plans.proofs.WorkLemmas.{walked_done, walked_stop}
+use Rattle.bs_inspect_plans.proofs.WorkLemmas.{is_work, walked_stop}
 use Rattle.bs_inspect_netlist_requests.proofs.asking.unscan.Goals as goal
 
 pub returns-in-Ok : goal.returns-in-Ok
 returns-in-Ok g c =
-    walked_done (scanned_of c.args.asked.now.netlist.now c.args.asked.now.order.now c.args.asked.now.pattern.now)
-    (scanned_looked c.args.asked.now.netlist.now c.args.asked.now.order.now c.args.asked.now.pattern.now)
-    to_state (source_of (sources_of (Unscan (unscan_in c.args.asked.now)))) _ _ c.silent.ensures refl c.in-Ok.ensures c.tell_state.ensures
+    diagnosed_work WorkSaid (source_of (sources_of (Unscan (unscan_in c.args.asked.now)))) _ is_work
+    (diagnosed_as {plan = scanned_of c.args.asked.now.netlist.now c.args.asked.now.order.now c.args.asked.now.pattern.now}
+    {looked = scanned_looked c.args.asked.now.netlist.now c.args.asked.now.order.now c.args.asked.now.pattern.now} to_state c.in-Ok.ensures)
+    c.state_answer.ensures.reply c.state_answer.ensures.note
 
 pub returns-in-Err : goal.returns-in-Err
 returns-in-Err g c =

@@ -2,7 +2,7 @@ use Rattle.std.proofs.Common.{◌≡◌, ◌≤◌, ◌+◌, length}
 use Rattle.bs_net.specs.Netlist.{circuit}
 use Rattle.bs_stim.specs.Runs.{inputs_of}
 use Rattle.bs_inspect_novel.specs.Shown.{AreSets}
-use Rattle.bs_inspect_novelty.specs.Known.{all_places}
+use Rattle.bs_inspect_novel.specs.Known.{all_places}
 use Rattle.bs_inspect_novel.proofs.sets.extend_cycles.Given as goal
 
 abbrev pub invariant-cycles : goal.invariant-cycles

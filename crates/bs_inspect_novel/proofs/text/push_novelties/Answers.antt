@@ -11,3 +11,6 @@ novelties-preserved c =
     lines_more (novelty_line (circuit c.args.run.now.net.now) (inputs_of c.args.run.now.runs.now) c.args.run.now.number (map signal_in c.args.signals.now)) c.args.novelties.now
     c.novelties.novelty-index _ c.args.text.now.items c.novelties.text.items c.push_novelty.new.text.items c.novelties-test.true c.novelties.invariant
     c.in_ok-push_novelty.ensures
+
+pub push_novelty-requires-clause-showable : goal.push_novelty-requires-clause-showable
+push_novelty-requires-clause-showable c = c.requires.showable c.novelties.novelty-index _ c.novelties-test.true

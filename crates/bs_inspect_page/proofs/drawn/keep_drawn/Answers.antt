@@ -4,7 +4,7 @@ use Rattle.std.proofs.lemmas.Fn.{filter_same}
 use Rattle.std.proofs.lemmas.List.Elements.{All-filter}
 use Rattle.bs_net_names.specs.declared.signal.Signal.{Signal as CodeSignal}
 use Rattle.bs_net_names.specs.Signals.{signal_in}
-use Rattle.bs_inspect_cells.specs.Figures.{figure_in}
+use Rattle.bs_inspect_html.specs.Figures.{figure_in}
 use Rattle.bs_inspect_page.specs.Page.{asked_in, is_on_page}
 use Rattle.bs_inspect_page.proofs.DrawnLemmas.{filter_in}
 use Rattle.bs_inspect_page.proofs.drawn.keep_drawn.Goals as goal

@@ -1,4 +1,4 @@
-use Rattle.bs_inspect_front.proofs.PieceLemmas.{on_ok}
+use Rattle.bs_inspect_html.proofs.PieceLemmas.{on_ok}
 use Rattle.bs_inspect_page.proofs.LastLemmas.{front_put}
 use Rattle.bs_inspect_page.proofs.last_list.push_list_front.Goals as goal
 

@@ -1,6 +1,6 @@
 use Rattle.std.proofs.Common.{map}
 use Rattle.bs_net_names.specs.Signals.{signal_in}
-use Rattle.bs_inspect_cells.specs.Figures.{figure_in}
+use Rattle.bs_inspect_html.specs.Figures.{figure_in}
 use Rattle.bs_inspect_page.specs.Page.{asked_in}
 use Rattle.bs_inspect_page.proofs.PageLemmas.{page_put}
 use Rattle.bs_inspect_page.proofs.page.push_page.Goals as goal

@@ -1,6 +1,6 @@
 use Rattle.std.proofs.Common.{◌≡◌, ◌++◌}
 use Rattle.std.specs.List.{flat_map, range_with_len}
-use Rattle.bs_inspect_cells.specs.Figures.{figure_in}
+use Rattle.bs_inspect_html.specs.Figures.{figure_in}
 use Rattle.bs_inspect_page.specs.Rows.{cell_at}
 use Rattle.bs_inspect_page.proofs.rows.push_cells.Given as goal
 

@@ -1,5 +1,5 @@
 use Rattle.std.proofs.Common.{refl}
-use Rattle.bs_inspect_front.proofs.PieceLemmas.{on_ok}
+use Rattle.bs_inspect_html.proofs.PieceLemmas.{on_ok}
 use Rattle.bs_inspect_page.proofs.PieceLemmas.{begin_put}
 use Rattle.bs_inspect_page.proofs.step_table.push_begin.Goals as goal
 

@@ -1,4 +1,4 @@
-use Rattle.bs_inspect_front.proofs.PieceLemmas.{on_ok}
+use Rattle.bs_inspect_html.proofs.PieceLemmas.{on_ok}
 use Rattle.bs_inspect_page.proofs.PieceLemmas.{list_put}
 use Rattle.bs_inspect_page.proofs.step_table.push_list.Goals as goal
 

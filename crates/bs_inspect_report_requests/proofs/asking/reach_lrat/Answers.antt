@@ -1,5 +1,5 @@
 use Rattle.std.proofs.Common.{refl}
-use Rattle.bs_inspect_answers.specs.Searched.{answer_files_looked, answer_files_of}
+use Rattle.bs_top_reach.specs.Searched.{answer_files_looked, answer_files_of}
 use Rattle.bs_evidence.specs.declared.evidence.Format.TheVariants.{Proof}
 use Rattle.bs_inspect_words.specs.Asked.{lengths_in}
 use Rattle.bs_inspect_words.specs.Request.{ReachLrat as Asked}

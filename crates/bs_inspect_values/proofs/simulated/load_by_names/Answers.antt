@@ -3,13 +3,12 @@ use Rattle.std.specs.Option.{option_map}
 use Rattle.bs_top_plan.specs.Plan.{Plan}
 use Rattle.bs_top_files.specs.NoteCases.{NoteCase}
 use Rattle.bs_top_files.specs.Refusals.{Case}
-use Rattle.std.specs.declared.alloc.Global.{Global}
 use Rattle.bs_inspect_notes.specs.declared.name.Subject.TheVariants.{Inputs}
 use Rattle.bs_top_plan.specs.declared.file.File.TheVariants as files
 use Rattle.bs_top_plan.proofs.TellingLemmas.{diagnosed_read, diagnosed_then}
 use Rattle.bs_inspect_values.specs.Saying.{names_noted}
 use Rattle.bs_inspect_values.specs.Simulated.{Sampled, clocked_in, names_read, sampled_looked, sampled_of}
-use Rattle.bs_inspect_values.proofs.WalkLemmas.{diagnosed_refused, diagnosed_with}
+use Rattle.bs_inspect_values.proofs.WalkLemmas.{diagnosed_refused}
 use Rattle.bs_inspect_values.proofs.simulated.load_by_names.Goals as goal
 
 pub returns-in-Ok : goal.returns-in-Ok
@@ -18,11 +17,10 @@ returns-in-Ok g c =
     let vcds : List (List ℕ) = map (λ s. s.now) c.args.vcds.now in
     let plan : List (List ℕ) → Plan Case Sampled = λ ns. sampled_of keys ns (clocked_in c.args.at) vcds in
     let looked : List (List ℕ) → Plan NoteCase Sampled = λ ns. sampled_looked keys ns (clocked_in c.args.at) vcds in
-    let view : Vec (Bor (List ℕ)) Global → List (List ℕ) = λ v. map (λ n. n.now) v.items in
+    let view : List (List ℕ) → List (List ℕ) = λ ns. ns in
     diagnosed_then {view = view} {seen = view} plan looked
     (diagnosed_read {view = view} {seen = view} files.Map (names_read keys c.args.text.now) (names_noted Inputs c.args.path.now keys c.args.text.now) (Ok c.in-Ok.names) refl c.in-Ok.ensures.words c.in-Ok.ensures.note)
-    (diagnosed_with plan looked (map (λ n. n.now) c.as_slice-names.result.now) (map (λ n. n.now) c.in-Ok.names.items)
-    (ap (λ (ns : List (Bor (List ℕ))). map (λ n. n.now) ns) c.as_slice-names.ensures.value) c.load_sampled.ensures)
+    c.load_spelled.ensures
 
 pub returns-in-Err : goal.returns-in-Err
 returns-in-Err g c =
@@ -30,7 +28,7 @@ returns-in-Err g c =
     let vcds : List (List ℕ) = map (λ s. s.now) c.args.vcds.now in
     let plan : List (List ℕ) → Plan Case Sampled = λ ns. sampled_of keys ns (clocked_in c.args.at) vcds in
     let looked : List (List ℕ) → Plan NoteCase Sampled = λ ns. sampled_looked keys ns (clocked_in c.args.at) vcds in
-    let view : Vec (Bor (List ℕ)) Global → List (List ℕ) = λ v. map (λ n. n.now) v.items in
+    let view : List (List ℕ) → List (List ℕ) = λ ns. ns in
     rw c.settle_diagnostic.ensures
     (diagnosed_refused view view files.Map (names_read keys c.args.text.now) (names_noted Inputs c.args.path.now keys c.args.text.now) plan looked c.in-Err.unread
     c.in-Err.ensures.words c.in-Err.ensures.note)

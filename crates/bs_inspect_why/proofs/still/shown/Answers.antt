@@ -1,5 +1,5 @@
 use Rattle.std.proofs.Common.{arith, ap, not}
-use Rattle.bs_inspect_accounts.proofs.ChainLemmas.{kind_all, kind_more}
+use Rattle.bs_inspect_causes.proofs.ChainLemmas.{kind_all, kind_more}
 use Rattle.bs_inspect_why.specs.Stills.{is_covered}
 use Rattle.bs_inspect_why.proofs.still.shown.Goals as goal
 

@@ -1,6 +1,6 @@
 use Rattle.std.proofs.Common.{arith}
 use Rattle.std.specs.List.{list_any}
-use Rattle.bs_inspect_accounts.proofs.ChainLemmas.{kind_all, kind_more}
+use Rattle.bs_inspect_causes.proofs.ChainLemmas.{kind_all, kind_more}
 use Rattle.bs_inspect_why.specs.Stills.{is_given_in}
 use Rattle.bs_inspect_why.proofs.still.used.Goals as goal
 

@@ -1,4 +1,4 @@
-use Rattle.std.proofs.Common.{◌≡◌, ap, ◌∙◌}
+use Rattle.std.proofs.Common.{ap, ◌∙◌}
 use Rattle.bs_net.specs.Netlist.{Checked}
 use Rattle.bs_inspect_why_words.specs.Heads.{episode_in}
 use Rattle.bs_inspect_why_words.proofs.BlockLemmas.{block_told, raw_is}

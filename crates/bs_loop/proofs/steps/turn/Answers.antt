@@ -11,7 +11,7 @@ returns-clause-turn c =
     turned c.args.chip.now.recording c.args.budgets.now c.args.steps.now c.advance.new.steps c.args.preimage.now c.look_from.new.preimage
     c.args.now.now c.advance.new.now c.args.at.now c.advance.new.at
     c.in_ok-stored-in-Some.stored c.in_ok-listing.field-0.listing c.in_ok-step.step c.in_ok-listing.field-0.reach c.in_ok-listing.field-0.hit c.advance.result
-    held c.in_ok-listing.ensures.back c.in_ok-step.ensures c.advance.ensures.steps c.advance.ensures.stop
+    held c.in_ok-listing.ensures.back c.in_ok-step.ensures c.in_ok-listing.ensures.takes c.advance.ensures.steps c.advance.ensures.stop
 
 pub returns-clause-searched : goal.returns-clause-searched
 returns-clause-searched c =

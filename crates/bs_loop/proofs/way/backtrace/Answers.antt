@@ -1,5 +1,5 @@
 use Rattle.std.proofs.Common.{◌≡◌, ◌+◌, List, length, map, subst, sym}
-use Rattle.std.specs.Prelude.{Result, Ok, Err, IfOk, MatchResult}
+use Rattle.std.specs.Prelude.{All, Result, Ok, Err, IfOk, MatchResult}
 use Rattle.bs_encode.specs.Depth.{basis_of}
 use Rattle.bs_log.specs.Lean.{IsLean}
 use Rattle.bs_log.specs.Refusal.{history_of}
@@ -18,6 +18,7 @@ use Rattle.bs_report_good.specs.Valid.{IsValid}
 use Rattle.bs_preimage.specs.Preimage.{PreimageState}
 use Rattle.bs_loop.specs.Bound.{HasBound}
 use Rattle.bs_loop.specs.Budget.{IsBudget}
+use Rattle.bs_loop.specs.HitInput.{TakesRecorded}
 use Rattle.bs_loop.specs.Report.{IsOfWay, IsWithLog}
 use Rattle.bs_loop.specs.Way.{HasEnded}
 use Rattle.bs_loop.proofs.GoodLemmas.{IsReportOf, report_is, report_goes_back, is_good, is_valid, is_lean, has_bound}
@@ -34,6 +35,7 @@ record IsTold (chip : Recording) (dump : Dump) (budgets : Budgets) (r : Report) 
   bound : HasBound (basis_of chip.circuit chip.choice (map present_of r.steps)).problem r
   readable_is : HasReportText r
   trace : length r.states ≡ length r.inputs + 1
+  takes : All (TakesRecorded chip.circuit chip.runs) r.steps
   lean : IsLean (basis_of chip.circuit chip.choice (map present_of r.steps)).problem (history_of r.log)
 
 told : (chip : Recording) (dump : Dump) (budgets : Budgets) (s : PreimageState) (report r : Report) → IsRecording chip →
@@ -50,6 +52,7 @@ told chip dump budgets s report r recording fits asked way ended with_log =
       bound = has_bound (crash_of chip dump) budgets s r of;
       readable_is = readable chip dump budgets s r recording fits.seen asked of with_log.texts with_log.few;
       trace = one_state_more (crash_of chip dump) r good;
+      takes = of.ended.made.takes;
       lean = is_lean (crash_of chip dump) budgets s r of with_log.lean;
     }
 
@@ -82,6 +85,7 @@ returns c =
       bound = parts c.logged.result (IsTold chip dump budgets) _ all (λ r t. t.bound);
       readable = parts c.logged.result (IsTold chip dump budgets) _ all (λ r t. t.readable_is);
       trace = parts c.logged.result (IsTold chip dump budgets) _ all (λ r t. t.trace);
+      takes = parts c.logged.result (IsTold chip dump budgets) _ all (λ r t. t.takes);
       lean = parts c.logged.result (IsTold chip dump budgets) _ all (λ r t. t.lean);
       searched =
           with_its_log c.unlogged-report.result c.logged.result _ _ (IsWithLog c.unlogged-report.new.preimage) (λ r. WereSearched chip budgets.conflicts r.steps)

@@ -4,7 +4,7 @@ use Rattle.bs_seen.specs.declared.seen.Seen.{Seen}
 use Rattle.bs_net.specs.Circuit.{Circuit}
 use Rattle.bs_scan.specs.Crash.{crash_of}
 use Rattle.bs_report_good.specs.Trace.{end_of, trace_end, trace_states}
-use Rattle.bs_trace.specs.WideCands.{HasWideCands}
+use Rattle.bs_report_good.specs.WideCands.{HasWideCands}
 use Rattle.bs_loop.proofs.way.traced.Goals as goal
 
 pub end_of-requires : goal.end_of-requires

@@ -1,5 +1,5 @@
 use Rattle.bs_scan.specs.Crash.{crash_of}
-use Rattle.bs_trace.proofs.WideLemmas.{wide_steps}
+use Rattle.bs_report_good.proofs.WideLemmas.{wide_steps}
 use Rattle.bs_loop.proofs.way.unlogged.Goals as goal
 
 pub reported-requires : goal.reported-requires

@@ -13,4 +13,4 @@ returns-in-Ok-clause-backtrace c =
     c.count-count.ensures.sound setup.states setup.inputs)
     c.requires.dump)
     c.backtrace.ensures.budgets c.backtrace.ensures.good c.backtrace.ensures.valid c.backtrace.ensures.progress c.backtrace.ensures.lean
-    c.backtrace.ensures.bound c.backtrace.ensures.searched c.backtrace.ensures.readable
+    c.backtrace.ensures.bound c.backtrace.ensures.searched c.backtrace.ensures.takes c.backtrace.ensures.readable

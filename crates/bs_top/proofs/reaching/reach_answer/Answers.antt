@@ -1,5 +1,5 @@
 use Rattle.bs_reach.proofs.CallerLemmas.{reach_has_states}
-use Rattle.bs_target.specs.Shown.{target_in}
+use Rattle.bs_top_reach.specs.Shown.{target_in}
 use Rattle.bs_top.proofs.ReplyLemmas.{answers_said, answers_told}
 use Rattle.bs_top.proofs.WorkLemmas.{finished}
 use Rattle.bs_top.specs.Work.{to_reach}

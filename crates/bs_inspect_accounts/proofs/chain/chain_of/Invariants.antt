@@ -1,5 +1,0 @@
-use Rattle.bs_inspect_accounts.proofs.ChainLemmas.{NoneOn}
-use Rattle.bs_inspect_accounts.proofs.chain.chain_of.Given as goal
-
-abbrev pub invariant-chains : goal.invariant-chains
-invariant-chains l = NoneOn l.accounts l.number l.chains l.k

@@ -1,7 +1,0 @@
-use Rattle.bs_inspect_accounts.proofs.OrderLemmas.{places_more}
-use Rattle.bs_inspect_accounts.proofs.order.places_of.Goals as goal
-
-pub chains-preserved : goal.chains-preserved
-chains-preserved c =
-    places_more c.args.accounts.now c.args.chains.now c.chains.i c.place_of.result c.chains.places.items c.push.new.self.items c.place_of.ensures
-    c.chains.invariant c.in_ok-push.ensures.items

@@ -1,6 +1,0 @@
-use Rattle.std.proofs.Common.{◌≡◌}
-use Rattle.bs_inspect_accounts.specs.Chains.{places_of}
-use Rattle.bs_inspect_accounts.proofs.order.places_of.Given as goal
-
-abbrev pub invariant-chains : goal.invariant-chains
-invariant-chains l = l.places.items ≡ places_of l.accounts l.chains l.i

@@ -1,4 +1,0 @@
-pub mod LineLemmas
-pub mod TraceLemmas
-pub mod CycleLemmas
-pub mod Examples

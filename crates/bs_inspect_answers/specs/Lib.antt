@@ -1,4 +1,0 @@
-pub mod Words
-pub mod Readings
-pub mod Entry
-pub mod Searched

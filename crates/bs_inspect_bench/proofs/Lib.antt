@@ -1,4 +1,0 @@
-pub mod WayLemmas
-pub mod DriveLemmas
-pub mod TextLemmas
-pub mod LawLemmas

@@ -1,6 +1,0 @@
--- what public contracts rest on
-pub mod Driven
-pub mod Text
-pub mod Bench
-pub mod Faults
-pub mod Law

@@ -1,5 +1,0 @@
-use Rattle.bs_inspect_cells.proofs.CellLemmas.{cells_are_exact}
-use Rattle.bs_inspect_cells.proofs.cell_law.cells_are_exact.Goals as goal
-
-pub returns : goal.returns
-returns c = cells_are_exact

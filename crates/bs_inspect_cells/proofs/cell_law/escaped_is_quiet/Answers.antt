@@ -1,5 +1,0 @@
-use Rattle.bs_inspect_cells.proofs.EscapeLemmas.{escaped_is_quiet}
-use Rattle.bs_inspect_cells.proofs.cell_law.escaped_is_quiet.Goals as goal
-
-pub returns : goal.returns
-returns c = escaped_is_quiet

@@ -1,5 +1,0 @@
-pub mod Escapes
-pub mod Cells
-pub mod Figures
-pub mod Names
-pub mod CellLaw

@@ -1,4 +1,0 @@
-pub mod CountLemmas
-pub mod ReadingLemmas
-pub mod BehindLemmas
-pub mod NameLemmas

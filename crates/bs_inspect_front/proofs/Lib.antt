@@ -1,4 +1,0 @@
-pub mod PieceLemmas
-pub mod ReadLemmas
-pub mod MarkLemmas
-pub mod Examples

@@ -1,7 +1,0 @@
-//! What a mark beside a name means.
-ghost use Rattle.bs_inspect_front.specs.Law.{MarksAreReads};
-
-/// The name of a signal is marked just where an item of the signature reads one of its flip-flops.
-pub fn marks_are_reads()
-    ensures { MarksAreReads }
-{}

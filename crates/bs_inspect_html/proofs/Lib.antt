@@ -1,0 +1,9 @@
+pub mod PieceLemmas
+pub mod ReadLemmas
+pub mod MarkLemmas
+pub mod Examples
+pub mod PutLemmas
+pub mod BitLemmas
+pub mod CellLemmas
+pub mod EscapeLemmas
+pub mod WorkedRows

@@ -1,0 +1,12 @@
+pub mod Style
+pub mod Paths
+pub mod Execution
+pub mod Signed
+pub mod Reads
+pub mod Law
+pub mod Front
+pub mod Escapes
+pub mod Cells
+pub mod Figures
+pub mod Names
+pub mod CellLaw

@@ -1,0 +1,4 @@
+pub mod CalledLemmas
+pub mod ConeLemmas
+pub mod MappingLemmas
+mod WorkedMaps

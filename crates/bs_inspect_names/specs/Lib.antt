@@ -1,0 +1,4 @@
+pub mod Called
+pub mod Cone
+pub mod Mapping
+pub mod Vectors

@@ -1,8 +1,0 @@
-use Rattle.bs_top_plan.proofs.TellingLemmas.{diagnosed_end, diagnosed_stop, diagnosed_then}
-use Rattle.bs_inspect_near_files.proofs.loading.load_near.Goals as goal
-
-pub returns-in-Ok : goal.returns-in-Ok
-returns-in-Ok g c = diagnosed_then _ _ c.in-Ok.ensures.walks diagnosed_end
-
-pub returns-in-Err : goal.returns-in-Err
-returns-in-Err g c = diagnosed_stop _ _ c.in-Err.ensures.walks

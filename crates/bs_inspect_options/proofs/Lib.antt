@@ -1,2 +1,0 @@
-pub mod SettingLemmas
-pub mod ValueLemmas

@@ -1,5 +1,0 @@
-pub mod DeckLemmas
-pub mod MixedLemmas
-pub mod KeyLemmas
-pub mod LineLemmas
-pub mod Examples

@@ -1,0 +1,5 @@
+pub mod WayLemmas
+pub mod DriveLemmas
+pub mod TextLemmas
+pub mod LawLemmas
+pub mod ListLemmas

@@ -1,0 +1,9 @@
+use Rattle.bs_top_plan.proofs.TellingLemmas.{diagnosed_end, diagnosed_read, diagnosed_stop, diagnosed_then}
+use Rattle.bs_top_reach.proofs.walk.load_sized.Goals as goal
+
+pub returns-in-Ok : goal.returns-in-Ok
+returns-in-Ok g c =
+    diagnosed_then _ _ (diagnosed_read _ _ _ _ c.in-Ok.ensures c.room_or_diagnostic.ensures.words c.room_or_diagnostic.ensures.note) diagnosed_end
+
+pub returns-in-Err : goal.returns-in-Err
+returns-in-Err g c = diagnosed_stop _ _ (diagnosed_read _ _ _ _ c.in-Err.ensures c.room_or_diagnostic.ensures.words c.room_or_diagnostic.ensures.note)

@@ -1,0 +1,31 @@
+-- The plans over the file of an answer, and over that of a report or an answer.
+use Rattle.std.specs.Prelude.{ℕ, List}
+use Rattle.bs_report.specs.declared.report.Report.{Report}
+use Rattle.bs_reach.specs.declared.reach.Reach.{Reach}
+use Rattle.bs_top_plan.specs.declared.file.File.TheVariants as files
+use Rattle.bs_top_plan.specs.Plan.{Plan, ◌>>=◌, fetched, read_as}
+use Rattle.bs_top_files.specs.NoteCases.{NoteCase}
+use Rattle.bs_top_files.specs.Refusals.{Case}
+use Rattle.bs_top_reach.specs.Readings.{answer_noted, answer_read, trace_noted, trace_read}
+
+-- the answer of a file
+abbrev pub answer_of : List ℕ → Plan Case Reach
+answer_of path = do
+  bytes ← fetched files.Report path
+  read_as files.Report (answer_read bytes)
+
+abbrev pub answer_looked : List ℕ → Plan NoteCase Reach
+answer_looked path = do
+  bytes ← fetched files.Report path
+  read_as files.Report (answer_noted path bytes)
+
+-- the report of a file, or the execution of the answer that it holds
+abbrev pub trace_of : List ℕ → Plan Case Report
+trace_of path = do
+  bytes ← fetched files.Report path
+  read_as files.Report (trace_read bytes)
+
+abbrev pub trace_looked : List ℕ → Plan NoteCase Report
+trace_looked path = do
+  bytes ← fetched files.Report path
+  read_as files.Report (trace_noted path bytes)

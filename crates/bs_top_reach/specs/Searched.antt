@@ -1,0 +1,40 @@
+-- The files of a request about an answer: the answer, which says how many cycles were asked for, then the netlist, the state and the
+-- size of the search.
+use Rattle.std.specs.Prelude.{ℕ, List}
+use Rattle.bs_reach.specs.declared.reach.Reach.{Reach}
+use Rattle.bs_top_reach.specs.Shown.{target_in}
+use Rattle.bs_top_reach.specs.Target.{Target, target_looked, target_of}
+use Rattle.bs_top_plan.specs.Plan.{Plan, end, ◌>>=◌}
+use Rattle.bs_top_files.specs.NoteCases.{NoteCase}
+use Rattle.bs_top_files.specs.Refusals.{Case}
+use Rattle.bs_top_reach.specs.Entry.{answer_looked, answer_of}
+use Rattle.bs_top_reach.specs.declared.ready.AnswerFiles.{AnswerFiles as CodeAnswerFiles}
+
+-- a netlist's parts with a state, and an answer
+pub record AnswerFiles : Type 0 where
+  pub target : Target
+  pub answer : Reach
+
+abbrev pub answer_files_in : CodeAnswerFiles → AnswerFiles
+answer_files_in t = record { target = target_in t.target; answer = t.answer }
+
+-- what is left once the answer is read
+abbrev pub searched_of : (netlist state : List ℕ) → Reach → Plan Case AnswerFiles
+searched_of netlist state answer = do
+  target ← target_of netlist state answer.asked
+  end record { target = target; answer = answer }
+
+abbrev pub searched_looked : (netlist state : List ℕ) → Reach → Plan NoteCase AnswerFiles
+searched_looked netlist state answer = do
+  target ← target_looked netlist state answer.asked
+  end record { target = target; answer = answer }
+
+abbrev pub answer_files_of : (netlist state path : List ℕ) → Plan Case AnswerFiles
+answer_files_of netlist state path = do
+  answer ← answer_of path
+  searched_of netlist state answer
+
+abbrev pub answer_files_looked : (netlist state path : List ℕ) → Plan NoteCase AnswerFiles
+answer_files_looked netlist state path = do
+  answer ← answer_looked path
+  searched_looked netlist state answer

@@ -1,0 +1,36 @@
+//! The walks over the file of an answer, and over that of a report or an answer: it is fetched and read once.
+ghost use Rattle.std.specs.Prelude.{◌≡◌, IfOk};
+ghost use Rattle.bs_evidence.specs.ReadingLaw.{HasAnswerText};
+ghost use Rattle.bs_evidence.specs.Shown.{HasTrace};
+ghost use Rattle.bs_top_plan.specs.Telling.{WalksDiagnosed};
+ghost use Rattle.bs_top_files.specs.NoteCases.{NoteSays};
+ghost use Rattle.bs_top_files.specs.Refusals.{CheckSays};
+ghost use Rattle.bs_top_reach.specs.Entry.{answer_looked, answer_of, trace_looked, trace_of};
+
+use crate::answer::answer_or_diagnostic;
+use crate::trace::trace_or_diagnostic;
+use bs_outside::Shelf;
+use bs_reach::Reach;
+use bs_report::Report;
+use bs_top_plan::{File, WalkStop, fetch_file, settle_diagnostic};
+use std::alloc::Global;
+
+/// The answer of a search for a state.
+pub fn load_answer<S: Shelf>(alloc: Global, shelf: &mut S, path: &str) -> Result<Reach, WalkStop>
+    ensures walks { WalksDiagnosed CheckSays NoteSays S.held S.faults S.leads shelf.old shelf.new
+        (answer_of path.now) (answer_looked path.now) (λ answer. answer) (λ answer. answer) result }
+    ensures text { IfOk result HasAnswerText }
+{
+    let bytes = fetch_file(alloc, shelf, File::Report, path)?;
+    settle_diagnostic(File::Report, answer_or_diagnostic(alloc, path, &bytes))
+}
+
+/// The report of a backtrace, or the execution of an answer as one that asked for no step.
+pub fn load_trace<S: Shelf>(alloc: Global, shelf: &mut S, path: &str) -> Result<Report, WalkStop>
+    ensures walks { WalksDiagnosed CheckSays NoteSays S.held S.faults S.leads shelf.old shelf.new
+        (trace_of path.now) (trace_looked path.now) (λ report. report) (λ report. report) result }
+    ensures more { IfOk result HasTrace }
+{
+    let bytes = fetch_file(alloc, shelf, File::Report, path)?;
+    settle_diagnostic(File::Report, trace_or_diagnostic(alloc, path, &bytes))
+}

@@ -1,0 +1,77 @@
+//! The walk over the files of a request about an answer: the answer first, then what was searched.
+ghost use Rattle.std.specs.Prelude.{◌≡◌, IfOk};
+ghost use Rattle.bs_evidence.specs.ReadingLaw.{HasAnswerText};
+ghost use Rattle.bs_top_reach.specs.Shown.{target_in};
+ghost use Rattle.bs_top_reach.specs.Target.{target_looked, target_of};
+ghost use Rattle.bs_top_plan.specs.Telling.{WalksDiagnosed};
+ghost use Rattle.bs_top_files.specs.NoteCases.{NoteSays};
+ghost use Rattle.bs_top_files.specs.Refusals.{CheckSays};
+ghost use Rattle.bs_top_reach.specs.Searched.{answer_files_in, answer_files_looked, answer_files_of, searched_looked, searched_of};
+
+use crate::loading::load_answer;
+use crate::ready::AnswerFiles;
+use crate::target::Target;
+use crate::walk::load_target;
+use bs_outside::Shelf;
+use bs_reach::Reach;
+use bs_top_plan::WalkStop;
+use std::alloc::Global;
+
+/// What was searched in so many cycles.
+#[tactic(auto, using(crate::proofs::CycleLemmas::cycles_asked))]
+fn load_cycles<S: Shelf>(
+    alloc: Global,
+    shelf: &mut S,
+    netlist: &str,
+    state: &str,
+    cycles: u64,
+) -> Result<Target, WalkStop>
+    ensures walks { WalksDiagnosed CheckSays NoteSays S.held S.faults S.leads shelf.old shelf.new
+        (target_of netlist.now state.now cycles) (target_looked netlist.now state.now cycles) target_in target_in result }
+    ensures cycles { IfOk result (λ target. target.cycles ≡ cycles) }
+{
+    match load_target(alloc, shelf, netlist, state, cycles) {
+        Ok(target) => Ok(target),
+        Err(stop) => Err(stop),
+    }
+}
+
+/// An answer, and what was searched.
+fn load_searched<S: Shelf>(
+    alloc: Global,
+    shelf: &mut S,
+    netlist: &str,
+    state: &str,
+    answer: Reach,
+) -> Result<AnswerFiles, WalkStop>
+    requires { HasAnswerText answer }
+    ensures walks { WalksDiagnosed CheckSays NoteSays S.held S.faults S.leads shelf.old shelf.new
+        (searched_of netlist.now state.now answer) (searched_looked netlist.now state.now answer) answer_files_in answer_files_in result }
+    ensures text { IfOk result (λ files. HasAnswerText files.answer) }
+{
+    match load_cycles(alloc, shelf, netlist, state, answer.asked) {
+        Ok(target) => Ok(AnswerFiles { target, answer }),
+        Err(stop) => {
+            drop(answer);
+            Err(stop)
+        }
+    }
+}
+
+/// The answer of a file, and the netlist of a file with a state of it, of which the answer may tell.
+pub fn load_answer_files<S: Shelf>(
+    alloc: Global,
+    shelf: &mut S,
+    netlist: &str,
+    state: &str,
+    path: &str,
+) -> Result<AnswerFiles, WalkStop>
+    ensures walks { WalksDiagnosed CheckSays NoteSays S.held S.faults S.leads shelf.old shelf.new
+        (answer_files_of netlist.now state.now path.now) (answer_files_looked netlist.now state.now path.now) answer_files_in answer_files_in result }
+    ensures text { IfOk result (λ files. HasAnswerText files.answer) }
+{
+    match load_answer(alloc, shelf, path) {
+        Ok(answer) => load_searched(alloc, shelf, netlist, state, answer),
+        Err(stop) => Err(stop),
+    }
+}
