@@ -549,9 +549,27 @@ def rank(items, lost):
     return found
 
 
-def listed_moments(count):
-    """The numbers, among those behind reset, of the moments that are listed."""
-    return list(range(count)) if count <= 64 else [65 * (13 * k % 64) * count // 4_096 for k in range(64)]
+def later_moments(runs):
+    """The moments of runs of states behind the first eighth of each."""
+    return [(run, cycle) for run, states in enumerate(runs, 1) for cycle in range((len(states) - 1) // 8 + 1, len(states))]
+
+
+def spread(moments, most):
+    """So many of these moments, spread evenly, or all where they are fewer."""
+    if len(moments) < most:
+        return moments
+    return [moments[(most + 1) * (13 * k % most) * len(moments) // most**2] for k in range(most)]
+
+
+def given_up(moments, predecessors):
+    """The moment at which a number of items is given up, if it is: a list has more than 16 predecessors, or more than one of 64 have not one."""
+    others = 0
+    for moment in moments:
+        count = predecessors(*moment)
+        others += count != 1
+        if count > 16 or 64 * others > len(moments):
+            return moment
+    return None
 
 
 def tried_numbers(flops):
@@ -564,10 +582,9 @@ def signature_text(chip, runs, items, predecessors):
     flops = chip.flop_keys()
     proposal = mixed(len(flops), items)
     text = "choice mixed\n" + "".join(f"xor {' '.join(flops[flop] for flop in item)}\n" for item in proposal)
-    moments = [(run, cycle) for run, states in enumerate(runs, 1) for cycle in range(1, len(states))]
-    moments = [moments[place] for place in listed_moments(len(moments))]
+    moments = later_moments(runs)
     found, room = [], 1_048_576 // max(len(flops), 1)
-    for run, cycle in moments:
+    for run, cycle in spread(moments, 64):
         if sum(min(count, 256) for _, _, count in found) >= room:
             break
         found.append((run, cycle, predecessors(run, cycle, proposal)))
@@ -576,9 +593,10 @@ def signature_text(chip, runs, items, predecessors):
     text += "".join(f"list {run} {cycle} {count if count <= 256 else 'more'}\n" for run, cycle, count in found)
     for number in tried_numbers(len(flops)):
         tried = mixed(len(flops), number)
-        if sum(predecessors(run, cycle, tried) != 1 for run, cycle in moments) <= 1:
+        moment = given_up(spread(moments, 256 if len(flops) <= 2_048 else 64), lambda run, cycle: predecessors(run, cycle, tried))
+        if moment is None:
             return text + f"enough {number}\n"
-    return text + "enough none\n"
+    return text + f"enough none {number} {moment[0]} {moment[1]}\n"
 
 
 # ---- a simulator's values

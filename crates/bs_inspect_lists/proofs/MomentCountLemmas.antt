@@ -28,11 +28,10 @@ use Rattle.bs_report_good.specs.Step.{IsRightEnd}
 use Rattle.bs_preimage.specs.Listed.{HasListed}
 use Rattle.bs_preimage.specs.Preimage.{PreimageState, next_activation}
 use Rattle.bs_preimage.specs.declared.listing.Listing.{Listing}
-use Rattle.bs_inspect_lists.specs.Spread.{count_taken, later_moments, moment_taken}
-use Rattle.bs_inspect_lists.specs.MomentCount.{AreMomentCounts, Counts, IsCountOf, IsMomentCount, counted_as, most_lemmas, most_listed, room_of, weight_of, weights_of}
+use Rattle.bs_inspect_lists.specs.Spread.{later_moments, moment_taken}
+use Rattle.bs_inspect_lists.specs.MomentCount.{AreMomentCounts, Counts, IsCountOf, IsMomentCount, counted_as, most_lemmas, most_listed, most_moments, room_of, taken_of, weight_of, weights_of}
 use Rattle.bs_inspect_lists.specs.declared.counting.Aim.{Aim}
 use Rattle.bs_inspect_lists.specs.declared.counting.TheConstants.{MAX_LISTED}
-use Rattle.bs_inspect_lists.specs.declared.spread.TheConstants.{MAX_MOMENTS}
 use Rattle.bs_inspect_lists.specs.declared.counting.PredecessorCount.{PredecessorCount}
 use Rattle.bs_inspect_lists.specs.declared.counting.PredecessorCount.TheVariants.{Whole, More, Spent}
 use Rattle.bs_inspect_lists.specs.declared.lists.MomentCount.{MomentCount}
@@ -177,10 +176,10 @@ one_counted aim c choice runs counts after one all is e =
 -- the first moments that are taken are counted
 pub record TellsSo (aim : Aim) (c : Circuit) (choice : Chosen) (runs : List Run) (counts : List MomentCount) (spent k : ℕ) : Type 0 where
   pub long : length counts ≡ k
-  pub moments : map (λ (t : MomentCount). t.moment) counts ≡ map (moment_taken (later_moments runs)) (range_with_len 0 k)
+  pub moments : map (λ (t : MomentCount). t.moment) counts ≡ map (moment_taken (most_moments aim (length c.flops)) (later_moments runs)) (range_with_len 0 k)
   pub each : All (IsMomentCount aim c choice runs) counts
   pub spent_is : spent ≡ weights_of aim counts
-  pub begun : (i : ℕ) → i < length counts → weights_of aim (take i counts) < room_of aim (length c.flops)
+  pub begun : (i : ℕ) → i < length counts → weights_of aim (take i counts) < room_of aim (length c.flops) (taken_of aim (length c.flops) runs)
 
 pub tells_none : (aim : Aim) (c : Circuit) (choice : Chosen) (runs : List Run) (counts : List MomentCount) → counts ≡ [] → TellsSo aim c choice runs counts 0 0
 tells_none aim c choice runs counts e = rw e record {
@@ -192,25 +191,28 @@ tells_none aim c choice runs counts e = rw e record {
 }
 
 pub tells_more : (aim : Aim) (c : Circuit) (choice : Chosen) (runs : List Run) (counts after : List MomentCount) (one : MomentCount) (m : Moment) (spent weight room k : ℕ) →
-    TellsSo aim c choice runs counts spent k → IsMomentCount aim c choice runs one → one.moment ≡ m → m ≡ moment_taken (later_moments runs) k →
-    weight ≡ weight_of aim one.count → spent < room → room ≡ room_of aim (length c.flops) → after ≡ counts ++ one ∷ [] →
+    TellsSo aim c choice runs counts spent k → IsMomentCount aim c choice runs one → one.moment ≡ m →
+    m ≡ moment_taken (most_moments aim (length c.flops)) (later_moments runs) k → weight ≡ weight_of aim one.count → spent < room →
+    room ≡ room_of aim (length c.flops) (taken_of aim (length c.flops) runs) → after ≡ counts ++ one ∷ [] →
     TellsSo aim c choice runs after (spent + weight) (k + 1)
 tells_more aim c choice runs counts after one m spent weight room k so is at here weighs less rooms goes = rw goes record {
   long = length-append counts (one ∷ []) ∙ omega (arith, so.long);
   moments =
       map-append (λ (t : MomentCount). t.moment) counts (one ∷ [])
       ∙ ((λ i. so.moments i ++ (at ∙ here) i ∷ [])
-      ∙ sym (map-range_with_len_more (moment_taken (later_moments runs)) 0 k k (omega arith)));
+      ∙ sym (map-range_with_len_more (moment_taken (most_moments aim (length c.flops)) (later_moments runs)) 0 k k (omega arith)));
   each = one_counted aim c choice runs counts (counts ++ one ∷ []) one so.each is refl;
   spent_is = (λ i. so.spent_is i + weighs i) ∙ sym (sum_by_push (λ (t : MomentCount). weight_of aim t.count) counts one);
   begun = λ i lt. before i (nat_lt i (length counts)) refl (omega (arith, lt, length-append counts (one ∷ [])));
 }
   where
-    same_part : (i : ℕ) → i ≤ length counts → weights_of aim (take i counts) < room_of aim (length c.flops) →
-        weights_of aim (take i (counts ++ one ∷ [])) < room_of aim (length c.flops)
-    same_part i le h = subst (λ (t : List MomentCount). weights_of aim t < room_of aim (length c.flops)) (sym (take-append-le i counts (one ∷ []) le)) h
+    whole_room : ℕ
+    whole_room = room_of aim (length c.flops) (taken_of aim (length c.flops) runs)
 
-    before : (i : ℕ) (b : Bool) → nat_lt i (length counts) ≡ b → i ≤ length counts → weights_of aim (take i (counts ++ one ∷ [])) < room_of aim (length c.flops)
+    same_part : (i : ℕ) → i ≤ length counts → weights_of aim (take i counts) < whole_room → weights_of aim (take i (counts ++ one ∷ [])) < whole_room
+    same_part i le h = subst (λ (t : List MomentCount). weights_of aim t < whole_room) (sym (take-append-le i counts (one ∷ []) le)) h
+
+    before : (i : ℕ) (b : Bool) → nat_lt i (length counts) ≡ b → i ≤ length counts → weights_of aim (take i (counts ++ one ∷ [])) < whole_room
     before i true e le = same_part i le (so.begun i (ltb-true i (length counts) e))
     before i false e le =
         same_part i le
@@ -222,29 +224,51 @@ tells_more aim c choice runs counts after one m spent weight room k so is at her
           ap (weights_of aim) (take_all i counts (ltb-false i (length counts) e)),
         ))
 
+-- ---- which moments, and how many
+
+-- how many are taken, by their number
+pub taken_is : (aim : Aim) (c : Circuit) (runs : List Run) (all width most count : ℕ) → all ≡ length (later_moments runs) → width ≡ length c.flops →
+    most ≡ most_moments aim width → count ≡ min all most → count ≡ taken_of aim (length c.flops) runs
+taken_is aim c runs all width most count long wide at_most least =
+    least
+    ∙ ((λ i. min (long i) (at_most i)) ∙ ap (λ (w : ℕ). min (length (later_moments runs)) (most_moments aim w)) wide)
+
+pub number_is : (aim : Aim) (c : Circuit) (runs : List Run) (all width most count k : ℕ) → all ≡ length (later_moments runs) → width ≡ length c.flops →
+    most ≡ most_moments aim width → count ≡ min all most → k < taken_of aim (length c.flops) runs → k < count
+number_is aim c runs all width most count k long wide at_most least lt =
+    omega (arith, lt, taken_is aim c runs all width most count long wide at_most least)
+
+pub moment_is : (aim : Aim) (c : Circuit) (runs : List Run) (width most k : ℕ) (m : Moment) → width ≡ length c.flops → most ≡ most_moments aim width →
+    m ≡ moment_taken most (later_moments runs) k → m ≡ moment_taken (most_moments aim (length c.flops)) (later_moments runs) k
+moment_is aim c runs width most k m wide at_most is =
+    is ∙ ap (λ (n : ℕ). moment_taken n (later_moments runs) k) (at_most ∙ ap (most_moments aim) wide)
+
+-- the room, by the number of flip-flops and of moments
+pub room_is : (aim : Aim) (c : Circuit) (runs : List Run) (width taken room : ℕ) → width ≡ length c.flops → taken ≡ taken_of aim (length c.flops) runs →
+    room ≡ room_of aim width taken → room ≡ room_of aim (length c.flops) (taken_of aim (length c.flops) runs)
+room_is aim c runs width taken room wide so is = is ∙ (λ i. room_of aim (wide i) (so i))
+
 -- ---- all that are counted
 
-pub all_are_counted : (aim : Aim) (c : Circuit) (choice : Chosen) (runs : List Run) (counts : List MomentCount) (n count spent k : ℕ) → n ≡ length (later_moments runs) →
-    count ≡ min n MAX_MOMENTS → count ≤ k → k ≤ count → TellsSo aim c choice runs counts spent k → AreMomentCounts aim c choice runs counts
-all_are_counted aim c choice runs counts n count spent k long least le ge so =
-    let taken : count ≡ count_taken (length (later_moments runs)) = least ∙ ap (λ (m : ℕ). min m MAX_MOMENTS) long in
-    record {
-      moments = so.moments ∙ ap (λ (m : ℕ). map (moment_taken (later_moments runs)) (range_with_len 0 m)) (sym so.long);
-      each = so.each;
-      few = omega (arith, so.long, ge, taken);
-      begun = so.begun;
-      ended = inl (omega (arith, so.long, ge, le, taken));
-    }
+pub all_are_counted : (aim : Aim) (c : Circuit) (choice : Chosen) (runs : List Run) (counts : List MomentCount) (count spent k : ℕ) →
+    count ≡ taken_of aim (length c.flops) runs → count ≤ k → k ≤ count → TellsSo aim c choice runs counts spent k → AreMomentCounts aim c choice runs counts
+all_are_counted aim c choice runs counts count spent k taken le ge so = record {
+  moments =
+      so.moments ∙ ap (λ (m : ℕ). map (moment_taken (most_moments aim (length c.flops)) (later_moments runs)) (range_with_len 0 m)) (sym so.long);
+  each = so.each;
+  few = omega (arith, so.long, ge, taken);
+  begun = so.begun;
+  ended = inl (omega (arith, so.long, ge, le, taken));
+}
 
-pub enough_counted : (aim : Aim) (c : Circuit) (choice : Chosen) (runs : List Run) (counts : List MomentCount) (n count spent room k : ℕ) → n ≡ length (later_moments runs) →
-    count ≡ min n MAX_MOMENTS → k < count → room ≡ room_of aim (length c.flops) → room ≤ spent → TellsSo aim c choice runs counts spent k →
-    AreMomentCounts aim c choice runs counts
-enough_counted aim c choice runs counts n count spent room k long least lt rooms le so =
-    let taken : count ≡ count_taken (length (later_moments runs)) = least ∙ ap (λ (m : ℕ). min m MAX_MOMENTS) long in
-    record {
-      moments = so.moments ∙ ap (λ (m : ℕ). map (moment_taken (later_moments runs)) (range_with_len 0 m)) (sym so.long);
-      each = so.each;
-      few = omega (arith, so.long, lt, taken);
-      begun = so.begun;
-      ended = inr (omega (arith, le, rooms, so.spent_is));
-    }
+pub enough_counted : (aim : Aim) (c : Circuit) (choice : Chosen) (runs : List Run) (counts : List MomentCount) (count spent room k : ℕ) →
+    count ≡ taken_of aim (length c.flops) runs → k < count → room ≡ room_of aim (length c.flops) (taken_of aim (length c.flops) runs) → room ≤ spent →
+    TellsSo aim c choice runs counts spent k → AreMomentCounts aim c choice runs counts
+enough_counted aim c choice runs counts count spent room k taken lt rooms le so = record {
+  moments =
+      so.moments ∙ ap (λ (m : ℕ). map (moment_taken (most_moments aim (length c.flops)) (later_moments runs)) (range_with_len 0 m)) (sym so.long);
+  each = so.each;
+  few = omega (arith, so.long, lt, taken);
+  begun = so.begun;
+  ended = inr (omega (arith, le, rooms, so.spent_is));
+}

@@ -13,6 +13,7 @@ use Rattle.bs_inspect_lists.specs.Signature.{AppendsEnough, AppendsLists, TellsS
 use Rattle.bs_inspect_lists.specs.Spread.{later_moments}
 use Rattle.bs_inspect_lists.specs.Tried.{tried}
 use Rattle.bs_inspect_lists.specs.declared.lists.MomentCount.{MomentCount}
+use Rattle.bs_inspect_lists.specs.declared.enough.EnoughItems.{EnoughItems}
 use Rattle.bs_inspect_lists.specs.declared.spread.TheConstants.{MAX_MOMENTS}
 
 pub by_few : (c : Circuit) (runs : List Run) (o : Option Chosen) (lists : List MomentCount) → AreBy c runs o lists → length lists ≤ MAX_MOMENTS
@@ -29,7 +30,7 @@ appended_lists raw s bits n width lists old new e wide by_it says = record {
   says = says ∙ ap (λ (k : ℕ). old ++ lists_text k lists) (e ∙ ap (min bits) wide);
 }
 
-pub appended_enough : (raw : Parts) (s : Stimulus) (enough : Option ℕ) (old new : List ℕ) → TellsEnough raw s (tried (length raw.flops)) enough →
+pub appended_enough : (raw : Parts) (s : Stimulus) (enough : EnoughItems) (old new : List ℕ) → TellsEnough raw s (tried (length raw.flops)) enough →
     new ≡ old ++ enough_line enough → AppendsEnough raw s old new
 appended_enough raw s enough old new told says = record { enough = enough; told = told; says = says }
 

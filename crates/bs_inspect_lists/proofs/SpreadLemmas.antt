@@ -1,4 +1,4 @@
--- Moments behind reset, run by run.
+-- Moments behind the fronts, run by run.
 use Rattle.std.proofs.Common.{◌≡◌, ℕ, ◌<◌, ◌≤◌, ◌+◌, ◌-◌, ◌*◌, ◌/◌, List, [], ◌++◌, length, get_or, drop, refl, ap, sym, ◌∙◌, arith}
 use Rattle.std.proofs.lemmas.Nat.{row_fits}
 use Rattle.std.proofs.Math.Nat.{div-lt_iff_lt-mul, mul_comm}
@@ -8,10 +8,10 @@ use Rattle.std.proofs.lemmas.List.FromFn.{get_or-map-range_with_len, length-map-
 use Rattle.bs_stim.specs.Runs.{Recorded, Stimulus, inputs_of, run_at}
 use Rattle.bs_scan.specs.Moments.{IsMoment, Moment, Run, moment, run_of}
 use Rattle.bs_scan.proofs.CrashLemmas.{run_inputs}
-use Rattle.bs_inspect_lists.specs.Spread.{count_taken, later_from, later_moments, later_of, moment_taken, part_of, place_in}
+use Rattle.bs_inspect_lists.specs.Spread.{count_behind, count_taken, front, later_from, later_moments, later_of, moment_taken, part_of, place_in}
 
-later_long : (number : ℕ) (run : Run) → length (later_of number run) ≡ length run
-later_long number run = length-map-range_with_len (moment number) 1 (length run)
+later_long : (number : ℕ) (run : Run) → length (later_of number run) ≡ count_behind run
+later_long number run = length-map-range_with_len (moment number) (front run + 1) (count_behind run)
 
 -- the moments from a run on, with the run's own first
 later_split : (s : Stimulus) (k : ℕ) → k < length (inputs_of s) →
@@ -26,17 +26,18 @@ later_split s k lt =
 there_in : (s : Stimulus) (k : ℕ) → k < length s.runs → k < length (inputs_of s)
 there_in s k lt = omega (arith, lt, length-map s.runs (λ (run : Recorded). run.inputs))
 
-pub here_is : (s : Stimulus) (k left n : ℕ) → k < length s.runs → n ≡ length (run_at s (k + 1)).inputs → left < n →
-    get_or (later_from (k + 1) (drop k (inputs_of s))) left (moment 0 0) ≡ moment (k + 1) (left + 1)
+pub here_is : (s : Stimulus) (k left n : ℕ) → k < length s.runs → n ≡ count_behind (run_at s (k + 1)).inputs → left < n →
+    get_or (later_from (k + 1) (drop k (inputs_of s))) left (moment 0 0) ≡ moment (k + 1) (front (run_at s (k + 1)).inputs + left + 1)
 here_is s k left n lt e less =
     let run : Run = (run_at s (k + 1)).inputs in
     let inside : left < length (later_of (k + 1) run) = omega (arith, less, e, later_long (k + 1) run) in
-    let place : 1 + left ≡ left + 1 = omega arith in
+    let own : left < count_behind run = omega (arith, less, e) in
+    let place : front run + 1 + left ≡ front run + left + 1 = omega arith in
     ap (λ (ms : List Moment). get_or ms left (moment 0 0)) (later_split s k (there_in s k lt))
     ∙ (get_or_append_left (later_of (k + 1) run) (later_from (k + 1 + 1) (drop (k + 1) (inputs_of s))) (moment 0 0) left inside
-    ∙ get_or-map-range_with_len (moment (k + 1)) 1 (length run) left (left + 1) (moment 0 0) (omega (arith, less, e)) place)
+    ∙ get_or-map-range_with_len (moment (k + 1)) (front run + 1) (count_behind run) left (front run + left + 1) (moment 0 0) own place)
 
-pub behind_is : (s : Stimulus) (k left n rest : ℕ) → k < length s.runs → n ≡ length (run_at s (k + 1)).inputs → n ≤ left → rest ≡ left - n →
+pub behind_is : (s : Stimulus) (k left n rest : ℕ) → k < length s.runs → n ≡ count_behind (run_at s (k + 1)).inputs → n ≤ left → rest ≡ left - n →
     get_or (later_from (k + 1) (drop k (inputs_of s))) left (moment 0 0) ≡ get_or (later_from (k + 1 + 1) (drop (k + 1) (inputs_of s))) rest (moment 0 0)
 behind_is s k left n rest lt e le is =
     let run : Run = (run_at s (k + 1)).inputs in
@@ -45,7 +46,7 @@ behind_is s k left n rest lt e le is =
     (later_long (k + 1) run ∙ sym e) le
     ∙ ap (λ (i : ℕ). get_or (later_from (k + 1 + 1) (drop (k + 1) (inputs_of s))) i (moment 0 0)) (sym is))
 
-pub count_here : (s : Stimulus) (k n : ℕ) → k < length s.runs → n ≡ length (run_at s (k + 1)).inputs →
+pub count_here : (s : Stimulus) (k n : ℕ) → k < length s.runs → n ≡ count_behind (run_at s (k + 1)).inputs →
     length (later_from (k + 1) (drop k (inputs_of s))) ≡ n + length (later_from (k + 1 + 1) (drop (k + 1) (inputs_of s)))
 count_here s k n lt e =
     let run : Run = (run_at s (k + 1)).inputs in
@@ -68,7 +69,7 @@ pub record CountSo (s : Stimulus) (k count : ℕ) : Type 0 where
 pub none_later : (s : Stimulus) (count : ℕ) → count ≡ 0 → CountSo s 0 count
 none_later s count e = record { sum = ap (λ (n : ℕ). n + length (later_moments (inputs_of s))) e ∙ (omega arith); few = omega (arith, e) }
 
-pub more_later : (s : Stimulus) (k n count after : ℕ) → k < length s.runs → n ≡ length (run_at s (k + 1)).inputs → n ≤ 65536 → CountSo s k count →
+pub more_later : (s : Stimulus) (k n count after : ℕ) → k < length s.runs → n ≡ count_behind (run_at s (k + 1)).inputs → n ≤ 65536 → CountSo s k count →
     after ≡ count + n → CountSo s (k + 1) after
 more_later s k n count after lt e few so goes = record {
   sum = omega (arith, goes, so.sum, count_here s k n lt e);
@@ -88,24 +89,31 @@ pub record PlaceSo (s : Stimulus) (place k left : ℕ) : Type 0 where
 pub place_begin : (s : Stimulus) (place : ℕ) → place < length (later_moments (inputs_of s)) → PlaceSo s place 0 place
 place_begin s place lt = record { is = refl; there = lt }
 
-pub place_more : (s : Stimulus) (place k left n rest : ℕ) → k < length s.runs → n ≡ length (run_at s (k + 1)).inputs → n ≤ left → rest ≡ left - n →
+pub place_more : (s : Stimulus) (place k left n rest : ℕ) → k < length s.runs → n ≡ count_behind (run_at s (k + 1)).inputs → n ≤ left → rest ≡ left - n →
     PlaceSo s place k left → PlaceSo s place (k + 1) rest
 place_more s place k left n rest lt e le is so = record {
   is = so.is ∙ behind_is s k left n rest lt e le is;
   there = omega (arith, so.there, count_here s k n lt e, is, le);
 }
 
-pub place_here : (s : Stimulus) (place k left n run cycle : ℕ) → k < length s.runs → n ≡ length (run_at s (k + 1)).inputs → left < n →
-    run ≡ k + 1 → cycle ≡ left + 1 → PlaceSo s place k left → moment run cycle ≡ get_or (later_moments (inputs_of s)) place (moment 0 0)
-place_here s place k left n run cycle lt e less r c so =
-    (λ i. moment (r i) (c i)) ∙ sym (so.is ∙ here_is s k left n lt e less)
+pub place_here : (s : Stimulus) (place k left n : ℕ) (m : Moment) → k < length s.runs → n ≡ count_behind (run_at s (k + 1)).inputs → left < n →
+    m ≡ moment (k + 1) (front (run_at s (k + 1)).inputs + left + 1) → PlaceSo s place k left →
+    m ≡ get_or (later_moments (inputs_of s)) place (moment 0 0)
+place_here s place k left n m lt e less is so = is ∙ sym (so.is ∙ here_is s k left n lt e less)
 
-pub place_moment : (s : Stimulus) (k left n run cycle : ℕ) → k < length s.runs → n ≡ length (run_at s (k + 1)).inputs → left < n →
-    run ≡ k + 1 → cycle ≡ left + 1 → IsMoment (inputs_of s) (moment run cycle)
-place_moment s k left n run cycle lt e less r c = record {
-  from_one = omega (arith, r);
-  recorded = omega (arith, r, lt, length-map s.runs (λ (run : Recorded). run.inputs));
-  lasts = omega (arith, c, less, e, ap length (run_inputs s (k + 1)), ap (λ (n : ℕ). length (run_of (inputs_of s) n)) r);
+-- a moment behind the front is within the run
+within_run : (length front left n cycle : ℕ) → n ≡ length - front → left < n → cycle ≡ front + left + 1 → cycle ≤ length
+within_run length front left n cycle e less c = omega (arith, e, less, c)
+
+pub place_moment : (s : Stimulus) (k left n : ℕ) (m : Moment) → k < length s.runs → n ≡ count_behind (run_at s (k + 1)).inputs → left < n →
+    m ≡ moment (k + 1) (front (run_at s (k + 1)).inputs + left + 1) → IsMoment (inputs_of s) m
+place_moment s k left n m lt e less is = rw is record {
+  from_one = omega arith;
+  recorded = omega (arith, lt, length-map s.runs (λ (run : Recorded). run.inputs));
+  lasts =
+      let inside : front (run_at s (k + 1)).inputs + left + 1 ≤ length (run_at s (k + 1)).inputs =
+      within_run (length (run_at s (k + 1)).inputs) (front (run_at s (k + 1)).inputs) left n (front (run_at s (k + 1)).inputs + left + 1) e less refl in
+      omega (arith, inside, ap length (run_inputs s (k + 1)));
 }
 
 pub place_never : (s : Stimulus) (place k left : ℕ) → length s.runs ≤ k → PlaceSo s place k left → {A : Type 0} → A
@@ -123,14 +131,14 @@ place_within all count k lt le =
     (omega (arith, fits, some, mul_comm (count * count) all))
 
 -- the moment at the place in a part
-pub taken_is : (moments : List Moment) (m : Moment) (all taken part k : ℕ) → all ≡ length moments → taken ≡ count_taken all → part ≡ part_of taken k →
-    m ≡ get_or moments (part * (taken + 1) * all / (taken * taken)) (moment 0 0) → m ≡ moment_taken moments k
-taken_is moments m all taken part k long least in_part is =
+pub taken_is : (most : ℕ) (moments : List Moment) (m : Moment) (all taken part k : ℕ) → all ≡ length moments → taken ≡ count_taken most all →
+    part ≡ part_of most taken k → m ≡ get_or moments (part * (taken + 1) * all / (taken * taken)) (moment 0 0) → m ≡ moment_taken most moments k
+taken_is most moments m all taken part k long least in_part is =
     is
     ∙ ((λ i. get_or moments (place_in (long i) taken part) (moment 0 0))
     ∙ ap (λ (n : ℕ). get_or moments (place_in (length moments) n part) (moment 0 0)) by_count
-    ∙ ap (λ (p : ℕ). get_or moments (place_in (length moments) (count_taken (length moments)) p) (moment 0 0))
-    (in_part ∙ ap (λ (n : ℕ). part_of n k) by_count))
+    ∙ ap (λ (p : ℕ). get_or moments (place_in (length moments) (count_taken most (length moments)) p) (moment 0 0))
+    (in_part ∙ ap (λ (n : ℕ). part_of most n k) by_count))
   where
-    by_count : taken ≡ count_taken (length moments)
-    by_count = least ∙ ap count_taken long
+    by_count : taken ≡ count_taken most (length moments)
+    by_count = least ∙ ap (count_taken most) long

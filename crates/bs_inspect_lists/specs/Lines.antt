@@ -1,10 +1,13 @@
 -- The lines on lists (docs/FORMATS.md, "Texts of `backspace_inspect`").
-use Rattle.std.specs.Prelude.{ℕ, ◌+◌, ◌*◌, ◌/◌, ◌%◌, ◌==◌, List, [], ◌∷◌, ◌++◌, length, codes, decimal, Option, Some, None, if◌then◌else◌}
-use Rattle.std.specs.List.{count_by, flat_map, sum_by}
+use Rattle.std.specs.Prelude.{ℕ, ◌+◌, ◌*◌, ◌/◌, ◌%◌, ◌==◌, List, [], ◌∷◌, ◌++◌, length, codes, decimal, if◌then◌else◌}
+use Rattle.std.specs.List.{flat_map, sum_by}
 use Rattle.bs_bits.specs.Lines.{line}
-use Rattle.bs_inspect_lists.specs.MomentCount.{is_cut, number_of}
+use Rattle.bs_scan.specs.Moments.{Moment}
+use Rattle.bs_inspect_lists.specs.MomentCount.{count_cut, number_of}
 use Rattle.bs_inspect_lists.specs.declared.counting.PredecessorCount.{PredecessorCount}
 use Rattle.bs_inspect_lists.specs.declared.counting.PredecessorCount.TheVariants.{Whole, More, Spent}
+use Rattle.bs_inspect_lists.specs.declared.enough.EnoughItems.{EnoughItems}
+use Rattle.bs_inspect_lists.specs.declared.enough.EnoughItems.TheVariants.{Number, NoneAt, NoneRead}
 use Rattle.bs_inspect_lists.specs.declared.lists.MomentCount.{MomentCount}
 
 -- what a list counts
@@ -21,10 +24,6 @@ list_line entry =
 -- the hundredth parts of the mean, rounded down, and none where there are no lists
 abbrev pub mean_of : List MomentCount → ℕ
 mean_of all = if length all == 0 then 0 else sum_by (λ entry. number_of entry.count) all * 100 / length all
-
--- how many lists were cut
-abbrev pub count_cut : List MomentCount → ℕ
-count_cut all = count_by (λ entry. is_cut entry.count) all
 
 -- a number of hundredth parts, with two decimals
 abbrev pub decimals : ℕ → List ℕ
@@ -43,7 +42,12 @@ lists_line bits lists =
 abbrev pub lists_text : ℕ → List MomentCount → List ℕ
 lists_text bits lists = lists_line bits lists ++ flat_map list_line lists
 
--- how many items are enough
-abbrev pub enough_line : Option ℕ → List ℕ
-enough_line None = line (codes "enough none")
-enough_line (Some count) = line (codes "enough " ++ decimal count)
+-- a number of items, and a moment, behind a word
+abbrev pub none_at_words : ℕ → Moment → List ℕ
+none_at_words count at = decimal count ++ (codes " " ++ (decimal at.run ++ (codes " " ++ decimal at.cycle)))
+
+-- how many items are enough, or that none of the numbers is that are tried, and at which moment the last was given up
+abbrev pub enough_line : EnoughItems → List ℕ
+enough_line (Number count) = line (codes "enough " ++ decimal count)
+enough_line (NoneAt count at) = line (codes "enough none " ++ none_at_words count at)
+enough_line NoneRead = line (codes "enough none")

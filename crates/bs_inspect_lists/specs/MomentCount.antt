@@ -1,6 +1,6 @@
 -- How many predecessors the states at some moments have.
-use Rattle.std.specs.Prelude.{◌≡◌, ◌⊎◌, ℕ, ◌<◌, ◌≤◌, ◌+◌, ◌-◌, ◌/◌, ◌^◌, max, not, ◌==◌, Bool, true, false, List, [], ◌∷◌, length, map, take, All, None, if◌then◌else◌}
-use Rattle.std.specs.List.{range_with_len, sum_by}
+use Rattle.std.specs.Prelude.{◌≡◌, ◌⊎◌, ℕ, ◌<◌, ◌≤◌, ◌+◌, ◌-◌, ◌/◌, ◌^◌, max, nat_le, ◌==◌, Bool, true, false, List, [], ◌∷◌, length, map, take, All, None, if◌then◌else◌}
+use Rattle.std.specs.List.{count_by, range_with_len, sum_by}
 use Rattle.bs_seen.specs.declared.seen.Seen.{Seen}
 use Rattle.bs_seen.specs.Seen.{whole}
 use Rattle.bs_clause.specs.Literal.{Literal}
@@ -21,8 +21,9 @@ use Rattle.bs_report_good.specs.Step.{Ascend, IsCandidate, listed}
 use Rattle.bs_inspect_lists.specs.Spread.{count_taken, later_moments, moment_taken}
 use Rattle.bs_inspect_lists.specs.declared.counting.Aim.{Aim}
 use Rattle.bs_inspect_lists.specs.declared.counting.Aim.TheVariants.{Numbers, Ones}
-use Rattle.bs_inspect_lists.specs.declared.counting.TheConstants.{MAX_LEMMAS, MAX_LISTED, MAX_TRY_LEMMAS}
-use Rattle.bs_inspect_lists.specs.declared.lists.TheConstants.{MAX_LISTED_BITS, MAX_OTHERS}
+use Rattle.bs_inspect_lists.specs.declared.counting.TheConstants.{MAX_LEMMAS, MAX_LISTED, MAX_TRY_LEMMAS, MAX_TRY_LISTED}
+use Rattle.bs_inspect_lists.specs.declared.lists.TheConstants.{MAX_LISTED_BITS, MAX_TRY_WIDTH, OTHERS_PART}
+use Rattle.bs_inspect_lists.specs.declared.spread.TheConstants.{MAX_MOMENTS, MAX_TRY_MOMENTS}
 use Rattle.bs_inspect_lists.specs.declared.counting.PredecessorCount.{PredecessorCount}
 use Rattle.bs_inspect_lists.specs.declared.counting.PredecessorCount.TheVariants.{Whole, More, Spent}
 use Rattle.bs_inspect_lists.specs.declared.lists.MomentCount.{MomentCount}
@@ -30,7 +31,7 @@ use Rattle.bs_inspect_lists.specs.declared.lists.MomentCount.{MomentCount}
 -- how many members a list may have
 abbrev pub most_listed : Aim → ℕ
 most_listed Numbers = MAX_LISTED
-most_listed Ones = 1
+most_listed Ones = MAX_TRY_LISTED
 
 -- how many lemmas a solve may log
 abbrev pub most_lemmas : Aim → ℕ
@@ -86,30 +87,52 @@ is_cut (Whole n) = false
 is_cut More = true
 is_cut (Spent n) = true
 
+-- how many lists were cut
+abbrev pub count_cut : List MomentCount → ℕ
+count_cut all = count_by (λ entry. is_cut entry.count) all
+
 -- whether there is one predecessor, and no other
 abbrev pub is_one : PredecessorCount → Bool
 is_one (Whole n) = n == 1
 is_one More = false
 is_one (Spent n) = false
 
--- How much of the room a list takes. For numbers it is that of its members, and one that was cut takes as much as a longest one; for
--- ones it is 1 where the list is not of one predecessor.
+-- How much of the room a list takes that was not cut: that of its members, or 1 where it is not of one predecessor.
+abbrev pub whole_weight : Aim → PredecessorCount → ℕ
+whole_weight Numbers count = number_of count
+whole_weight Ones count = if is_one count then 0 else 1
+
+-- How much of the room a list takes: one that was cut as much as a longest one.
 abbrev pub weight_of : Aim → PredecessorCount → ℕ
-weight_of Numbers count = if is_cut count then MAX_LISTED else number_of count
-weight_of Ones count = if not (is_one count) then 1 else 0
+weight_of aim count = if is_cut count then MAX_LISTED else whole_weight aim count
 
 abbrev pub weights_of : Aim → List MomentCount → ℕ
 weights_of aim all = sum_by (λ entry. weight_of aim entry.count) all
 
--- how much room there is for all lists, by the number of flip-flops
-abbrev pub room_of : Aim → ℕ → ℕ
-room_of Numbers width = MAX_LISTED_BITS / max width 1
-room_of Ones width = MAX_OTHERS + 1
+-- how many moments may be taken, by the number of flip-flops
+abbrev pub most_moments : Aim → ℕ → ℕ
+most_moments Numbers width = MAX_MOMENTS
+most_moments Ones width = if nat_le width MAX_TRY_WIDTH then MAX_TRY_MOMENTS else MAX_MOMENTS
+
+-- how many are taken
+abbrev pub taken_of : Aim → ℕ → List Run → ℕ
+taken_of aim width runs = count_taken (most_moments aim width) (length (later_moments runs))
+
+-- how many lists at so many moments may not be of one predecessor
+abbrev pub most_others : ℕ → ℕ
+most_others taken = taken / OTHERS_PART
+
+-- how much room there is for all lists, by the number of flip-flops and by how many moments are taken
+abbrev pub room_of : Aim → (width taken : ℕ) → ℕ
+room_of Numbers width taken = MAX_LISTED_BITS / max width 1
+room_of Ones width taken = most_others taken + 1
 
 -- The first of the moments that are taken are counted, in their order: a further one while those before leave room.
 pub record AreMomentCounts (aim : Aim) (c : Circuit) (choice : Chosen) (runs : List Run) (all : List MomentCount) : Type 0 where
-  pub moments : map (λ entry. entry.moment) all ≡ map (moment_taken (later_moments runs)) (range_with_len 0 (length all))
+  pub moments : map (λ entry. entry.moment) all ≡ map (moment_taken (most_moments aim (length c.flops)) (later_moments runs)) (range_with_len 0 (length all))
   pub each : All (IsMomentCount aim c choice runs) all
-  pub few : length all ≤ count_taken (length (later_moments runs))
-  pub begun : (i : ℕ) → i < length all → weights_of aim (take i all) < room_of aim (length c.flops)
-  pub ended : (length all ≡ count_taken (length (later_moments runs))) ⊎ (room_of aim (length c.flops) ≤ weights_of aim all)
+  pub few : length all ≤ taken_of aim (length c.flops) runs
+  pub begun : (i : ℕ) → i < length all → weights_of aim (take i all) < room_of aim (length c.flops) (taken_of aim (length c.flops) runs)
+  pub ended :
+      (length all ≡ taken_of aim (length c.flops) runs)
+      ⊎ (room_of aim (length c.flops) (taken_of aim (length c.flops) runs) ≤ weights_of aim all)

@@ -1,6 +1,6 @@
 -- The proposal of a signature, what lists of predecessors it leads to, and how many items are enough (docs/FORMATS.md, "Texts of
 -- `backspace_inspect`").
-use Rattle.std.specs.Prelude.{◌≡◌, ℕ, min, List, ◌++◌, length, codes, Option}
+use Rattle.std.specs.Prelude.{◌≡◌, ℕ, min, List, ◌++◌, length, codes}
 use Rattle.bs_bits.specs.Lines.{line}
 use Rattle.bs_net.specs.Netlist.{circuit_of}
 use Rattle.bs_net.specs.Parts.{Parts}
@@ -10,6 +10,7 @@ use Rattle.bs_inspect_lists.specs.Enough.{TellsEnough}
 use Rattle.bs_inspect_lists.specs.Lines.{enough_line, lists_text}
 use Rattle.bs_inspect_lists.specs.Reading.{AreBy, mixed_choice}
 use Rattle.bs_inspect_lists.specs.Tried.{tried}
+use Rattle.bs_inspect_lists.specs.declared.enough.EnoughItems.{EnoughItems}
 use Rattle.bs_inspect_lists.specs.declared.lists.MomentCount.{MomentCount}
 
 -- a proposal of so many items
@@ -24,7 +25,7 @@ pub record AppendsLists (raw : Parts) (stimulus : Stimulus) (bits : ℕ) (old ne
 
 -- how many items are enough, behind a text
 pub record AppendsEnough (raw : Parts) (stimulus : Stimulus) (old new : List ℕ) : Type 0 where
-  pub enough : Option ℕ
+  pub enough : EnoughItems
   pub told : TellsEnough raw stimulus (tried (length raw.flops)) enough
   pub says : new ≡ old ++ enough_line enough
 

@@ -3,8 +3,8 @@ ghost use Rattle.std.specs.Prelude.{◌≡◌, ◌≢◌, ◌<◌, ◌≤◌, �
 ghost use Rattle.std.specs.Option.{option_to_list};
 ghost use Rattle.bs_encode.specs.declared.encoding.TheConstants.{MAX_ACTIVATIONS};
 ghost use Rattle.bs_inspect_lists.specs.declared.counting.TheConstants.{MAX_LISTED};
-ghost use Rattle.bs_inspect_lists.specs.declared.counting.Aim.TheVariants.{Numbers, Ones};
-ghost use Rattle.bs_inspect_lists.specs.MomentCount.{IsCountOf, counted_as, is_cut, is_one, most_lemmas, most_listed, number_of, weight_of};
+ghost use Rattle.bs_inspect_lists.specs.declared.counting.Aim.TheVariants.{Ones};
+ghost use Rattle.bs_inspect_lists.specs.MomentCount.{IsCountOf, counted_as, is_cut, is_one, most_lemmas, most_listed, number_of, weight_of, whole_weight};
 
 use bs_bits::{Bits, NoMemory};
 use bs_preimage::{Listing, Preimage};
@@ -19,15 +19,18 @@ pub const MAX_LISTED: usize = 256;
 /// A solve may log so many lemmas. So one hard list does not hold up the others.
 pub const MAX_LEMMAS: u64 = 10_000;
 
-/// The same where numbers of bits are tried: a signature whose lists are harder is not called enough.
-pub const MAX_TRY_LEMMAS: u64 = 2_000;
+/// The same where numbers of items are tried: a signature whose lists are longer is not called enough.
+pub const MAX_TRY_LISTED: usize = 16;
+
+/// Nor is one whose lists are harder.
+pub const MAX_TRY_LEMMAS: u64 = 1_000;
 
 /// What lists are made for.
 #[derive(Clone, Copy, Debug, PartialEq, Eq)]
 pub enum Aim {
     /// Their numbers of predecessors.
     Numbers,
-    /// Whether each has one alone.
+    /// Whether nearly each has one alone, and none is long.
     Ones,
 }
 
@@ -38,7 +41,7 @@ fn most_listed(aim: Aim) -> u64
 {
     match aim {
         Aim::Numbers => MAX_LISTED as u64,
-        Aim::Ones => 1,
+        Aim::Ones => MAX_TRY_LISTED as u64,
     }
 }
 
@@ -179,33 +182,33 @@ pub(crate) fn is_one(count: PredecessorCount) -> bool
     }
 }
 
-/// How much of the room for members a list takes: one that was cut as much as a longest one.
-fn members_of(count: PredecessorCount) -> u64
-    ensures weight { result ≡ weight_of Numbers count }
+/// One where a list is not of one predecessor.
+fn other_of(count: PredecessorCount) -> u64
+    ensures weight { result ≡ whole_weight Ones count }
+    ensures small { result < 2 ^ 32 }
+{
+    if is_one(count) { 0 } else { 1 }
+}
+
+/// How much of the room a list takes that was not cut: as many as it has members, or one where it is not of one predecessor.
+fn whole_weight(aim: Aim, count: PredecessorCount) -> u64
+    ensures weight { result ≡ whole_weight aim count }
+    ensures small { result < 2 ^ 32 }
+{
+    match aim {
+        Aim::Numbers => u64::from(number_of(count)),
+        Aim::Ones => other_of(count),
+    }
+}
+
+/// How much of the room a list takes: one that was cut as much as a longest one.
+pub(crate) fn weight_of(aim: Aim, count: PredecessorCount) -> u64
+    ensures weight { result ≡ weight_of aim count }
     ensures small { result < 2 ^ 32 }
 {
     if is_cut(count) {
         MAX_LISTED as u64
     } else {
-        u64::from(number_of(count))
-    }
-}
-
-/// One where a list is not of one predecessor.
-fn other_of(count: PredecessorCount) -> u64
-    ensures weight { result ≡ weight_of Ones count }
-    ensures small { result < 2 ^ 32 }
-{
-    if !is_one(count) { 1 } else { 0 }
-}
-
-/// How much of the room a list takes: as many as it has members, or one where it is not of one predecessor.
-pub(crate) fn weight_of(aim: Aim, count: PredecessorCount) -> u64
-    ensures weight { result ≡ weight_of aim count }
-    ensures small { result < 2 ^ 32 }
-{
-    match aim {
-        Aim::Numbers => members_of(count),
-        Aim::Ones => other_of(count),
+        whole_weight(aim, count)
     }
 }

@@ -1,20 +1,42 @@
 //! How many items are enough.
 ghost use Rattle.std.specs.Prelude.{◌≡◌, ◌<◌, length, Some, All, IfOk};
 ghost use Rattle.bs_net.specs.Netlist.{circuit};
-ghost use Rattle.bs_inspect_lists.specs.Enough.{IsJudged, TellsEnough, others};
+ghost use Rattle.bs_inspect_lists.specs.Enough.{EndsAt, IsJudged, IsVerdict, TellsEnough, answer_of, is_refuted, others, suffices};
 ghost use Rattle.bs_inspect_lists.specs.Reading.{mixed_choice};
 ghost use Rattle.bs_inspect_lists.specs.Tried.{tried};
-ghost use Rattle.bs_inspect_lists.specs.declared.lists.TheConstants.{MAX_OTHERS};
 
 use crate::counting::{Aim, is_one};
-use crate::lists::{MAX_OTHERS, MomentCount, count_lists};
+use crate::lines::count_cut;
+use crate::lists::{MomentCount, count_lists, count_taken, most_others};
 use crate::reading::read_mixed;
 use crate::tried::tried;
 use bs_bits::NoMemory;
 use bs_net::Netlist;
-use bs_scan::Choice;
+use bs_scan::{Choice, Moment};
 use bs_stim::Runs;
 use std::alloc::Global;
+
+/// What lists say of a number of items.
+#[derive(Clone, Copy, Debug, PartialEq, Eq)]
+pub enum Verdict {
+    /// It is enough.
+    Suffices,
+    /// It is not: with the list at this moment one is cut, or too many are not of one predecessor.
+    GivenUp(Moment),
+    /// A proposal of so many is no signature, since its lines are too long.
+    Unread,
+}
+
+/// How many items are enough, of the numbers that are tried.
+#[derive(Clone, Copy, Debug, PartialEq, Eq)]
+pub enum EnoughItems {
+    /// So many.
+    Number(usize),
+    /// None: so many are the last, and were given up at this moment.
+    NoneAt(usize, Moment),
+    /// None: a proposal of the last number is no signature.
+    NoneRead,
+}
 
 /// How many lists are not of one predecessor.
 fn others(lists: &[MomentCount]) -> usize
@@ -23,61 +45,122 @@ fn others(lists: &[MomentCount]) -> usize
     lists.iter().filter(|entry| !is_one(entry.count)).count()
 }
 
-/// Whether the signature is enough that a proposal of so many items is.
-#[tactic(auto, using(crate::proofs::ReadingLemmas::choice_wide, crate::proofs::ReadingLemmas::choice_once, crate::proofs::EnoughLemmas::judged_by))]
+/// Whether a list is cut, or more are not of one predecessor than may be at so many moments.
+fn is_refuted(taken: usize, lists: &[MomentCount]) -> bool
+    ensures { result ≡ is_refuted taken lists.now }
+{
+    let cut = count_cut(lists);
+    let others = others(lists);
+    0 < cut || most_others(taken) < others
+}
+
+/// The moment of the last list.
+#[tactic(auto, using(crate::proofs::EnoughLemmas::ends_there))]
+fn last_moment(lists: &[MomentCount]) -> Moment
+    requires { 0 < length lists.now }
+    ensures { EndsAt lists.now result }
+{
+    lists[lists.len() - 1].moment
+}
+
+/// What lists say, of so many moments that may be taken.
+#[tactic(auto, using(crate::proofs::EnoughLemmas::some_lists, crate::proofs::EnoughLemmas::refuted_at, crate::proofs::EnoughLemmas::not_refuted))]
+fn verdict_of(taken: usize, lists: &[MomentCount]) -> Verdict
+    ensures { IsVerdict taken lists.now result }
+{
+    if is_refuted(taken, lists) {
+        Verdict::GivenUp(last_moment(lists))
+    } else {
+        Verdict::Suffices
+    }
+}
+
+/// What the lists by the signature say that a proposal of so many items is.
+#[tactic(auto, using(crate::proofs::ReadingLemmas::choice_wide, crate::proofs::ReadingLemmas::choice_once))]
 fn judge(
     alloc: Global,
     net: &Netlist,
     choice: Choice,
     runs: &Runs,
     count: usize,
-) -> Result<bool, NoMemory>
+) -> Result<Verdict, NoMemory>
     requires inputs { runs.now.width ≡ length (circuit net.now).inputs }
     requires read { Some choice ≡ mixed_choice net.now.raw count }
     ensures { IfOk result (IsJudged net.now.raw runs.now count) }
 {
     let _count = count;
     let lists = count_lists(alloc, Aim::Ones, net, &choice, runs)?;
-    Ok(others(lists.as_slice()) <= MAX_OTHERS)
+    let taken = count_taken(Aim::Ones, net, runs);
+    let verdict = verdict_of(taken, lists.as_slice());
+    Ok(verdict)
 }
 
-/// Whether a proposal of so many items is enough.
+/// What the lists by a proposal of so many items say.
 #[tactic(auto, using(crate::proofs::EnoughLemmas::none_judged))]
-fn is_enough(alloc: Global, net: &Netlist, runs: &Runs, count: usize) -> Result<bool, NoMemory>
+fn judge_number(
+    alloc: Global,
+    net: &Netlist,
+    runs: &Runs,
+    count: usize,
+) -> Result<Verdict, NoMemory>
     requires inputs { runs.now.width ≡ length (circuit net.now).inputs }
     requires some { 0 < count }
     ensures { IfOk result (IsJudged net.now.raw runs.now count) }
 {
     match read_mixed(alloc, net, count)? {
         Some(choice) => judge(alloc, net, choice, runs, count),
-        None => Ok(false),
+        None => Ok(Verdict::Unread),
     }
 }
 
-/// The first of some numbers of items that is enough.
+/// The answer where so many items are the last.
+fn answer_of(count: usize, verdict: Verdict) -> EnoughItems
+    ensures { result ≡ answer_of count verdict }
+{
+    match verdict {
+        Verdict::Suffices => EnoughItems::Number(count),
+        Verdict::GivenUp(at) => EnoughItems::NoneAt(count, at),
+        Verdict::Unread => EnoughItems::NoneRead,
+    }
+}
+
+/// Whether a number of items is enough.
+fn suffices(verdict: Verdict) -> bool
+    ensures { result ≡ suffices verdict }
+{
+    match verdict {
+        Verdict::Suffices => true,
+        Verdict::GivenUp(_) => false,
+        Verdict::Unread => false,
+    }
+}
+
+/// The first of some numbers of items that is enough, or that none is.
 #[tactic(auto, using(crate::proofs::EnoughLemmas::none_yet, crate::proofs::EnoughLemmas::one_more, crate::proofs::EnoughLemmas::first_found, crate::proofs::EnoughLemmas::none_found))]
 fn first_enough(
     alloc: Global,
     net: &Netlist,
     runs: &Runs,
     numbers: &[usize],
-) -> Result<Option<usize>, NoMemory>
+) -> Result<EnoughItems, NoMemory>
     requires inputs { runs.now.width ≡ length (circuit net.now).inputs }
     requires some { All (λ n. 0 < n) numbers.now }
     ensures { IfOk result (TellsEnough net.now.raw runs.now numbers.now) }
 {
+    let mut answer = EnoughItems::NoneRead;
     'numbers: for i in 0..numbers.len() {
-        let is = is_enough(alloc, net, runs, numbers[i])?;
-        if is {
-            return Ok(Some(numbers[i]));
+        let verdict = judge_number(alloc, net, runs, numbers[i])?;
+        answer = answer_of(numbers[i], verdict);
+        if suffices(verdict) {
+            return Ok(answer);
         }
     }
-    Ok(None)
+    Ok(answer)
 }
 
-/// The least number of items that is enough, of those that are tried.
+/// The least number of items that is enough, of those that are tried, or that none is.
 #[tactic(auto, using(crate::proofs::TriedLemmas::some_tried, crate::proofs::EnoughLemmas::told_as))]
-pub(crate) fn enough(alloc: Global, net: &Netlist, runs: &Runs) -> Result<Option<usize>, NoMemory>
+pub(crate) fn enough(alloc: Global, net: &Netlist, runs: &Runs) -> Result<EnoughItems, NoMemory>
     requires inputs { runs.now.width ≡ length (circuit net.now).inputs }
     ensures { IfOk result (TellsEnough net.now.raw runs.now (tried (length net.now.raw.flops))) }
 {

@@ -8,8 +8,9 @@
 //! `AreMomentCounts` (`specs/MomentCount`): each number is that of a list of predecessors, all of them, or
 //! the list was cut; `Spent` comes only where the lemmas of a solve may be too few. More moments:
 //! `MAX_MOMENTS`; longer lists: `MAX_LISTED`, and `MAX_LISTED_BITS` for all together; harder ones:
-//! `MAX_LEMMAS`, and `MAX_TRY_LEMMAS` where numbers of items are tried; more lists that are not of one
-//! predecessor: `MAX_OTHERS`.
+//! `MAX_LEMMAS`. Where numbers of items are tried: `MAX_TRY_MOMENTS` and `MAX_TRY_WIDTH`,
+//! `MAX_TRY_LISTED`, `MAX_TRY_LEMMAS`; more lists that are not of one predecessor: `OTHERS_PART`. What
+//! is left out of a run in front: `FRONT_PART`.
 //!
 //! Of the proposal: `deck` (a deck of items, from which a flip-flop draws), `mixed` (the items), `keys`,
 //! `item_lines` (`mixed_lines`: the items as lines of a file). Used above: `mixed_lines` (`specs/Proposal`),
@@ -30,9 +31,10 @@ mod signature;
 mod spread;
 mod tried;
 
-pub use counting::{Aim, MAX_LEMMAS, MAX_LISTED, MAX_TRY_LEMMAS, PredecessorCount};
+pub use counting::{Aim, MAX_LEMMAS, MAX_LISTED, MAX_TRY_LEMMAS, MAX_TRY_LISTED, PredecessorCount};
 pub use deck::{FEW_ITEMS, WEIGHT};
+pub use enough::{EnoughItems, Verdict};
 pub use item_lines::mixed_lines;
-pub use lists::{MAX_LISTED_BITS, MAX_OTHERS, MomentCount, count_lists};
+pub use lists::{MAX_LISTED_BITS, MAX_TRY_WIDTH, MomentCount, OTHERS_PART, count_lists};
 pub use signature::signature_text;
-pub use spread::MAX_MOMENTS;
+pub use spread::{FRONT_PART, MAX_MOMENTS, MAX_TRY_MOMENTS};

@@ -1,13 +1,16 @@
 //! The lines on lists.
-ghost use Rattle.std.specs.Prelude.{◌≡◌, ◌≤◌, ◌*◌, ◌^◌, ◌++◌, length, Some, OnOk};
+ghost use Rattle.std.specs.Prelude.{◌≡◌, ◌≤◌, ◌*◌, ◌^◌, ◌++◌, length, OnOk};
 ghost use Rattle.std.specs.List.{flat_map, sum_by};
-ghost use Rattle.bs_inspect_lists.specs.Lines.{count_cut, count_words, counts_words, decimals, enough_line, list_line, lists_line, lists_text, mean_of};
-ghost use Rattle.bs_inspect_lists.specs.MomentCount.{number_of};
+ghost use Rattle.bs_inspect_lists.specs.Lines.{count_words, counts_words, decimals, enough_line, list_line, lists_line, lists_text, mean_of, none_at_words};
+ghost use Rattle.bs_inspect_lists.specs.MomentCount.{count_cut, number_of};
+ghost use Rattle.bs_inspect_lists.specs.declared.enough.EnoughItems.TheVariants.{NoneAt, Number};
 ghost use Rattle.bs_inspect_lists.specs.declared.spread.TheConstants.{MAX_MOMENTS};
 
 use crate::counting::{PredecessorCount, is_cut, number_of};
+use crate::enough::EnoughItems;
 use crate::lists::MomentCount;
 use bs_bits::{NoMemory, end_line, push_line, push_number, push_piece};
+use bs_scan::Moment;
 
 /// Appends what a list counts.
 fn push_count(text: &mut Vec<u8>, count: PredecessorCount) -> Result<(), NoMemory>
@@ -48,7 +51,7 @@ fn sum_of(all: &[MomentCount]) -> u64
 }
 
 /// How many lists were cut.
-fn count_cut(all: &[MomentCount]) -> usize
+pub(crate) fn count_cut(all: &[MomentCount]) -> usize
     ensures { result ≡ count_cut all.now }
 {
     all.iter().filter(|entry| is_cut(entry.count)).count()
@@ -126,19 +129,40 @@ pub(crate) fn push_text(
 
 /// Appends a number of items that is enough.
 fn push_number_line(text: &mut Vec<u8>, count: usize) -> Result<(), NoMemory>
-    ensures { OnOk result (text.new.items ≡ text.old.items ++ enough_line (Some count)) }
+    ensures { OnOk result (text.new.items ≡ text.old.items ++ enough_line (Number count)) }
 {
     push_piece(text, b"enough ")?;
     push_number(text, count as u64)?;
     end_line(text)
 }
 
-/// Appends how many items are enough.
-pub(crate) fn push_enough(text: &mut Vec<u8>, enough: Option<usize>) -> Result<(), NoMemory>
+/// Appends a number of items and a moment.
+fn push_none_at(text: &mut Vec<u8>, count: usize, at: Moment) -> Result<(), NoMemory>
+    ensures { OnOk result (text.new.items ≡ text.old.items ++ none_at_words count at) }
+{
+    push_number(text, count as u64)?;
+    push_piece(text, b" ")?;
+    push_number(text, at.run as u64)?;
+    push_piece(text, b" ")?;
+    push_number(text, at.cycle as u64)
+}
+
+/// Appends that no number is enough, and where the last was given up.
+fn push_none_line(text: &mut Vec<u8>, count: usize, at: Moment) -> Result<(), NoMemory>
+    ensures { OnOk result (text.new.items ≡ text.old.items ++ enough_line (NoneAt count at)) }
+{
+    push_piece(text, b"enough none ")?;
+    push_none_at(text, count, at)?;
+    end_line(text)
+}
+
+/// Appends how many items are enough, or that no number is.
+pub(crate) fn push_enough(text: &mut Vec<u8>, enough: EnoughItems) -> Result<(), NoMemory>
     ensures { OnOk result (text.new.items ≡ text.old.items ++ enough_line enough) }
 {
     match enough {
-        Some(count) => push_number_line(text, count),
-        None => push_line(text, b"enough none"),
+        EnoughItems::Number(count) => push_number_line(text, count),
+        EnoughItems::NoneAt(count, at) => push_none_line(text, count, at),
+        EnoughItems::NoneRead => push_line(text, b"enough none"),
     }
 }

@@ -7,11 +7,14 @@ ghost use Rattle.bs_scan.specs.Choice.{depth_of};
 ghost use Rattle.bs_scan.specs.Crash.{recording_of};
 ghost use Rattle.bs_scan.specs.Moments.{IsMoment};
 ghost use Rattle.bs_preimage.specs.Preimage.{fresh};
-ghost use Rattle.bs_inspect_lists.specs.MomentCount.{AreMomentCounts, IsMomentCount, room_of};
-ghost use Rattle.bs_inspect_lists.specs.declared.lists.TheConstants.{MAX_LISTED_BITS, MAX_OTHERS};
+ghost use Rattle.bs_inspect_lists.specs.declared.counting.Aim.TheVariants.{Ones};
+ghost use Rattle.bs_inspect_lists.specs.MomentCount.{AreMomentCounts, IsMomentCount, most_moments, most_others, room_of, taken_of};
+ghost use Rattle.bs_inspect_lists.specs.Spread.{later_moments, moment_taken};
+ghost use Rattle.bs_inspect_lists.specs.declared.lists.TheConstants.{MAX_LISTED_BITS};
+ghost use Rattle.bs_inspect_lists.specs.declared.spread.TheConstants.{MAX_TRY_MOMENTS};
 
 use crate::counting::{Aim, PredecessorCount, count_dump, weight_of};
-use crate::spread::{MAX_MOMENTS, count_later, moment_taken};
+use crate::spread::{MAX_MOMENTS, MAX_TRY_MOMENTS, count_later, moment_taken};
 use bs_bits::{List, NoMemory};
 use bs_chip::Chip;
 use bs_net::Netlist;
@@ -25,9 +28,11 @@ use std::alloc::Global;
 /// A list of a wide netlist takes longer, so there are fewer of them.
 pub const MAX_LISTED_BITS: usize = 1_048_576;
 
-/// With a signature that is enough so many lists may not be of one predecessor. In a run that begins with its reset on, the state of
-/// cycle 1 has lost all bits.
-pub const MAX_OTHERS: usize = 1;
+/// Above so many flip-flops numbers of items are tried at fewer moments, since a list takes longer.
+pub const MAX_TRY_WIDTH: usize = 2_048;
+
+/// With a number of items that is enough, one of so many lists may be of another number of predecessors than one.
+pub const OTHERS_PART: usize = 64;
 
 /// How many bytes the cycles that are kept of the runs may take. An eighth of what a backtrace keeps: few moments are looked at.
 const TRACK_BYTES: usize = 67_108_864;
@@ -73,15 +78,82 @@ fn count_at(
     Ok(MomentCount { moment, count })
 }
 
+/// At how many moments numbers of items are tried.
+fn try_moments(width: usize) -> usize
+    ensures most { result ≡ most_moments Ones width }
+    ensures few { result ≤ MAX_TRY_MOMENTS }
+{
+    if width <= MAX_TRY_WIDTH {
+        MAX_TRY_MOMENTS
+    } else {
+        MAX_MOMENTS
+    }
+}
+
+/// How many moments may be taken, by the number of flip-flops.
+fn most_moments(aim: Aim, width: usize) -> usize
+    ensures most { result ≡ most_moments aim width }
+    ensures few { result ≤ MAX_TRY_MOMENTS }
+{
+    match aim {
+        Aim::Numbers => MAX_MOMENTS,
+        Aim::Ones => try_moments(width),
+    }
+}
+
+/// How many moments are taken.
+#[tactic(auto, using(crate::proofs::MomentCountLemmas::taken_is))]
+pub(crate) fn count_taken(aim: Aim, net: &Netlist, runs: &Runs) -> usize
+    ensures taken { result ≡ taken_of aim (length (circuit net.now).flops) (inputs_of runs.now) }
+    ensures few { result ≤ MAX_TRY_MOMENTS }
+{
+    let all = count_later(runs);
+    let most = most_moments(aim, net.width());
+    all.min(most)
+}
+
+/// The moment with this number that is taken.
+#[tactic(auto, using(crate::proofs::MomentCountLemmas::moment_is, crate::proofs::MomentCountLemmas::number_is))]
+fn moment_of(aim: Aim, net: &Netlist, runs: &Runs, k: usize) -> Moment
+    requires { k < taken_of aim (length (circuit net.now).flops) (inputs_of runs.now) }
+    ensures is { result ≡ moment_taken (most_moments aim (length (circuit net.now).flops)) (later_moments (inputs_of runs.now)) k }
+    ensures moment { IsMoment (inputs_of runs.now) result }
+    ensures later { 1 ≤ result.cycle }
+{
+    let all = count_later(runs);
+    let most = most_moments(aim, net.width());
+    moment_taken(runs, most, all, all.min(most), k)
+}
+
+/// How many lists at so many moments may not be of one predecessor.
+pub(crate) fn most_others(taken: usize) -> usize
+    ensures most { result ≡ most_others taken }
+    ensures few { result ≤ taken }
+{
+    taken / OTHERS_PART
+}
+
 /// How much room there is for all lists: for members, by the number of flip-flops, or for those that are not of one predecessor.
-fn room_of(aim: Aim, width: usize) -> u64
-    ensures room { result ≡ room_of aim width }
+fn room_of(aim: Aim, width: usize, taken: usize) -> u64
+    requires { taken ≤ MAX_TRY_MOMENTS }
+    ensures room { result ≡ room_of aim width taken }
     ensures small { result ≤ MAX_LISTED_BITS }
 {
     match aim {
         Aim::Numbers => (MAX_LISTED_BITS / width.max(1)) as u64,
-        Aim::Ones => MAX_OTHERS as u64 + 1,
+        Aim::Ones => most_others(taken) as u64 + 1,
     }
+}
+
+/// The room by the number of flip-flops and of moments.
+#[tactic(auto, using(crate::proofs::MomentCountLemmas::room_is))]
+fn room_for(aim: Aim, net: &Netlist, runs: &Runs) -> u64
+    ensures room { result ≡ room_of aim (length (circuit net.now).flops) (taken_of aim (length (circuit net.now).flops) (inputs_of runs.now)) }
+    ensures small { result ≤ MAX_LISTED_BITS }
+{
+    let width = net.width();
+    let taken = count_taken(aim, net, runs);
+    room_of(aim, width, taken)
 }
 
 /// The moments that are taken, each with its count, while there is room.
@@ -100,16 +172,15 @@ fn tell_each(
     requires depth { depth_of choice.now ≡ 1 }
     ensures { IfOk result (λ counts. AreMomentCounts aim (circuit net.now) choice.now (inputs_of runs.now) counts.items) }
 {
-    let all = count_later(runs);
-    let count = all.min(MAX_MOMENTS);
-    let room = room_of(aim, net.width());
+    let count = count_taken(aim, net, runs);
+    let room = room_for(aim, net, runs);
     let mut spent = 0u64;
     let mut counts = Vec::new(alloc);
     'moments: for k in 0..count {
         if spent >= room {
             return Ok(counts);
         }
-        let moment = moment_taken(runs, all, count, k);
+        let moment = moment_of(aim, net, runs, k);
         let one = count_at(alloc, aim, chip, preimage, net, choice, runs, moment)?;
         spent += weight_of(aim, one.count);
         counts.push(one)?;
@@ -198,9 +269,10 @@ fn tell_on(
     counts
 }
 
-/// At `MAX_MOMENTS` moments of the runs behind reset, or at all where these are fewer: how many predecessors the state has that
-/// agree with the stored signature. For numbers no further one is counted where the lists before have `MAX_LISTED_BITS`; for ones
-/// where more than `MAX_OTHERS` before are not of one predecessor. The lists share one search, whose log grows by a block for each member.
+/// At `MAX_MOMENTS` moments of the runs behind their fronts, or at all where these are fewer: how many predecessors the state has that
+/// agree with the stored signature. No further one is counted where the lists before have `MAX_LISTED_BITS`. For ones these are
+/// `MAX_TRY_MOMENTS` moments, and no further one is counted where a list before was cut, or more than one of `OTHERS_PART` are not of one
+/// predecessor. The lists share one search, whose log grows by a block for each member.
 pub fn count_lists(
     alloc: Global,
     aim: Aim,

@@ -1,8 +1,8 @@
 //! Limits that no row comes to are these numbers, so that a change of one is seen here.
 ghost use Rattle.std.specs.Prelude.{◌≡◌};
-ghost use Rattle.bs_inspect_lists.specs.declared.counting.TheConstants.{MAX_LEMMAS, MAX_LISTED, MAX_TRY_LEMMAS};
-ghost use Rattle.bs_inspect_lists.specs.declared.lists.TheConstants.{MAX_LISTED_BITS, MAX_OTHERS};
-ghost use Rattle.bs_inspect_lists.specs.declared.spread.TheConstants.{MAX_MOMENTS};
+ghost use Rattle.bs_inspect_lists.specs.declared.counting.TheConstants.{MAX_LEMMAS, MAX_LISTED, MAX_TRY_LEMMAS, MAX_TRY_LISTED};
+ghost use Rattle.bs_inspect_lists.specs.declared.lists.TheConstants.{MAX_LISTED_BITS, MAX_TRY_WIDTH, OTHERS_PART};
+ghost use Rattle.bs_inspect_lists.specs.declared.spread.TheConstants.{FRONT_PART, MAX_MOMENTS, MAX_TRY_MOMENTS};
 ghost use Rattle.bs_inspect_lists.specs.declared.deck.TheConstants.{FEW_ITEMS, WEIGHT};
 ghost use Rattle.bs_encode.specs.declared.encoding.TheConstants.{MAX_ACTIVATIONS};
 ghost use Rattle.bs_solve_reduction.specs.declared.rule.TheConstants.{SHORT, MOST_LONG};
@@ -20,9 +20,13 @@ pub fn limits_are()
     ensures listed { MAX_LISTED ≡ 256 }
     ensures listed_bits { MAX_LISTED_BITS ≡ 1048576 }
     ensures lemmas { MAX_LEMMAS ≡ 10000 }
-    ensures try_lemmas { MAX_TRY_LEMMAS ≡ 2000 }
+    ensures try_lemmas { MAX_TRY_LEMMAS ≡ 1000 }
+    ensures try_listed { MAX_TRY_LISTED ≡ 16 }
     ensures moments { MAX_MOMENTS ≡ 64 }
-    ensures others { MAX_OTHERS ≡ 1 }
+    ensures try_moments { MAX_TRY_MOMENTS ≡ 256 }
+    ensures try_width { MAX_TRY_WIDTH ≡ 2048 }
+    ensures front { FRONT_PART ≡ 8 }
+    ensures others { OTHERS_PART ≡ 64 }
     ensures weight { WEIGHT ≡ 3 }
     ensures few_items { FEW_ITEMS ≡ 6 }
 

@@ -3,7 +3,6 @@ use Rattle.bs_net.specs.Netlist.{circuit}
 use Rattle.bs_stim.specs.Runs.{inputs_of}
 use Rattle.bs_chip.specs.Stepped.{Stepped}
 use Rattle.bs_preimage.specs.Preimage.{PreimageState}
-use Rattle.bs_inspect_lists.specs.MomentCount.{room_of}
 use Rattle.bs_inspect_lists.proofs.MomentCountLemmas.{tells_more, tells_none}
 use Rattle.bs_inspect_lists.proofs.lists.tell_each.Goals as goal
 
@@ -24,7 +23,7 @@ moments-preserved c = record {
   calls = omega (arith, c.in_ok-one.ensures.calls, c.moments.invariant.calls);
   so =
       tells_more c.args.aim (circuit c.args.net.now) c.args.choice.now (inputs_of c.args.runs.now) c.moments.counts.items c.push.new.self.items c.in_ok-one.one
-      c.moment_taken-moment.result c.moments.spent c.weight_of-spent.result c.room_of-room.result c.moments.k c.moments.invariant.so
-      c.in_ok-one.ensures.counts c.in_ok-one.ensures.moment c.moment_taken-moment.ensures.is c.weight_of-spent.ensures.weight
-      (omega (arith, c.if-spent-room.false)) (c.room_of-room.ensures.room ∙ ap (room_of c.args.aim) c.width.ensures) c.in_ok-push.ensures.items;
+      c.moment_of-moment.result c.moments.spent c.weight_of-spent.result c.room_for-room.result c.moments.k c.moments.invariant.so
+      c.in_ok-one.ensures.counts c.in_ok-one.ensures.moment c.moment_of-moment.ensures.is c.weight_of-spent.ensures.weight
+      (omega (arith, c.if-spent-room.false)) c.room_for-room.ensures.room c.in_ok-push.ensures.items;
 }
