@@ -178,7 +178,7 @@ def length_note(steps, lists=0):
 def help_note():
     commands = "".join(f"{USAGES[command]}\nwrites {what}\n" for command, what in WRITES.items())
     others = "`backspace_inspect help` tells how the commands are used that make and show its files"
-    return said("the commands of `backspace`; options stand anywhere behind a command") + commands + said(others)
+    return said("backspace 1", "the commands of `backspace`; options stand anywhere behind a command") + commands + said(others)
 
 
 def output_note(lines, reason):
@@ -287,6 +287,9 @@ def words(it):
         ([*run, "e", "--steps", "5", "--candidates", "3"], "the number of words by position behind the command is 5; a file name with a space in it stands in quotes", "run"),
         ([*run, "--step", "5"], "word 6, `--step`, is no option of this command", "run"),
         ([*run, "--steps", "5", "--candidates", "3", "--conflict", "7"], "word 10, `--conflict`, is no option of this command", "run"),
+        ([*run, "--clock", "ck"], "word 6, `--clock`, is an option of the program `backspace_inspect`", "run"),
+        (["audit", "--only=q1", *FOUR, "r.txt"], "word 2, `--only=q1`, is an option of the program `backspace_inspect`", "audit"),
+        ([*run, "--clocks", "ck"], "word 6, `--clocks`, is no option of this command", "run"),
         ([*run, "--steps", "0"], f"word 6, `--steps`, {value}", "run"),
         ([*run, "--steps=65537"], f"word 6, `--steps=65537`, {value}", "run"),
         ([*run, "--steps", "01"], f"word 6, `--steps`, {value}", "run"),
@@ -304,10 +307,8 @@ def words(it):
     ]
     for given, sentence, usage in wrong:
         it.tried("backspace", given, 2, "refused words\n", said(sentence, USAGES.get(usage, ALL_USAGES)))
-    for given in (["help"], ["-h"], ["--help"], ["help", "run"]):
+    for given in (["help"], ["-h"], ["--help"], ["help", "run"], ["version"], ["-V"], ["--version"], ["--version", "n.v"]):
         it.tried("backspace", given, 2, "refused words\n", help_note())
-    for given in (["version"], ["-V"], ["--version"], ["--version", "n.v"]):
-        it.tried("backspace", given, 2, "refused words\n", said("backspace 1"))
     it.tried("backspace", [b"run", b"\xff.v"], 2, "", said("the words of the command line are no text in UTF-8", ALL_USAGES))
     it.tried("backspace_inspect", [b"flops", b"\xff.v"], 2, "", said("the words of the command line are no text in UTF-8", HELP))
     return report
@@ -935,7 +936,7 @@ def many_runs(it):
     # one byte more than a stimulus may have
     with open(f"{it.room}/busy.t", "ab") as file:
         file.write(b"\n")
-    note = said("busy.t: the file has more bytes than a stimulus may have: 67108864")
+    note = said("busy.t: the file has more bytes than a stimulus may have: 67108864; is it another file, which stands in the wrong place?")
     it.tried("backspace", ["run", *four], 8, "refused stimulus TooLong\n", note)
     os.remove(f"{it.room}/busy.t")
 
@@ -1117,8 +1118,47 @@ def counted(count):
     return f"the number of words by position behind the command is {count}; a file name with a space in it stands in quotes, and --only takes every word up to the next option"
 
 
+def empty_window(states):
+    """The note on a window that has no state of a trace of so many."""
+    return said(
+        f"none of the states that are asked for is one of the trace, which has so many: {states}",
+        "--from and --to count the states from 0, and --last keeps only as many as it says, from the end")
+
+
 def foreign(number, word):
     return f"word {number}, `{word}`, is no option of this command"
+
+
+def valueless(number, word):
+    return f"word {number}, `{word}`, has no value; one that begins with `-` stands in the same word, behind a `=`"
+
+
+def again(number, word):
+    return f"word {number}, `{word}`, is given a second time"
+
+
+def second_moment(number, word):
+    return f"word {number}, `{word}`, says the moment a second time: `--cycle N` or `--time T` stands once"
+
+
+# what a line of `cnf` and `lrat` that begins so means
+REJECTIONS = {
+    "format": ("the report has another depth than the signature", "is it the signature file of this very report?"),
+    "stop": ("there are more steps, or lengths, than were asked for", "is the file unchanged?"),
+    "step": ("the present state, or a signature, of the step with this number has another width", "is it the report of this netlist and this signature?"),
+    "nostep": ("the report has no step of the number behind --step, or the length behind --length was not tried", "`steps` tells the steps of a report"),
+    "log": (
+        "the line of the log with this number, from 1, is the first that does not follow from those before it",
+        "is it of this netlist and this signature or state, and unchanged?"),
+    "unfinished": (
+        "the log does not finish this list or length, so that it does not show that there is no more",
+        "a list that was cut is not finished: `steps` tells how each ended"),
+}
+
+
+def rejection(line):
+    """The note on a line `rejected ..` of evidence."""
+    return said(*REJECTIONS[line.split()[0]])
 
 
 # by hand, of the cycles 77 to 84 of run 1 and the dump
@@ -1210,7 +1250,7 @@ def companion(it):
     tell = lambda words, code, out, note="": it.tried("backspace_inspect", words, code, out, note)
     text = example_files(it)
     for word in ("help", "-h", "--help"):
-        tell([word], 0, "".join(f"usage: backspace_inspect {usage}\n" for usage in COMPANION.values()))
+        tell([word], 0, "backspace_inspect 1\n" + "".join(f"usage: backspace_inspect {usage}\n" for usage in COMPANION.values()))
     for word in ("version", "-V", "--version"):
         tell([word], 0, "backspace_inspect 1\n")
     for name in ("yosys", "counter", "shift", "s27", "toggle"):
@@ -1270,7 +1310,7 @@ def companion(it):
         ("--from 0 --to 65536 --last 65536", places), ("--last 3", places), ("--last=1", asked), ("--last 2", passed + asked), ("--to 0", reset),
         ("--from 1 --to 1", passed), ("--from 2", asked), ("--from 3", ""), ("--from 2 --to 1", ""), ("--to 1 --last 2", passed), ("--to 0 --last 2", ""),
     ):
-        tell(["trace", "chain.v", "chain.txt", *given.split()], 0, wanted)
+        tell(["trace", "chain.v", "chain.txt", *given.split()], 0, wanted, "" if wanted else empty_window(3))
     tell(["trace", "chain.v", "chain.txt", "--last", "2", "--all"], 0, "1 state passed\n1 flop q0 = 1\n1 flop q1 = 0\n1 input a = 1\n2 state asked\n2 flop q0 = 1\n2 flop q1 = 1\n")
     rows = ["state,from,run,cycle,q0,q1,a\n", "0,reset,,,0,0,1\n", "1,passed,,,1,0,1\n", "2,asked,,,1,1,\n"]
     tell(["trace", "chain.v", "chain.txt", "--csv"], 0, "".join(rows))
@@ -1383,6 +1423,8 @@ def companion_refusals(it):
     for command in ("run", "audit", "reach", "demo"):
         tell([command, net], 2, "refused words\n", said(f"word 1, `{command}`, is a command of the program `backspace`", "`backspace help` tells how the words of its commands stand"))
     tell(["trace", net, report, "--onyl", "q"], 2, "refused words\n", said("word 4, `--onyl`, is no option; the nearest: `--only`", f"usage: backspace_inspect {COMPANION['trace']}"))
+    for given in (["--conflicts", "5"], ["--candidates=5"]):
+        tell(["trace", net, report, *given], 2, "refused words\n", said(f"word 4, `{given[0]}`, is an option of the program `backspace`", f"usage: backspace_inspect {COMPANION['trace']}"))
     for given, why in (
         (["trace", net], counted(1)),
         (["trace", "--only", "count", net, report], counted(0)),
@@ -1398,10 +1440,20 @@ def companion_refusals(it):
         (["candidates", net, report, "--csv"], foreign(4, "--csv")),
         (["trace", net, report, "--last", "0"], "word 4, `--last`, wants a number in digits from 1 to 65536"),
         (["trace", "--to=65537", net, report], "word 2, `--to=65537`, wants a number in digits from 0 to 65536"),
-        (["trace", net, report, "--from", "1", "--from", "2"], STAND),
+        (["trace", net, report, "--from", "1", "--from", "2"], again(6, "--from")),
+        (["trace", "--csv", net, report, "--csv"], again(5, "--csv")),
+        (["trace", net, report, "--csv=1"], "word 4, `--csv=1`, gives a value to an option that takes none"),
+        (["trace", net, report, "--only"], valueless(4, "--only")),
+        (["check", net, "t", vcd, "--clock"], valueless(5, "--clock")),
+        (["check", net, "t", vcd, "--clock", "ck", "--scope", "--map", "m"], valueless(7, "--scope")),
+        (["check", net, "t", vcd, "--map", "m", "--clock=ck", "--map=n"], again(8, "--map=n")),
+        (["dump", net, vcd, "--cycle", "3", "--time", "30"], second_moment(6, "--time")),
+        (["dump", "--time=30", net, vcd, "--cycle=3"], second_moment(5, "--cycle=3")),
+        (["dump", net, vcd, "--cycle", "3", "--cycle", "3"], second_moment(6, "--cycle")),
         (["novel", net, "t", "300"], "RUN, `300`, wants a number in digits from 1 to 256"),
         (["novel", "--most", "5", net, "t", "01"], "RUN, `01`, wants a number in digits from 1 to 256"),
-        (["stimulus", net, *[vcd] * 257, "--clock", "ck"], STAND),
+        (["stimulus", net, *[vcd] * 257, "--clock", "ck"], counted(258)),
+        (["check", net, "t", *[vcd] * 257], counted(259)),
         (["signature", net, "ex/yosys/stimulus.txt"], "`--bits N` is missing: how many bits the signature has"),
         (["stimulus", net, vcd], "`--clock NAME` is missing: the name that the clock has in the simulation"),
         (["dump", net, vcd], "`--cycle N` or `--time T` is missing: the moment of the dump"),
@@ -1414,7 +1466,7 @@ def companion_refusals(it):
         (["why", net, report, "count", "--at", "x"], "word 5, `--at`, wants a number in digits from 0 to 65536"),
         (["why", net, report, "count", "--depth=257"], "word 5, `--depth=257`, wants a number in digits from 1 to 256"),
         (["novel", net, "t", "1", "--at", "70000"], foreign(5, "--at")),
-        (["dump", net, vcd, "--cycle", "1", "--signature"], STAND),
+        (["dump", net, vcd, "--cycle", "1", "--signature"], valueless(6, "--signature")),
         (["reach-cnf", "--length", "1", net, "0", "a"], "`--length J` stands behind the files, and J is a word of its own"),
         (["reach-lrat", net, "0", "a", "--length=1"], "`--length J` stands behind the files, and J is a word of its own"),
     ):
@@ -1430,12 +1482,23 @@ def companion_refusals(it):
     tell(["why", net, report, "cuont"], 18, "refused name NoNet cuont\n", said(
         "no net or vector of nets has the name `cuont`; the nearest: `count[1]` `count[0]`",
         "`flops` and `inputs` tell keys; the name of a vector without an index names its bits"))
-    tell(["why", net, report, "take"], 11, "rejected input\n")
-    tell(["why", net, report, "count", "--at", "9"], 11, "rejected moment\n")
+    tell(["why", net, report, "take"], 11, "rejected input\n", said(
+        "the name is that of data inputs, of the clock, or of nets without a driver: nothing forces them", "ask for a flip-flop, or for the net of a gate"))
+    tell(["why", net, report, "count", "--at", "9"], 11, "rejected moment\n", said(
+        "the trace has no state with the number behind --at", "its states count from 0: `trace` tells them"))
+    # the trace of the report has 9 states: windows without any
+    empty = empty_window(9)
+    for window in (["--from", "9"], ["--from", "5", "--to", "4"], ["--to", "6", "--last", "2"]):
+        tell(["trace", net, report, *window], 0, "", empty)
+    tell(["trace", net, report, "--csv", "--only", "count", "--from", "9"], 0, "state,from,run,cycle,count[1:0]\n", empty)
     state = "state 1011011011100110001101011000000000001\ninput 10"
     it.write("changed.txt", text[report].replace(state, state.replace("01\n", "00\n"), 1))
-    tell(["why", net, "changed.txt", "count"], 11, "rejected trace 0\n")
-    for given, why in ((["why", net, report], counted(2)), (["why", net, report, "count", "--flops", "--flops"], STAND)):
+    astray = said(
+        "changed.txt: state 0 of the trace does not lead to the next one under its input",
+        "is it the report of this very netlist? `backspace audit` says where a report fails")
+    for words in (["why", net, "changed.txt", "count"], ["trace", net, "changed.txt"], ["gtkw", net, "changed.txt", "t.vcd"]):
+        tell(words, 10, "refused report TraceStep 0\n", astray)
+    for given, why in ((["why", net, report], counted(2)), (["why", net, report, "count", "--flops", "--flops"], again(6, "--flops"))):
         tell(given, 2, "refused words\n", said(why, f"usage: backspace_inspect {COMPANION['why']}"))
     answers(it, tell)
     scopes = "the scopes: `tb` `tb.dut` `tb.send` `tb.take_after`"
@@ -1718,7 +1781,7 @@ def unlisted(it, command):
     """What a report is rejected for."""
     def rejects(text, line, *words, signature="s.txt"):
         it.write("er.txt", text)
-        it.tried("backspace_inspect", [command, "n.v", signature, "er.txt", *words], 11, f"rejected {line}\n")
+        it.tried("backspace_inspect", [command, "n.v", signature, "er.txt", *words], 11, f"rejected {line}\n", rejection(line))
 
     with open(f"{it.room}/r.txt") as file:
         report = file.read()
@@ -1747,7 +1810,7 @@ def unlisted(it, command):
     it.write("cut.v", LISTS["behind"][0][0])
     it.write("none.txt", "")
     it.write("er.txt", shown["behind"])
-    it.tried("backspace_inspect", [command, "cut.v", "none.txt", "er.txt", "--step", "1"], 11, "rejected unfinished\n")
+    it.tried("backspace_inspect", [command, "cut.v", "none.txt", "er.txt", "--step", "1"], 11, "rejected unfinished\n", rejection("unfinished"))
     for words in ([], ["--step", "1"]):
         rejects(SPENT, "unfinished", *words)
     bare = lines_of("backspace 1, asked 64 candidates 256 conflicts 100000, stop reset, trace 0, state 00, log 0, end")
@@ -1765,6 +1828,8 @@ def unrefuted(it, command):
     """What an answer of `reach` is rejected for, or its state refused."""
     def answers(text, code, line, *words, state="11", note=""):
         it.write("ea.txt", text)
+        if code == 11:
+            note = rejection(line.removeprefix("rejected "))
         it.tried("backspace_inspect", [command, "chain.v", state, "ea.txt", *words], code, f"{line}\n", note)
 
     answers(CHAIN_ANSWER, 11, "rejected nostep", "--length", "3")
@@ -1786,7 +1851,7 @@ def unrefuted(it, command):
     answers(none, 11, "rejected unfinished", state="00")
     answers(none, 11, "rejected nostep", "--length", "1", state="00")
     # for another state the lemma follows and ends no length
-    it.tried("backspace_inspect", [command, "keeper.v", "0", "keeper.txt"], 11, "rejected log 3 BadEnd\n")
+    it.tried("backspace_inspect", [command, "keeper.v", "0", "keeper.txt"], 11, "rejected log 3 BadEnd\n", rejection("log 3 BadEnd"))
     # a block is no line of an answer
     block = CHAIN_ANSWER.replace("17 -6 0 4 11 0", "b 17 -13 -3 0")
     answers(block, 10, "refused report Line 11", note=at_place("ea.txt", block, block.index("b 17"), *ANSWER_FORM))
@@ -1827,12 +1892,12 @@ def unread(it, command, files, kinds, option, most):
     for given, why in (
         (files[:2], counted(2)),
         ([*files, "x"], counted(4)),
-        ([*files, option, "1", option, "1"], STAND),
+        ([*files, option, "1", option, "1"], again(7, option)),
         ([*files, "--all"], foreign(5, "--all")),
         ([*files, other, "1"], foreign(5, other)),
     ):
         tell(given, 2, "refused words\n", said(why, usage))
-    tell([*files, option, str(most)], 11, "rejected nostep\n")
+    tell([*files, option, str(most)], 11, "rejected nostep\n", rejection("nostep"))
     for number in ("0", str(most + 1), "01", "x"):
         tell([*files, option, number], 2, "refused words\n", said(f"word 5, `{option}`, wants a number in digits from 1 to {most}", usage))
     if kinds[1] is None:
@@ -1888,7 +1953,10 @@ def pages(it):
         ("conflicts", "n.v", "spent.r", [step(1, 0, "conflicts"), last("1+", 0), row("q0", "1"), row("q1", "1")]),
     ):
         shows(it, netlist, name, ["<title>Steps back from the crash: 1</title>", f"<p>Stop <b>{stop}</b>: ", audit_words(netlist, name), *wanted], ["reach-"])
-    shows(it, "n.v", "r.txt", ["<title>Steps back from the crash: 3</title>", "<p>Stop <b>reset</b>: ", audit_words("n.v", "r.txt")], ["The last list", "reach-"])
+    # the states of the trace are 00, 10, 11, 11: each cell has the value of its first moment
+    cells = "<tr><th scope='row'>q0</th><td class='l'><b>0</b></td><td class='h' colspan='3'><b>1</b></td></tr>\n"
+    cells += "<tr><th scope='row'>q1</th><td class='l' colspan='2'><b>0</b></td><td class='h' colspan='2'><b>1</b></td></tr>\n"
+    shows(it, "n.v", "r.txt", ["<title>Steps back from the crash: 3</title>", "<p>Stop <b>reset</b>: ", audit_words("n.v", "r.txt"), cells], ["The last list", "reach-"])
     commands = "<pre>backspace reach chain.v STATE CYCLES --conflicts 9\nbackspace_inspect reach-cnf chain.v STATE chain.txt\nbackspace_inspect reach-lrat chain.v STATE chain.txt\n</pre>"
     heads = "".join(f"<th scope='col'{end}>{word}</th>" for word, end in (("cycle", ""), ("0", ""), ("1", ""), ("2", " class='x'")))
     shows(it, "chain.v", "chain.txt", ["<title>Cycles from reset: 2</title>", "is <b>reached</b>", commands, heads], ["backspace audit", "The last list", "Stop <b>", "class='. u'"])
@@ -1955,7 +2023,11 @@ def signed_pages(it):
         "other.s", "bit q2\n", 4, "no flip-flop has the key `q2`, the name of its output net", nearest("q0", "q1")))
     code, out, note = it.run("backspace_inspect", ["page", "n.v", "r.txt", "--signature", "s.txt", "--only", "q7"])
     same("page: a name behind a signature", "18 refused name Unknown q7\n", f"{code} {out.decode()}")
-    for given, why in ((["--signature"], STAND), (["--signature", "s.txt", "--signature", "s.txt"], STAND), (["--signature", "s.txt", "x"], counted(3))):
+    for given, why in (
+        (["--signature"], valueless(4, "--signature")),
+        (["--signature", "s.txt", "--signature", "s.txt"], again(6, "--signature")),
+        (["--signature", "s.txt", "x"], counted(3)),
+    ):
         tell(["n.v", "r.txt", *given], 2, "refused words\n", said(why, usage))
 
 
@@ -2164,6 +2236,17 @@ def told(it):
     tell(["dump", "n.v", "u.vcd", "--cycle", "1"], 16, "refused vcd NoInput q1\n", said(
         "u.vcd: no variable in the clock's scope is the flip-flop `q1`, by the name `q1`; the nearest: `q0`",
         "the design's scope stands behind --scope; where names are others, a file of lines KEY NAME behind --map; a memory's word is dumped where `$dumpvars` names it"))
+    # q1 is no variable: in a partial dump `-` stands for it, but not in the state of which a signature is taken
+    absent = said(
+        "so many flip-flops are not in the simulation, and `-` stands for each of them: 1",
+        "`check` tells their names; where they are there, --scope and --map say where")
+    tell(["dump", "n.v", "u.vcd", "--cycle", "1", "--partial"], 0, "state 0-\n", absent)
+    tell(["dump", "n.v", "u.vcd", "--cycle", "0", "--partial"], 0, "state --\n", absent)
+    code, out, note = it.run("backspace_inspect", ["dump", "n.v", "u.vcd", "--cycle", "1", "--partial", "--signature", "s.txt"])
+    same("a flip-flop that is missing before a signature", "16 refused vcd Unknown q", f"{code} {out.decode()[:21]}")
+    it.write("u.vcd", CHANGES.replace(" q0 $end", " r0 $end").replace(" q1 $end", " r1 $end"))
+    code, out, note = it.run("backspace_inspect", ["dump", "n.v", "u.vcd", "--cycle", "1", "--partial"])
+    same("a partial dump without any flip-flop", "16 refused vcd NoInput q0\n", f"{code} {out.decode()}")
     novelties(it, tell)
     neighbours(it, tell)
     instances(it, tell)
@@ -2343,7 +2426,7 @@ def memory(it):
 def limits(it):
     """Files of as many bytes as they may have, and of one more."""
     report = base_files(it)
-    long = lambda name, kind, most: said(f"{name}: the file has more bytes than a {kind} may have: {most}")
+    long = lambda name, kind, most: said(f"{name}: the file has more bytes than a {kind} may have: {most}; is it another file, which stands in the wrong place?")
     # a netlist whose text stands at its very end
     for size in (16 * MIB, 16 * MIB + 1):
         it.write("x.v", " " * (size - len(NETLIST)) + NETLIST)

@@ -3,7 +3,7 @@
 #
 # Makes a netlist that backspace reads out of Verilog files, with yosys (0.23 was tried). The modules stay as they are, unless
 # --flat makes one of them. With --names, which makes one of them too, nets that the sources name keep their names. A file whose
-# name ends in .sv is read as SystemVerilog. docs/OWN_CHIP.md tells what each step is for. What has no meaning in such a netlist is refused by its names in the sources.
+# name ends in .sv is read as SystemVerilog. What has no meaning in such a netlist is refused by its names in the sources.
 set -eu
 
 flatten=
@@ -105,6 +105,15 @@ awk '
     }
 ' "$work/modules" "$work/modules" > "$work/ties"
 
+# The steps:
+#   synth -nordff -nofsm        gates and flip-flops: memories become flip-flops, a state machine keeps its register
+#   dffunmap, dfflegalize       all flip-flops on the rising edge, with their initial value; enables and synchronous resets stay
+#                               in them as dffe and dffr (one with both keeps its reset), synchronous sets become gates
+#   abc -g ..                   only gates that Verilog has as primitives
+#   setundef -undriven -zero    a net without a driver would be refused as Undriven
+#   insbuf -buf bs_obuf A Y     an output that is a flip-flop's net or an input gets its own buf, so the register keeps its name
+#   techmap -map bs_map.v       yosys's cells become primitives, dff, and dffs where they begin at 1
+#   splitnets -ports            without --flat: vectors joined by concatenations are not read
 echo 'module bs_obuf (input A, output Y); endmodule' > "$work/buffer.v"
 run << END
 hierarchy -check -top $top

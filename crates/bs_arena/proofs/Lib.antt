@@ -5,3 +5,11 @@ pub mod Places
 pub mod Names
 pub mod Spellings
 pub mod Splits
+-- options and lists
+pub mod Gets
+-- a heap and its places
+pub mod Fitting
+-- the order by activity
+pub mod Sorting
+-- what callers need
+pub mod CallerLemmas

@@ -1,18 +1,29 @@
-//! A clause arena: every clause of a run in one vector of words.
+//! What propagation stands on: a clause arena, with every clause of a run in one vector of words, and the
+//! order in which a search decides, the most active of the variables that may be open first.
 //!
-//! Modules: `header` (the four words before a clause's literals: two of its id, its length, live or
-//! dead), `arena` (`Arena`), `compaction` (live clauses move down in place), `renaming`
-//! (`Renaming`, new references by halves), `reference` (`Ref`, which the arena alone makes). Used
-//! above: contracts see the live clauses in order, the words in use and to spare; `Arena::compact`
-//! with `Renaming::get` carries references over. The header: `specs/Words`.
+//! Of the arena: `header` (the four words before a clause's literals: two of its id, its length, live or
+//! dead), `arena` (`Arena`), `compaction` (live clauses move down in place), `renaming` (`Renaming`, new
+//! references by halves), `reference` (`Ref`, which the arena alone makes). Used above: contracts see the
+//! live clauses in order, the words in use and to spare; `Arena::compact` with `Renaming::get` carries
+//! references over. The header: `specs/Words`.
+//!
+//! Of the order: `heap` (a binary heap of variables, with the place of each in it), `order` (`Order`:
+//! activities, raised where analysis sees a variable and scaled together), `value` (a variable's value by
+//! literal code). Used above: `Order::first_open` gives a variable without a value, or none where all have
+//! one. Which comes first, the most active, is for speed alone, and no contract of the solver rests on it.
+//! Calls but `new` and `grow` take no memory.
 #![tactic(auto)]
 
 mod arena;
 mod compaction;
 mod header;
+mod heap;
+mod order;
 mod reference;
 mod renaming;
+mod value;
 
 pub use arena::Arena;
+pub use order::Order;
 pub use reference::{Ref, WORD_LIMIT};
 pub use renaming::Renaming;

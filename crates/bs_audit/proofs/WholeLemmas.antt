@@ -10,8 +10,8 @@ use Rattle.std.proofs.lemmas.List.Elements.{All-from_recursion, All-weaker, recu
 use Rattle.bs_clause.specs.Literal.{Clause}
 use Rattle.bs_log.specs.FirstRefused.{first_refused}
 use Rattle.bs_log.specs.Shown.{Basis}
-use Rattle.bs_seen.specs.declared.seen.Seen.{Seen}
-use Rattle.bs_seen.proofs.SeenLemmas.{seen_is}
+use Rattle.bs_scan.specs.declared.seen.Seen.{Seen}
+use Rattle.bs_scan.proofs.SeenLemmas.{seen_is}
 use Rattle.bs_net.specs.Circuit.{Circuit}
 use Rattle.bs_scan.specs.Choice.{Chosen, depth_of, IsDepth}
 use Rattle.bs_scan.specs.Moments.{Moment, Run, run_of, state_of, state_at, first_moment}

@@ -7,7 +7,7 @@ use Rattle.bs_log.specs.declared.why.Why.{Why}
 use Rattle.bs_log.specs.FirstRefused.{first_refused}
 use Rattle.bs_log.specs.Shown.{Basis}
 use Rattle.bs_log.specs.Steps.{lemma_of_line}
-use Rattle.bs_seen.specs.declared.seen.Seen.{Seen}
+use Rattle.bs_scan.specs.declared.seen.Seen.{Seen}
 use Rattle.bs_net.specs.Circuit.{Circuit}
 use Rattle.bs_scan.specs.Present.{Present, present_in}
 use Rattle.bs_encode.specs.Encoded.{Encoded}

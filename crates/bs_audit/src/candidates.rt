@@ -3,7 +3,7 @@ ghost use Rattle.std.specs.Prelude.{◌≡◌, ◌<◌, ◌+◌, ◌-◌, ◌^�
 ghost use Rattle.std.specs.Ordering.{bool_cmp, is_lt};
 ghost use Rattle.std.specs.Cmp.Lexicographic.{slice_cmp};
 ghost use Rattle.bs_bits.specs.Bits.{bits_eq};
-ghost use Rattle.bs_seen.specs.Seen.{is_shown};
+ghost use Rattle.bs_scan.specs.Seen.{is_shown};
 ghost use Rattle.bs_net.specs.Circuit.{next, reset_state};
 ghost use Rattle.bs_net.specs.Netlist.{circuit};
 ghost use Rattle.bs_scan.specs.Choice.{depth_of};
@@ -19,8 +19,7 @@ use bs_bits::{Bits, NoMemory};
 use bs_chip::Hit;
 use bs_report::{Before, Budgets, Cand, Step};
 use bs_report_good::Part;
-use bs_scan::Choice;
-use bs_seen::Seen;
+use bs_scan::{Choice, Seen};
 use bs_sim::Sim;
 use std::alloc::Global;
 use std::cmp::Ordering;

@@ -13,8 +13,7 @@ use bs_bits::{Bits, NoMemory};
 use bs_chip::Hit;
 use bs_report::{Budgets, HitLine, ListEnd, Report, Step};
 use bs_report_good::Part;
-use bs_scan::Dump;
-use bs_seen::Seen;
+use bs_scan::{Dump, Seen};
 use std::alloc::Global;
 
 /// What is found of steps: the first part that fails, or the moment at which the next step is due to begin, if there is one.

@@ -7,7 +7,7 @@ ghost use Rattle.bs_audit.specs.Cut.{IsCut, IsUncut};
 use bs_bits::Bits;
 use bs_report::{Report, Step};
 use bs_report_good::input_for;
-use bs_seen::Seen;
+use bs_scan::Seen;
 
 /// The lists without the last one, if that is as wanted.
 fn without_last<'a>(lists: &'a [Bits], last: &Bits) -> Option<&'a [Bits]>

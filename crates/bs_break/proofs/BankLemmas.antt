@@ -9,8 +9,8 @@ use Rattle.std.proofs.lemmas.Bool.{true≢false, eqb-true, cases_eq}
 use Rattle.std.proofs.lemmas.List.{get_or-map, length-map}
 use Rattle.bs_bits.specs.Bits.{bits_eq}
 use Rattle.bs_stim.specs.Packing.{bit_in}
-use Rattle.bs_lanes_planes.specs.Planes.{lane}
-use Rattle.bs_lanes_planes.proofs.PlaneLemmas.{length_lane, lane_at, bit_from}
+use Rattle.bs_lanes.specs.Planes.{lane}
+use Rattle.bs_lanes.proofs.PlaneLemmas.{length_lane, lane_at, bit_from}
 use Rattle.bs_scan.specs.Moments.{is_listed}
 use Rattle.bs_break.specs.Bank.{Banked, Hits, PlaneHits, IsBank}
 use Rattle.bs_break.specs.Masks.{has, shows, Agrees, IsUnion}

@@ -2,7 +2,7 @@
 use Rattle.std.specs.Prelude.{◌≡◌, ℕ, ◌<◌, ◌+◌, ◌*◌, ◌≤◌, Bool, false, not, ◌&&◌, List, All, length, filter}
 use Rattle.std.specs.List.{range_with_len}
 use Rattle.bs_stim.specs.Packing.{bit_in}
-use Rattle.bs_lanes_planes.specs.Planes.{lane}
+use Rattle.bs_lanes.specs.Planes.{lane}
 use Rattle.bs_scan.specs.Moments.{is_listed}
 use Rattle.bs_break.specs.Masks.{has}
 use Rattle.bs_break.specs.Places.{is_shared}

@@ -5,7 +5,7 @@ ghost use Rattle.bs_break.specs.Bank.{Banked, Hits, PlaneHits};
 use crate::masks::{agreeing, agreeing_with_one};
 use crate::places::{places_of, shared_flags};
 use bs_bits::NoMemory;
-use bs_lanes_planes::Plane;
+use bs_lanes::Plane;
 use bs_scan::HasState;
 use std::alloc::Global;
 use std::marker::Model;

@@ -16,7 +16,7 @@ use Rattle.std.proofs.lemmas.List.Sums.{fold-append}
 use Rattle.bs_bits.specs.Bits.{bits_eq}
 use Rattle.bs_net.specs.Circuit.{Circuit}
 use Rattle.bs_stim.specs.Packing.{bit_in}
-use Rattle.bs_lanes_planes.specs.Planes.{lane, bit_place}
+use Rattle.bs_lanes.specs.Planes.{lane, bit_place}
 use Rattle.bs_scan.specs.Moments.{Run, run_of, state_at}
 use Rattle.bs_scan.proofs.SignatureLemmas.{bits_same_is}
 use Rattle.bs_chip.specs.Index.{HasBy, Keeps, NotesLanes, NotesCycle, NotesCycles, HasNoneBefore, IsNoted, IsPaid, is_cycle}

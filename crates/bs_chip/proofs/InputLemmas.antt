@@ -13,8 +13,8 @@ use Rattle.std.proofs.lemmas.Nat.Bits.{bit_at-zero, bit_at_set_same, bit_at_set_
 use Rattle.bs_net.specs.Circuit.{Circuit}
 use Rattle.bs_stim.specs.Packing.{bit_in}
 use Rattle.bs_stim.specs.Runs.{Recorded, Stimulus, IsRecorded, IsStimulus, inputs_of, no_run, run_at}
-use Rattle.bs_lanes_planes.specs.Planes.{bit_place}
-use Rattle.bs_lanes_planes.proofs.PlaneLemmas.{bit_from}
+use Rattle.bs_lanes.specs.Planes.{bit_place}
+use Rattle.bs_lanes.proofs.PlaneLemmas.{bit_from}
 use Rattle.bs_scan.specs.Moments.{Run, run_of}
 use Rattle.bs_scan.proofs.CrashLemmas.{run_inputs}
 use Rattle.bs_break.specs.Masks.{has}

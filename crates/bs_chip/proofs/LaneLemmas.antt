@@ -7,7 +7,7 @@ use Rattle.std.proofs.lemmas.Bool.{cases_eq}
 use Rattle.std.proofs.lemmas.List.FromFn.{fill_by_all}
 use Rattle.bs_stim.specs.Packing.{bit_in}
 use Rattle.bs_stim.proofs.PackingLemmas.{bit_read}
-use Rattle.bs_lanes_planes.specs.Planes.{lane, bit_place}
+use Rattle.bs_lanes.specs.Planes.{lane, bit_place}
 
 pub bit_of_word : (words : List ℕ) (at low : ℕ) → low < 64 → (bit_and (get_or words at 0 / 2 ^ low) 1 == 1) ≡ bit_in words (at * 64 + low)
 bit_of_word words at low small =

@@ -6,7 +6,7 @@ use Rattle.std.specs.Int.{trailing_zeros, w64}
 use Rattle.std.proofs.lemmas.Bool.{cases_eq, cases_lt, and_parts}
 use Rattle.std.proofs.lemmas.Nat.Bits.{bit_at-trailing_zeros, bit_at-zero}
 use Rattle.bs_net.specs.Circuit.{Circuit}
-use Rattle.bs_lanes_planes.specs.Planes.{lane}
+use Rattle.bs_lanes.specs.Planes.{lane}
 use Rattle.bs_scan.specs.Moments.{Run, run_of, is_listed}
 use Rattle.bs_break.specs.Bank.{Banked, Hits}
 use Rattle.bs_break.specs.Masks.{has}

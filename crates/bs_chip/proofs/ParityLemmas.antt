@@ -14,8 +14,8 @@ use Rattle.std.proofs.lemmas.Nat.{row_fits, div-mul-add, mod-mul-add}
 use Rattle.bs_net.specs.Gate.{is_odd}
 use Rattle.bs_stim.specs.Packing.{bit_in}
 use Rattle.bs_lanes.proofs.SettlingLemmas.{odd_more}
-use Rattle.bs_lanes_planes.specs.Planes.{bit_place, lane}
-use Rattle.bs_lanes_planes.proofs.PlaneLemmas.{bit_from, bit_in_xor, lane_at}
+use Rattle.bs_lanes.specs.Planes.{bit_place, lane}
+use Rattle.bs_lanes.proofs.PlaneLemmas.{bit_from, bit_in_xor, lane_at}
 use Rattle.bs_scan.specs.Choice.{Chosen}
 use Rattle.bs_scan.specs.Signature.{parity_of, signature}
 use Rattle.bs_break.specs.Masks.{has}

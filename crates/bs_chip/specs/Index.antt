@@ -4,7 +4,7 @@ use Rattle.std.specs.List.{list_any}
 use Rattle.std.specs.HashMap.{get, HashMap}
 use Rattle.std.specs.Option.{unwrap_or}
 use Rattle.bs_net.specs.Circuit.{Circuit}
-use Rattle.bs_lanes_planes.specs.Planes.{lane}
+use Rattle.bs_lanes.specs.Planes.{lane}
 use Rattle.bs_scan.specs.Moments.{Run, Moment, run_of, state_at}
 use Rattle.bs_chip.specs.declared.index.TheConstants.{MAX_HASHES}
 use Rattle.bs_chip.specs.Lockstep.{wide_of}

@@ -1,7 +1,7 @@
 -- The planes of the data inputs at a cycle.
 use Rattle.std.specs.Prelude.{◌≡◌, ◌≢◌, ℕ, ◌<◌, ◌≤◌, ◌+◌, ◌-◌, ◌*◌, ◌/◌, ◌%◌, Bool, true, false, ◌||◌, List, [], length, slice_index_or}
 use Rattle.bs_net.specs.Circuit.{Circuit}
-use Rattle.bs_lanes_planes.specs.Planes.{lane}
+use Rattle.bs_lanes.specs.Planes.{lane}
 use Rattle.bs_scan.specs.Moments.{Run, run_of}
 use Rattle.bs_break.specs.Masks.{has}
 use Rattle.bs_chip.specs.Live.{lasts}

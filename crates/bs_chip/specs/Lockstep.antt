@@ -4,7 +4,7 @@ use Rattle.bs_net.specs.Circuit.{Circuit}
 use Rattle.bs_net.specs.Netlist.{circuit}
 use Rattle.bs_stim.specs.declared.limits.TheConstants.{MAX_CYCLES}
 use Rattle.bs_stim.specs.Runs.{Stimulus, IsStimulus, inputs_of}
-use Rattle.bs_lanes_planes.specs.Planes.{lane}
+use Rattle.bs_lanes.specs.Planes.{lane}
 use Rattle.bs_lanes.specs.Lanes.{LaneTable}
 use Rattle.bs_scan.specs.Moments.{Run, Moment, run_of, state_at, is_listed}
 use Rattle.bs_break.specs.Bank.{Banked}

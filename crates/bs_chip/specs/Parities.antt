@@ -2,7 +2,7 @@
 use Rattle.std.specs.Prelude.{◌≡◌, ℕ, ◌<◌, ◌+◌, ◌*◌, ◌/◌, ◌%◌, List, [], map, slice_index_or}
 use Rattle.bs_net.specs.Gate.{is_odd}
 use Rattle.bs_stim.specs.Packing.{bit_in}
-use Rattle.bs_lanes_planes.specs.Planes.{bit_place}
+use Rattle.bs_lanes.specs.Planes.{bit_place}
 use Rattle.bs_break.specs.Masks.{has}
 
 -- the mask has the lanes of a word in which an odd number of the item's flip-flops is 1

@@ -1,7 +1,7 @@
 -- What the functions that replay runs promise each other.
 use Rattle.std.specs.Prelude.{◌≡◌, ℕ, List, Bool, slice_get}
 use Rattle.bs_net.specs.Circuit.{Circuit}
-use Rattle.bs_seen.specs.Seen.{whole}
+use Rattle.bs_scan.specs.Seen.{whole}
 use Rattle.bs_scan.specs.declared.dump.Dump.{Dump}
 use Rattle.bs_scan.specs.Choice.{depth_of}
 use Rattle.bs_scan.specs.Register.{Register}

@@ -1,6 +1,6 @@
 //! The hash of a state: a number that equal states share, and other states hardly ever.
 ghost use Rattle.std.specs.Prelude.{◌≡◌, ◌<◌, ◌≤◌, ◌*◌, length, IfOk};
-ghost use Rattle.bs_lanes_planes.specs.Planes.{lane as lane_in};
+ghost use Rattle.bs_lanes.specs.Planes.{lane as lane_in};
 ghost use Rattle.bs_chip.specs.Hashes.{hash_more, hash_of, ListsEach};
 
 use crate::lanes::bit_of;

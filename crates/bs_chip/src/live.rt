@@ -7,7 +7,7 @@ ghost use Rattle.bs_chip.specs.Live.{AreLive, IsLive, IsLiveWord, LastTo};
 ghost use Rattle.bs_chip.specs.Lockstep.{IsLongest};
 
 use bs_bits::NoMemory;
-use bs_lanes_planes::put_bit;
+use bs_lanes::put_bit;
 use bs_stim::{MAX_CYCLES, Runs};
 use std::alloc::Global;
 use std::marker::Model;

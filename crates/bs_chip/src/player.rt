@@ -6,7 +6,7 @@ ghost use Rattle.bs_stim.specs.declared.limits.TheConstants.{MAX_CYCLES};
 ghost use Rattle.bs_stim.specs.Runs.{inputs_of};
 ghost use Rattle.bs_scan.specs.Crash.{IsRecording, recording_of};
 ghost use Rattle.bs_scan.specs.Moments.{IsMoment, moment, run_of, state_of};
-ghost use Rattle.bs_lanes_planes.specs.Planes.{lane};
+ghost use Rattle.bs_lanes.specs.Planes.{lane};
 ghost use Rattle.bs_chip.specs.Lockstep.{wide_of};
 ghost use Rattle.bs_chip.specs.Replay.{Played, in_state};
 

@@ -13,8 +13,8 @@ use Rattle.bs_chip_forward.specs.Independent.{IsIndependent}
 use Rattle.bs_stim.specs.declared.limits.TheConstants.{MAX_CYCLES}
 use Rattle.bs_stim.specs.Packing.{bit_in, HasPut}
 use Rattle.bs_lanes.specs.Lanes.{LaneTable, IsSameTable, AreStepped}
-use Rattle.bs_lanes_planes.specs.Planes.{bit_place, lane}
-use Rattle.bs_lanes_planes.proofs.PlaneLemmas.{lane_at, length_lane}
+use Rattle.bs_lanes.specs.Planes.{bit_place, lane}
+use Rattle.bs_lanes.proofs.PlaneLemmas.{lane_at, length_lane}
 use Rattle.bs_scan.specs.Moments.{Run, moment, IsMoment, run_of, state_at}
 use Rattle.bs_chip_forward.specs.declared.forward.Aim.{Aim}
 use Rattle.bs_chip_forward.specs.declared.forward.NextStateHashes.{NextStateHashes}

@@ -13,11 +13,11 @@ use Rattle.bs_net.specs.Circuit.{Circuit, IsSettled, bit_at, shown, loaded}
 use Rattle.bs_net.specs.Gate.{gate_value, takes}
 use Rattle.bs_net.specs.Order.{IsChecked}
 use Rattle.bs_net.proofs.CallerLemmas.{exactly_one_fits, next_from_fits}
-use Rattle.bs_net_marks.specs.declared.mark.Mark.{Mark}
+use Rattle.bs_net_facts.specs.declared.mark.Mark.{Mark}
 use Rattle.bs_chip_forward.specs.Independent.{IsIndependent}
-use Rattle.bs_net_marks.specs.Marks.{SayNothing, StayHeld, AreSettled, AreShown, flop_mark, is_known}
+use Rattle.bs_net_facts.specs.Marks.{SayNothing, StayHeld, AreSettled, AreShown, flop_mark, is_known}
 use Rattle.bs_chip_forward.specs.Marked.{ShowSame, ShowInput, AreMarked}
-use Rattle.bs_net_marks.proofs.MarkLemmas.{flop_holds, known_same}
+use Rattle.bs_net_facts.proofs.MarkLemmas.{flop_holds, known_same}
 
 -- ---- all nets
 

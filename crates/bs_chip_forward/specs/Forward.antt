@@ -3,7 +3,7 @@ use Rattle.std.specs.Prelude.{◌≡◌, ◌≢◌, ℕ, ◌<◌, ◌≤◌, ◌
 use Rattle.bs_net.specs.Circuit.{Circuit, next}
 use Rattle.bs_stim.specs.declared.limits.TheConstants.{MAX_CYCLES}
 use Rattle.bs_stim.specs.Packing.{bit_in}
-use Rattle.bs_lanes_planes.specs.Planes.{bit_place, lane}
+use Rattle.bs_lanes.specs.Planes.{bit_place, lane}
 use Rattle.bs_scan.specs.Moments.{Run, moment, IsMoment, run_of, state_at}
 use Rattle.bs_chip_forward.specs.declared.forward.Aim.{Aim}
 use Rattle.bs_chip_forward.specs.declared.forward.NextStateHashes.{NextStateHashes}

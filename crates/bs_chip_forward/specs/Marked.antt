@@ -3,8 +3,8 @@ use Rattle.std.specs.Prelude.{◌≡◌, ℕ, ◌<◌, Bool, false, List, length
 use Rattle.bs_net.specs.declared.net.NetId.{NetId}
 use Rattle.bs_net.specs.declared.net.Flop.{Flop}
 use Rattle.bs_net.specs.Circuit.{Circuit, Fits, bit_at}
-use Rattle.bs_net_marks.specs.declared.mark.Mark.{Mark}
-use Rattle.bs_net_marks.specs.Marks.{Hold}
+use Rattle.bs_net_facts.specs.declared.mark.Mark.{Mark}
+use Rattle.bs_net_facts.specs.Marks.{Hold}
 
 -- the flip-flops show the same in both
 abbrev pub ShowSame : List Flop → List Bool → List Bool → Type 0

@@ -3,12 +3,12 @@ ghost use Rattle.std.specs.Prelude.{◌≡◌, length, map, All, IfOk};
 ghost use Rattle.bs_net.specs.Netlist.{circuit};
 ghost use Rattle.bs_net.specs.Parts.{IsFlopPlaced};
 ghost use Rattle.bs_chip_forward.specs.Independent.{IsIndependent};
-ghost use Rattle.bs_net_marks.specs.Marks.{flop_mark, is_known};
+ghost use Rattle.bs_net_facts.specs.Marks.{flop_mark, is_known};
 
 use crate::nets::marks_of;
 use bs_bits::{Bits, NoMemory};
 use bs_net::{Flop, Netlist};
-use bs_net_marks::{Mark, flop_mark, is_known};
+use bs_net_facts::{Mark, flop_mark, is_known};
 use std::alloc::Global;
 
 /// Whether each flip-flop's next bit is known to be the same.

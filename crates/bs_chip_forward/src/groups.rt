@@ -1,6 +1,6 @@
 //! Groups of a state's bits. A state is told by the hash of their parities, which all lanes give at once.
 ghost use Rattle.std.specs.Prelude.{◌≡◌, ◌<◌, ◌≤◌, ◌+◌, ◌*◌, true, false, length, slice_get, slice_index_or, All, IfOk, Some};
-ghost use Rattle.bs_lanes_planes.specs.Planes.{lane as lane_in};
+ghost use Rattle.bs_lanes.specs.Planes.{lane as lane_in};
 ghost use Rattle.bs_scan.specs.Signature.{parity_of};
 ghost use Rattle.bs_chip.specs.Parities.{HaveParities, IsParityWord};
 ghost use Rattle.bs_chip.specs.Hashes.{hash_of, ListsEach};

@@ -8,8 +8,7 @@ ghost use Rattle.bs_chip_forward.specs.Groups.{AreIndependent};
 
 use crate::groups::{groups_of, parity_hashes};
 use bs_bits::{Bits, List, NoMemory};
-use bs_lanes::Lanes;
-use bs_lanes_planes::Planes;
+use bs_lanes::{Lanes, Planes};
 use bs_net::Netlist;
 use std::alloc::Global;
 use std::marker::Model;

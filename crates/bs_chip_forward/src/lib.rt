@@ -5,7 +5,7 @@
 //! of groups of bits), `held` (all runs' next states while the data input is held at a value), `firsts` (for each hash the first
 //! cycle that has it), `forward` (`Forward`, `Aim`). Used above: where `Forward::may_lead` says no, the state of the moment
 //! leads to the present one under no input (`LeadsNowhere` in `specs/Forward`). The flip-flops that `independent_flops` names are such
-//! (`IsIndependent` in `specs/Independent`), and not all that could be: marks (bs_net_marks) are told of gates' inputs' marks alone.
+//! (`IsIndependent` in `specs/Independent`), and not all that could be: marks (bs_net_facts) are told of gates' inputs' marks alone.
 #![tactic(auto)]
 
 mod firsts;

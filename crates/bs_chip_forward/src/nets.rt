@@ -1,12 +1,12 @@
 //! The marks of all nets, in one pass over the gates.
 ghost use Rattle.std.specs.Prelude.{◌≡◌, ◌<◌, length, All, IfOk};
 ghost use Rattle.bs_net.specs.Netlist.{circuit};
-ghost use Rattle.bs_net_marks.specs.Marks.{SayNothing, StayHeld};
+ghost use Rattle.bs_net_facts.specs.Marks.{SayNothing, StayHeld};
 ghost use Rattle.bs_chip_forward.specs.Marked.{ShowSame, ShowInput, AreMarked};
 
 use bs_bits::NoMemory;
 use bs_net::{Flop, NetId, Netlist};
-use bs_net_marks::{Mark, fixed, mark_constants, mark_gates, unmarked};
+use bs_net_facts::{Mark, fixed, mark_constants, mark_gates, unmarked};
 use std::alloc::Global;
 
 /// Marks the outputs of the flip-flops.

@@ -17,7 +17,7 @@ use Rattle.bs_net.specs.declared.net.Flop.{Flop}
 use Rattle.bs_net.specs.declared.net.Const.{Const}
 use Rattle.bs_net.specs.Circuit.{Circuit, number, state_nets, drivers}
 use Rattle.bs_net.specs.Order.{IsChecked}
-use Rattle.bs_seen.specs.Seen.{kept}
+use Rattle.bs_scan.specs.Seen.{kept}
 use Rattle.bs_encode.specs.Tables.{lit}
 use Rattle.bs_encode.specs.Transition.{net_var, item_helpers, item_vars, state_vars, is_tautology, tidied, transition_clauses, table_clauses}
 use Rattle.bs_encode.specs.Encoded.{literals}

@@ -9,7 +9,7 @@ use Rattle.bs_net.specs.declared.net.Mode.{Mode}
 use Rattle.bs_net.specs.declared.net.Mode.TheVariants.{Plain, Enable, Clear}
 use Rattle.bs_net.specs.Circuit.{Circuit}
 use Rattle.bs_scan.specs.Choice.{Chosen}
-use Rattle.bs_seen.specs.Seen.{whole}
+use Rattle.bs_scan.specs.Seen.{whole}
 use Rattle.bs_encode.specs.Tables.{lit}
 use Rattle.bs_encode.specs.Transition.{transition_clauses, variables}
 use Rattle.bs_encode.specs.Encoded.{Encoded, encoding_of}

@@ -15,8 +15,8 @@ use Rattle.bs_clause.proofs.Values.{value_of_negated}
 use Rattle.bs_log.specs.History.{Problem, activation_of}
 use Rattle.bs_log.specs.Refusal.{has_distinct_variables, assumptions_of}
 use Rattle.bs_log.specs.Shown.{Shown}
-use Rattle.bs_seen.specs.declared.seen.Seen.{Seen}
-use Rattle.bs_seen.specs.Seen.{kept as at_known, Shows}
+use Rattle.bs_scan.specs.declared.seen.Seen.{Seen}
+use Rattle.bs_scan.specs.Seen.{kept as at_known, Shows}
 use Rattle.bs_net.specs.Circuit.{Circuit, next, reset_state, all_bits}
 use Rattle.bs_net.specs.Order.{IsChecked}
 use Rattle.bs_net.proofs.CallerLemmas.{all_bits_widths}

@@ -3,9 +3,9 @@ use Rattle.std.proofs.Common.{◌≡◌, ℕ, Bool, true, false, List, [], ◌�
 use Rattle.std.specs.List.{AllByRecursion}
 use Rattle.bs_clause.specs.Literal.{Literal, Clause}
 use Rattle.bs_log.specs.Refusal.{has_distinct_variables}
-use Rattle.bs_seen.specs.declared.seen.Seen.{Seen}
-use Rattle.bs_seen.specs.Seen.{kept, Shows}
-use Rattle.bs_seen.proofs.KeptLemmas.{kept_each, kept_map, length_kept}
+use Rattle.bs_scan.specs.declared.seen.Seen.{Seen}
+use Rattle.bs_scan.specs.Seen.{kept, Shows}
+use Rattle.bs_scan.proofs.KeptLemmas.{kept_each, kept_map, length_kept}
 use Rattle.bs_encode.specs.Tables.{lit}
 use Rattle.bs_encode.specs.Assuming.{signed, signed_seen}
 use Rattle.bs_encode.specs.Cycle.{bits_on}

@@ -4,9 +4,9 @@ use Rattle.std.specs.Prelude.{◌==◌}
 use Rattle.std.proofs.lemmas.Bool.{eqb-true}
 use Rattle.std.proofs.lemmas.List.{append_assoc, nil_from_length}
 use Rattle.bs_clause.specs.Literal.{Literal}
-use Rattle.bs_seen.specs.declared.seen.Seen.{Seen}
-use Rattle.bs_seen.specs.Seen.{kept, kept_one}
-use Rattle.bs_seen.proofs.KeptLemmas.{kept_nothing}
+use Rattle.bs_scan.specs.declared.seen.Seen.{Seen}
+use Rattle.bs_scan.specs.Seen.{kept, kept_one}
+use Rattle.bs_scan.proofs.KeptLemmas.{kept_nothing}
 use Rattle.bs_encode.specs.Tables.{lit}
 use Rattle.bs_encode.specs.Assuming.{signed, signed_seen}
 

@@ -20,8 +20,7 @@ use crate::units::{add_units, constant_table, zero_nets};
 use bs_bits::Bits;
 use bs_clause::{Clauses, Lit, Lits, NoMemory, Var};
 use bs_net::{Flop, NetId, Netlist};
-use bs_scan::Choice;
-use bs_seen::Seen;
+use bs_scan::{Choice, Seen};
 use std::alloc::Global;
 use std::marker::Model;
 

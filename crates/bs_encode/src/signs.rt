@@ -1,12 +1,12 @@
 //! Literals with the signs of bits.
 ghost use Rattle.std.specs.Prelude.{◌≡◌, ◌++◌, not, length, map, OnOk};
-ghost use Rattle.bs_seen.specs.Seen.{kept_one};
+ghost use Rattle.bs_scan.specs.Seen.{kept_one};
 ghost use Rattle.bs_encode.specs.Tables.{lit};
 ghost use Rattle.bs_encode.specs.Assuming.{signed, signed_seen};
 
 use bs_bits::Bits;
 use bs_clause::{Lit, Lits, NoMemory};
-use bs_seen::Seen;
+use bs_scan::Seen;
 
 /// Puts the literals at the end.
 pub(crate) fn push_all(into: &mut Lits, literals: &[Lit]) -> Result<(), NoMemory>

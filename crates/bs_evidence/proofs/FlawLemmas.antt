@@ -1,7 +1,7 @@
 -- What an answer has, and what its log gives.
 use Rattle.std.proofs.Common.{ℕ, ◌≤◌, Bool, List, Option, arith}
 use Rattle.std.specs.Prelude.{IfOk, Result, Ok, Err}
-use Rattle.bs_seen.specs.declared.seen.Seen.{Seen}
+use Rattle.bs_scan.specs.declared.seen.Seen.{Seen}
 use Rattle.bs_net.specs.Circuit.{Circuit}
 use Rattle.bs_evidence.specs.declared.evidence.Format.{Format}
 use Rattle.bs_evidence.specs.declared.flaw.Evidence.{Evidence}

@@ -15,7 +15,7 @@ use Rattle.bs_log_dimacs.proofs.Right.{whole_proofs_are_right, accepted_is_unmet
 use Rattle.bs_log_dimacs.proofs.Unlisted.{unlisted_meets_whole}
 use Rattle.bs_net.specs.Circuit.{Circuit, next}
 use Rattle.bs_scan.specs.Choice.{Chosen}
-use Rattle.bs_seen.specs.Seen.{whole, Shows}
+use Rattle.bs_scan.specs.Seen.{whole, Shows}
 use Rattle.bs_scan.specs.Present.{Present}
 use Rattle.bs_scan.specs.Signature.{agrees}
 use Rattle.bs_encode.specs.Tables.{lit}

@@ -7,7 +7,7 @@ use Rattle.std.specs.List.{AllByRecursion as Each}
 use Rattle.std.proofs.lemmas.Bool.{eq-eqb, ne_eqb, false≢true}
 use Rattle.std.proofs.lemmas.List.{take-append-drop}
 use Rattle.std.proofs.lemmas.List.Elements.{All-nil, All-cons, All-from_recursion, recursion_from_All}
-use Rattle.bs_seen.specs.declared.seen.Seen.{Seen}
+use Rattle.bs_scan.specs.declared.seen.Seen.{Seen}
 use Rattle.bs_clause.specs.Literal.{Literal, Clause, literal_value, negation, Satisfies}
 use Rattle.bs_net.specs.Circuit.{Circuit, reset_state}
 use Rattle.bs_log.specs.History.{Problem, History, activation_of}

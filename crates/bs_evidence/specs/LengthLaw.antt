@@ -1,6 +1,6 @@
 -- What the clauses of a length show.
 use Rattle.std.specs.Prelude.{◌≡◌, ◌*◌, ◌≤◌, ℕ, Bool, List, [], length, take, All, is_some, IsTrue}
-use Rattle.bs_seen.specs.declared.seen.Seen.{Seen}
+use Rattle.bs_scan.specs.declared.seen.Seen.{Seen}
 use Rattle.bs_clause.specs.Literal.{Satisfies}
 use Rattle.bs_net.specs.Circuit.{Circuit}
 use Rattle.bs_log.specs.Refusal.{IsAccepted, history_of}

@@ -1,6 +1,6 @@
 -- The evidence that a state is not reached in a length, or in none that an answer refutes, and why there is none (docs/FORMATS.md, "Clauses for other checkers").
 use Rattle.std.specs.Prelude.{ℕ, Bool, List, Option, IfSome}
-use Rattle.bs_seen.specs.declared.seen.Seen.{Seen}
+use Rattle.bs_scan.specs.declared.seen.Seen.{Seen}
 use Rattle.bs_net.specs.Circuit.{Circuit}
 use Rattle.bs_log.specs.History.{Problem}
 use Rattle.bs_log_dimacs.specs.Walk.{IsOneOf}

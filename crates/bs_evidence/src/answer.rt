@@ -24,7 +24,7 @@ use bs_log::Log;
 use bs_net::Netlist;
 use bs_reach::{Outcome, Reach};
 use bs_reach_unrolled::{netlists_unroll, unroll};
-use bs_seen::Seen;
+use bs_scan::Seen;
 use std::alloc::Global;
 
 /// How many lengths from 1 on were tried, where so many were asked for.

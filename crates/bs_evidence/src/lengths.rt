@@ -9,7 +9,7 @@ use bs_bits::{List, NoMemory};
 use bs_clause::{Lit, Lits, Var};
 use bs_encode::Encoding;
 use bs_reach_unrolled::assume_length;
-use bs_seen::Seen;
+use bs_scan::Seen;
 use std::alloc::Global;
 
 /// The activation literal of a step, counted from 0, above so many variables.

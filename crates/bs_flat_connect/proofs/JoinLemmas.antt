@@ -12,11 +12,11 @@ use Rattle.bs_flat_meaning.specs.Design.{Join}
 use Rattle.bs_flat_meaning.specs.Connecting as flat
 use Rattle.bs_flat_nets.specs.Blocks.{joins_of_run}
 use Rattle.bs_flat_nets.specs.declared.blocks.JoinedNets.{JoinedNets}
-use Rattle.bs_flat_wiring.specs.Wiring.{TellsTerm, StandsFor, side_by_side}
-use Rattle.bs_flat_wiring.specs.Ports.{port_in}
-use Rattle.bs_flat_wiring.specs.declared.ports.Port.{Port}
-use Rattle.bs_flat_wiring.specs.declared.terms.Stretch.{Stretch}
-use Rattle.bs_flat_wiring.specs.declared.wiring.Wiring.{Wiring}
+use Rattle.bs_flat_connect.specs.Wiring.{TellsTerm, StandsFor, side_by_side}
+use Rattle.bs_flat_connect.specs.Ports.{port_in}
+use Rattle.bs_flat_connect.specs.declared.ports.Port.{Port}
+use Rattle.bs_flat_connect.specs.declared.terms.Stretch.{Stretch}
+use Rattle.bs_flat_connect.specs.declared.wiring.Wiring.{Wiring}
 use Rattle.bs_flat_connect.specs.Joining.{unless, Tells, run_of, run_for, whole_names, JoinsTerm, JoinsPlain}
 use Rattle.bs_flat_connect.specs.declared.fault.Fault.{Fault}
 use Rattle.bs_flat_connect.specs.declared.fault.Fault.TheVariants.{At}

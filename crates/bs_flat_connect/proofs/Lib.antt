@@ -4,3 +4,7 @@ pub mod JoinLemmas
 pub mod LoopLemmas
 pub mod MakeLemmas
 pub mod MatchLemmas
+pub mod PortLemmas
+pub mod GrowLemmas
+pub mod SpanLemmas
+pub mod WireLemmas

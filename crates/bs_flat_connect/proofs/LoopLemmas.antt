@@ -10,8 +10,8 @@ use Rattle.bs_flat_meaning.specs.Connecting as flat
 use Rattle.bs_flat_meaning.specs.Reading.{first_of}
 use Rattle.bs_flat_nets.specs.Blocks.{joins_of_run}
 use Rattle.bs_flat_nets.specs.declared.blocks.JoinedNets.{JoinedNets}
-use Rattle.bs_flat_wiring.specs.Wiring.{IsWiringOf}
-use Rattle.bs_flat_wiring.specs.declared.wiring.Wiring.{Wiring}
+use Rattle.bs_flat_connect.specs.Wiring.{IsWiringOf}
+use Rattle.bs_flat_connect.specs.declared.wiring.Wiring.{Wiring}
 use Rattle.bs_flat_connect.specs.Matching.{matched_of}
 use Rattle.bs_flat_connect.specs.Joining.{unless, runs_of, JoinsOne, JoinsAll}
 use Rattle.bs_flat_connect.specs.declared.matching.Matched.{Matched}

@@ -24,8 +24,8 @@ use Rattle.bs_flat_meaning.specs.Design.{Module}
 use Rattle.bs_flat_meaning.specs.Pieces.{Piece, name_id}
 use Rattle.bs_flat_meaning.specs.Connecting as flat
 use Rattle.bs_flat_meaning.specs.Reading.{first_of, no_read_module, is_id, place_in, connect_fault, connected_modules, read_at, connections_of, module_from}
-use Rattle.bs_flat_order.specs.Numbers.{numbers_by}
-use Rattle.bs_flat_order.specs.Places.{place_by_id}
+use Rattle.bs_flat_meaning.specs.ModuleNumbers.{numbers_by}
+use Rattle.bs_flat_meaning.specs.Places.{place_by_id}
 use Rattle.bs_flat_nets.specs.Blocks.{instance_of, own_of, module_of, numbers_of, AreThere}
 use Rattle.bs_flat_nets.specs.Order.{below_blocks}
 use Rattle.bs_flat_nets.specs.declared.blocks.FlatModule.{FlatModule}
@@ -33,9 +33,9 @@ use Rattle.bs_flat_nets.specs.declared.blocks.Child.{Child}
 use Rattle.bs_flat_modules.specs.Reading.{read_modules_of}
 use Rattle.bs_flat_modules.specs.declared.owns.Own.{Own}
 use Rattle.bs_flat_modules.specs.declared.owns.Modules.{Modules}
-use Rattle.bs_flat_wiring.specs.Wiring.{IsWiringOf, read_of}
-use Rattle.bs_flat_wiring.specs.declared.ports.Ports.{Ports}
-use Rattle.bs_flat_wiring.specs.declared.wiring.Wiring.{Wiring}
+use Rattle.bs_flat_connect.specs.Wiring.{IsWiringOf, read_of}
+use Rattle.bs_flat_connect.specs.declared.ports.Ports.{Ports}
+use Rattle.bs_flat_connect.specs.declared.wiring.Wiring.{Wiring}
 use Rattle.bs_flat_connect.specs.Joining.{unless, Tells}
 use Rattle.bs_flat_connect.specs.Instances.{AreAllPorts, ArePortsOfAll, instance_by, TellsChildren}
 use Rattle.bs_flat_connect.specs.Connecting.{ConnectsTo, IsMade, with_parts, without_parts, fault_in, module_by, TellsBlock, reads, TellsBlocks, fault_of, Connects}

@@ -12,9 +12,9 @@ use Rattle.bs_verilog_lexemes.specs.declared.lexeme.Name.{Name}
 use Rattle.bs_verilog_syntax.specs.declared.tree.Connection.{Connection}
 use Rattle.bs_verilog_syntax.specs.declared.tree.Connection.TheVariants.{Empty, Place, Pin}
 use Rattle.bs_flat_meaning.specs.Connecting as flat
-use Rattle.bs_flat_wiring.specs.Ports.{port_in}
-use Rattle.bs_flat_wiring.specs.declared.ports.Port.{Port}
-use Rattle.bs_flat_wiring.specs.declared.ports.Ports.{Ports}
+use Rattle.bs_flat_connect.specs.Ports.{port_in}
+use Rattle.bs_flat_connect.specs.declared.ports.Port.{Port}
+use Rattle.bs_flat_connect.specs.declared.ports.Ports.{Ports}
 use Rattle.bs_flat_connect.specs.declared.matching.Matched.{Matched}
 use Rattle.bs_flat_connect.specs.Matching.{refused_pin, matched_of, by_place, places_from, port_with, pin_of, given_with, pins_from, AreMatched}
 

@@ -17,9 +17,9 @@ use Rattle.bs_flat_modules.specs.Owns.{module_and_parts}
 use Rattle.bs_flat_modules.specs.Reading.{read_modules_of}
 use Rattle.bs_flat_modules.specs.declared.owns.Own.{Own}
 use Rattle.bs_flat_modules.specs.declared.owns.Modules.{Modules}
-use Rattle.bs_flat_wiring.specs.Wiring.{read_of}
-use Rattle.bs_flat_wiring.specs.declared.ports.Ports.{Ports}
-use Rattle.bs_flat_wiring.specs.declared.wiring.Wiring.{Wiring}
+use Rattle.bs_flat_connect.specs.Wiring.{read_of}
+use Rattle.bs_flat_connect.specs.declared.ports.Ports.{Ports}
+use Rattle.bs_flat_connect.specs.declared.wiring.Wiring.{Wiring}
 use Rattle.bs_flat_connect.specs.Instances.{ArePortsOfAll, fault_by, instance_by}
 use Rattle.bs_flat_connect.specs.Joining.{Tells}
 use Rattle.bs_flat_connect.specs.declared.fault.Fault.{Fault}

@@ -9,10 +9,10 @@ use Rattle.bs_flat_meaning.specs.declared.statements.Written.{Written}
 use Rattle.bs_flat_nets.specs.Blocks.{instance_of}
 use Rattle.bs_flat_nets.specs.declared.blocks.Child.{Child}
 use Rattle.bs_flat_modules.specs.declared.owns.Own.{Own}
-use Rattle.bs_flat_wiring.specs.Wiring.{IsWiringOf}
-use Rattle.bs_flat_wiring.specs.Ports.{ArePortsOf}
-use Rattle.bs_flat_wiring.specs.declared.ports.Ports.{Ports}
-use Rattle.bs_flat_wiring.specs.declared.wiring.Wiring.{Wiring}
+use Rattle.bs_flat_connect.specs.Wiring.{IsWiringOf}
+use Rattle.bs_flat_connect.specs.Ports.{ArePortsOf}
+use Rattle.bs_flat_connect.specs.declared.ports.Ports.{Ports}
+use Rattle.bs_flat_connect.specs.declared.wiring.Wiring.{Wiring}
 use Rattle.bs_flat_connect.specs.Matching.{ArePortsIn}
 use Rattle.bs_flat_connect.specs.Joining.{Tells}
 use Rattle.bs_flat_connect.specs.declared.fault.Fault.{Fault}

@@ -7,11 +7,11 @@ use Rattle.bs_flat_meaning.specs.Connecting as flat
 use Rattle.bs_flat_meaning.specs.Reading.{first_of}
 use Rattle.bs_flat_nets.specs.Blocks.{joins_of_run}
 use Rattle.bs_flat_nets.specs.declared.blocks.JoinedNets.{JoinedNets}
-use Rattle.bs_flat_wiring.specs.Wiring.{IsWiringOf}
-use Rattle.bs_flat_wiring.specs.Ports.{port_in}
-use Rattle.bs_flat_wiring.specs.declared.ports.Port.{Port}
-use Rattle.bs_flat_wiring.specs.declared.terms.Stretch.{Stretch}
-use Rattle.bs_flat_wiring.specs.declared.wiring.Wiring.{Wiring}
+use Rattle.bs_flat_connect.specs.Wiring.{IsWiringOf}
+use Rattle.bs_flat_connect.specs.Ports.{port_in}
+use Rattle.bs_flat_connect.specs.declared.ports.Port.{Port}
+use Rattle.bs_flat_connect.specs.declared.terms.Stretch.{Stretch}
+use Rattle.bs_flat_connect.specs.declared.wiring.Wiring.{Wiring}
 use Rattle.bs_flat_connect.specs.Matching.{matched_of}
 use Rattle.bs_flat_connect.specs.declared.matching.Matched.{Matched}
 use Rattle.bs_flat_connect.specs.declared.fault.Fault.{Fault}

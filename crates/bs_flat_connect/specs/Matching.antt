@@ -6,9 +6,9 @@ use Rattle.bs_verilog_syntax.specs.declared.tree.Term.{Term}
 use Rattle.bs_verilog_syntax.specs.declared.tree.Connection.{Connection}
 use Rattle.bs_verilog_syntax.specs.declared.tree.Connection.TheVariants.{Empty, Place, Pin}
 use Rattle.bs_flat_meaning.specs.Connecting as flat
-use Rattle.bs_flat_wiring.specs.Ports.{port_in}
-use Rattle.bs_flat_wiring.specs.declared.ports.Port.{Port}
-use Rattle.bs_flat_wiring.specs.declared.ports.Ports.{Ports}
+use Rattle.bs_flat_connect.specs.Ports.{port_in}
+use Rattle.bs_flat_connect.specs.declared.ports.Port.{Port}
+use Rattle.bs_flat_connect.specs.declared.ports.Ports.{Ports}
 use Rattle.bs_flat_connect.specs.declared.matching.Matched.{Matched}
 
 -- the place of a pin that has no port, or stands before

@@ -7,11 +7,12 @@ ghost use Rattle.bs_flat_connect.specs.Instances as spec;
 use crate::fault::Fault;
 use crate::joining::join;
 use crate::matching::match_ports;
+use crate::ports::{Ports, ports_of};
+use crate::wiring::Wiring;
 use bs_bits::{List, NoMemory};
 use bs_flat_meaning::Written;
 use bs_flat_modules::Own;
 use bs_flat_nets::Child;
-use bs_flat_wiring::{Ports, Wiring, ports_of};
 use bs_verilog_lexemes::{Name, Table};
 use std::alloc::Global;
 

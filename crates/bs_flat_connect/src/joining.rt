@@ -5,9 +5,11 @@ ghost use Rattle.bs_flat_meaning.specs.Connecting as flat;
 
 use crate::fault::Fault;
 use crate::matching::Matched;
+use crate::ports::Port;
+use crate::terms::{Stretch, term_nets};
+use crate::wiring::Wiring;
 use bs_bits::{List, NoMemory};
 use bs_flat_nets::JoinedNets;
-use bs_flat_wiring::{Port, Stretch, Wiring, term_nets};
 use bs_verilog_lexemes::Table;
 use bs_verilog_syntax::Term;
 use std::alloc::Global;

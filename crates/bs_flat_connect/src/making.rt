@@ -1,20 +1,21 @@
 //! The modules of a design with their joined nets, or the first connection that does not go with its port.
 ghost use Rattle.std.specs.Prelude.{◌≡◌, ◌<◌, length, map, All, IsTrue, IfOk, OnOk};
 ghost use Rattle.bs_net.specs.Gate.{takes};
-ghost use Rattle.bs_flat_order.specs.Numbers.{numbers_by};
+ghost use Rattle.bs_flat_meaning.specs.ModuleNumbers.{numbers_by};
 ghost use Rattle.bs_flat_nets.specs.Blocks.{AreThere, numbers_of};
 ghost use Rattle.bs_flat_nets.specs.Order.{below_blocks};
-ghost use Rattle.bs_flat_wiring.specs.Wiring.{IsWiringOf, read_of};
+ghost use Rattle.bs_flat_connect.specs.Wiring.{IsWiringOf, read_of};
 ghost use Rattle.bs_flat_connect.specs.Connecting as spec;
 
 use crate::copies::{add_flops, add_gates, add_nets};
 use crate::fault::Fault;
 use crate::instances::{all_ports, children};
+use crate::ports::Ports;
+use crate::wiring::{Wiring, wire};
 use bs_bits::{List, NoMemory};
 use bs_flat_meaning::{FlatFault, Written};
 use bs_flat_modules::{Modules, Own};
 use bs_flat_nets::{Child, FlatModule};
-use bs_flat_wiring::{Ports, Wiring, wire};
 use bs_net::Const;
 use bs_verilog_lexemes::Table;
 use std::alloc::Global;

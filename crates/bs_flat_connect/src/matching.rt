@@ -3,8 +3,8 @@ ghost use Rattle.std.specs.Prelude.{◌≡◌, ◌++◌, ℕ, false, nat_eq, IfO
 ghost use Rattle.std.specs.HashSet.{contains};
 ghost use Rattle.bs_flat_connect.specs.Matching as spec;
 
+use crate::ports::{Port, Ports};
 use bs_bits::{List, NoMemory};
-use bs_flat_wiring::{Port, Ports};
 use bs_verilog_lexemes::Name;
 use bs_verilog_syntax::{Connection, PackedConnection, Term};
 use std::alloc::Global;

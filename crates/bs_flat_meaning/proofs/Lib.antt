@@ -21,3 +21,10 @@ pub mod HeaderLemmas
 pub mod OwnLemmas
 pub mod WholeLemmas
 pub mod Examples
+pub mod LevelLemmas
+pub mod RingOrderLemmas
+pub mod MarkLemmas
+pub mod PlaceLemmas
+pub mod ModuleNumberLemmas
+pub mod RankLemmas
+pub mod RefusalLemmas

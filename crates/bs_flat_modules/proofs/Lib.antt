@@ -12,3 +12,18 @@ pub mod ShutLemmas
 pub mod GoesLemmas
 pub mod AloneLemmas
 pub mod TidyLemmas
+-- The numbers of lexemes, and own texts.
+pub mod LexemeCounts
+pub mod LexemeNumbers
+pub mod CountedPieces
+-- What reading takes.
+pub mod ShortLemmas
+pub mod ShortModules
+-- What modules count.
+pub mod CountedLists
+pub mod CountedTerms
+pub mod CountedModules
+pub mod BuiltLemmas
+pub mod BuiltNames
+-- What designs count.
+pub mod DesignLemmas

@@ -10,3 +10,9 @@ pub mod Items
 pub mod Names
 -- Lexemes put together from parts of a text.
 pub mod Copying
+-- What is read from the lexemes of a text.
+pub mod Texts
+-- What the modules of a text count.
+pub mod Modules
+-- What designs count.
+pub mod Designs

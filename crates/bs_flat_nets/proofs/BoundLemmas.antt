@@ -10,7 +10,7 @@ use Rattle.bs_flat_meaning.proofs.CountLemmas.{sum_members, parts_are_summed}
 use Rattle.bs_flat_meaning.proofs.HeightLemmas.{tallest_same, depth_is_height}
 use Rattle.bs_flat_meaning.proofs.MemberLemmas.{Member}
 use Rattle.bs_flat_meaning.proofs.RootLemmas.{top_is_path}
-use Rattle.bs_flat_order.specs.Ring.{place_in_order}
+use Rattle.bs_flat_meaning.specs.Ring.{place_in_order}
 use Rattle.bs_flat_nets.specs.Order.{IsChildrenFirst}
 use Rattle.bs_flat_nets.proofs.ChildrenLemmas.{children_earlier}
 use Rattle.bs_flat_nets.specs.Tables.{Follows, depth_by, count_by_parts}

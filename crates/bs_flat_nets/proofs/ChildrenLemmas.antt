@@ -3,9 +3,9 @@ use Rattle.std.proofs.Common.{◌≡◌, ℕ, zero, suc, ◌<◌, List, [], ◌�
 use Rattle.std.specs.List.{All}
 use Rattle.std.proofs.lemmas.List.{length-map, get_or-map}
 use Rattle.bs_flat_meaning.specs.Design.{Module, Instance, instance_in, no_instance}
-use Rattle.bs_flat_order.specs.Ring as numbers
+use Rattle.bs_flat_meaning.specs.Ring as numbers
 use Rattle.bs_flat_meaning.specs.Rings.{instanced_by}
-use Rattle.bs_flat_order.specs.Ring.{place_in_order}
+use Rattle.bs_flat_meaning.specs.Ring.{place_in_order}
 use Rattle.bs_flat_nets.specs.Blocks.{instance_of, module_of, numbers_of}
 use Rattle.bs_flat_nets.specs.Order.{module_in, instanced, below_of, below_blocks, IsChildrenFirst, NumberedIsChildrenFirst}
 use Rattle.bs_flat_nets.specs.declared.blocks.FlatModule.{FlatModule}

@@ -10,7 +10,7 @@ use Rattle.bs_flat_meaning.specs.Counts.{sum_of, tallest}
 use Rattle.bs_flat_nets.specs.Blocks.{instance_of, module_of}
 use Rattle.bs_flat_nets.specs.declared.blocks.FlatModule.{FlatModule}
 use Rattle.bs_flat_nets.specs.declared.blocks.Child.{Child}
-use Rattle.bs_flat_order.specs.Ring.{place_in_order}
+use Rattle.bs_flat_meaning.specs.Ring.{place_in_order}
 use Rattle.bs_flat_nets.specs.Order.{module_in, IsChildrenFirst}
 use Rattle.bs_flat_nets.proofs.ChildrenLemmas.{all_there, each_placed, children_earlier}
 use Rattle.bs_flat_nets.specs.Tables.{Follows, FollowsFirst, depth_by, count_by_parts, own_count}

@@ -7,7 +7,7 @@ use Rattle.bs_flat_meaning.specs.Reading.{is_deep}
 use Rattle.bs_flat_meaning.specs.declared.limits.TheConstants.{MAX_DEPTH}
 use Rattle.bs_flat_meaning.proofs.CountLemmas.{sum_members}
 use Rattle.bs_flat_meaning.proofs.HeightLemmas.{depth_is_height}
-use Rattle.bs_flat_order.specs.Ring.{place_in_order}
+use Rattle.bs_flat_meaning.specs.Ring.{place_in_order}
 use Rattle.bs_flat_nets.specs.Order.{IsChildrenFirst}
 use Rattle.bs_flat_nets.proofs.ChildrenLemmas.{children_earlier}
 use Rattle.bs_flat_nets.specs.Tables.{Follows}

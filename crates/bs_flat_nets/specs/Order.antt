@@ -5,7 +5,7 @@ use Rattle.bs_net.specs.declared.net.Gate.{Gate}
 use Rattle.bs_net.specs.Names.{net}
 use Rattle.bs_net.specs.Order.{IsOrder, no_gate}
 use Rattle.bs_flat_meaning.specs.Design.{Module, instance_in, no_module}
-use Rattle.bs_flat_order.specs.Ring as numbers
+use Rattle.bs_flat_meaning.specs.Ring as numbers
 use Rattle.bs_flat_nets.specs.Blocks.{module_of, numbers_of}
 use Rattle.bs_flat_nets.specs.declared.blocks.FlatModule.{FlatModule}
 

@@ -4,7 +4,7 @@ use Rattle.std.specs.List.{flat_map, range_with_len}
 use Rattle.std.proofs.lemmas.List.{append-nil}
 use Rattle.rand_pcg.specs.Lcg.{Lcg}
 use Rattle.bs_bits.proofs.RangeLemmas.{flat_more}
-use Rattle.bs_draws.specs.Draws.{after}
+use Rattle.bs_gen.specs.Draws.{after}
 use Rattle.bs_gen.specs.Each.{each}
 
 each_more : (f : ℕ → List ℕ) (a n i m : ℕ) → a + n ≡ i → suc n ≡ m → each f a m ≡ each f a n ++ f i

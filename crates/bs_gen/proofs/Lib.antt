@@ -1,3 +1,4 @@
 pub mod EachLemmas
 pub mod LineLemmas
 pub mod Examples
+pub mod DrawLemmas

@@ -2,7 +2,7 @@
 use Rattle.std.specs.Prelude.{ℕ, ◌+◌, ◌*◌, List, [], ◌∷◌, ◌++◌, codes, decimal, slice_index_or}
 use Rattle.bs_bits.specs.Lines.{line}
 use Rattle.rand_pcg.specs.Lcg.{Lcg}
-use Rattle.bs_draws.specs.Draws.{after, pick}
+use Rattle.bs_gen.specs.Draws.{after, pick}
 use Rattle.bs_gen.specs.Each.{each}
 use Rattle.bs_gen.specs.Names.{stage, counter_bit, drawn_net, member}
 

@@ -2,7 +2,7 @@
 use Rattle.std.specs.Prelude.{ℕ, List, ◌++◌, codes}
 use Rattle.bs_bits.specs.Lines.{line}
 use Rattle.rand_pcg.specs.Lcg.{Lcg}
-use Rattle.bs_draws.specs.Draws.{after, draws_of}
+use Rattle.bs_gen.specs.Draws.{after, draws_of}
 use Rattle.bs_gen.specs.Gates.{counter_text, drawn_text, feeds_text}
 use Rattle.bs_gen.specs.Flops.{flops_text}
 use Rattle.bs_gen.specs.Stimulus.{stimulus_text}

@@ -6,3 +6,4 @@ pub mod Stimulus
 pub mod Job
 pub use Rattle.rand_pcg.specs.Lcg
 pub use Rattle.rand_pcg.specs.Pcg
+pub mod Draws

@@ -2,7 +2,7 @@
 use Rattle.std.specs.Prelude.{ℕ, ◌+◌, ◌*◌, List, ◌++◌, codes, decimal}
 use Rattle.bs_bits.specs.Lines.{line}
 use Rattle.rand_pcg.specs.Lcg.{Lcg}
-use Rattle.bs_draws.specs.Draws.{after, pick}
+use Rattle.bs_gen.specs.Draws.{after, pick}
 use Rattle.bs_gen.specs.Each.{each}
 
 -- a drawn bit of a cycle

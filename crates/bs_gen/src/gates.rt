@@ -1,13 +1,13 @@
 //! The gates of a generated netlist: the counter, the drawn gates and the feeds of the shift registers.
 ghost use Rattle.std.specs.Prelude.{◌≡◌, ◌<◌, ◌++◌, OnOk};
-ghost use Rattle.bs_draws.specs.Draws.{after};
+ghost use Rattle.bs_gen.specs.Draws.{after};
 ghost use Rattle.bs_gen.specs.Each.{each};
 ghost use Rattle.bs_gen.specs.Gates.{bit_lines, carry_line, carry_terminal, counter_text, drawn_line, drawn_text, exchange_line, feed_line};
 ghost use Rattle.bs_gen.specs.Gates.{feed_terminals, feeds_text, gate_line, kind_word, terminal};
 
+use crate::draws::Draws;
 use crate::names::{push_counter_bit, push_drawn_net, push_member, push_stage};
 use bs_bits::{NoMemory, push_line, push_number, push_piece};
-use bs_draws::Draws;
 
 /// Appends a counter bit as a further terminal.
 fn push_carry_terminal(text: &mut Vec<u8>, bit: u32) -> Result<(), NoMemory>

@@ -1,14 +1,14 @@
 //! The texts of a generated job.
 ghost use Rattle.std.specs.Prelude.{◌≡◌, ◌++◌, IfOk, OnOk};
-ghost use Rattle.bs_draws.specs.Draws.{after};
+ghost use Rattle.bs_gen.specs.Draws.{after};
 ghost use Rattle.bs_gen.specs.Job.{netlist_for, netlist_text, ports_text, signature_text, stimulus_for};
 ghost use Rattle.bs_gen.specs.Stimulus.{stimulus_text};
 
+use crate::draws::Draws;
 use crate::flops::push_flops;
 use crate::gates::{push_counter, push_drawn_gates, push_feeds};
 use crate::stimulus::push_runs;
 use bs_bits::{List, NoMemory, push_line};
-use bs_draws::Draws;
 use std::alloc::Global;
 
 /// The texts of a job.

@@ -1,11 +1,11 @@
 //! The runs of a generated stimulus.
 ghost use Rattle.std.specs.Prelude.{◌≡◌, ◌++◌, decimal, OnOk};
-ghost use Rattle.bs_draws.specs.Draws.{after, pick};
+ghost use Rattle.bs_gen.specs.Draws.{after, pick};
 ghost use Rattle.bs_gen.specs.Each.{each};
 ghost use Rattle.bs_gen.specs.Stimulus.{bit_text, input_line, nth_input_line, run_text, stimulus_text};
 
+use crate::draws::Draws;
 use bs_bits::{NoMemory, end_line, push_line, push_number, push_piece};
-use bs_draws::Draws;
 
 /// Draws a bit and appends it.
 fn push_bit(text: &mut Vec<u8>, draws: &mut Draws) -> Result<(), NoMemory>

@@ -4,10 +4,10 @@ use Rattle.std.specs.Io.KnownBytes.{Keeps}
 use Rattle.bs_bits.specs.declared.memory.NoMemory.{NoMemory}
 use Rattle.bs_outside.specs.Calls.{FetchCall, PutCall}
 use Rattle.bs_outside.specs.Faults.{Rose}
-use Rattle.bs_top_plan.specs.declared.status.Status.{Status}
-use Rattle.bs_top_plan.specs.declared.status.Status.TheVariants.{ReadFault, WriteFault}
-use Rattle.bs_top_plan.specs.Plan.{Tells, Counts, Plan}
-use Rattle.bs_top_plan.specs.Clauses.{Answered, AnsweredAsTold, AnsweredWhole, CallByCall, CallsWanting, IsCalm, IsWordsOnlyFor, ReadFaultOf, RefusesFirstOf}
+use Rattle.bs_outside.specs.declared.status.Status.{Status}
+use Rattle.bs_outside.specs.declared.status.Status.TheVariants.{ReadFault, WriteFault}
+use Rattle.bs_outside.specs.Plan.{Tells, Counts, Plan}
+use Rattle.bs_outside.specs.Clauses.{Answered, AnsweredAsTold, AnsweredWhole, CallByCall, CallsWanting, IsCalm, IsWordsOnlyFor, ReadFaultOf, RefusesFirstOf}
 use Rattle.bs_top_files.specs.Refusals.{Case, CheckSays}
 use Rattle.bs_inspect_words.specs.Request.{request_of}
 use Rattle.bs_inspect_plans.specs.Work.{Work, plan_of}

@@ -4,11 +4,11 @@ use Rattle.std.specs.declared.io.ErrorKind.{ErrorKind}
 use Rattle.std.specs.declared.io.ErrorKind.TheVariants.{OutOfMemory}
 use Rattle.bs_bits.specs.declared.memory.NoMemory.{NoMemory}
 use Rattle.bs_outside.specs.Calls.{FetchCall, PutCall}
-use Rattle.bs_top_plan.specs.declared.status.Status.{Status}
-use Rattle.bs_top_plan.specs.declared.status.Status.TheVariants.{Words}
-use Rattle.bs_top_plan.specs.declared.status.TheConstants.{NO_MEMORY_CODE}
-use Rattle.bs_top_plan.specs.Plan.{Tells, Counts}
-use Rattle.bs_top_plan.specs.Statuses.{code_of, exit_code}
+use Rattle.bs_outside.specs.declared.status.Status.{Status}
+use Rattle.bs_outside.specs.declared.status.Status.TheVariants.{Words}
+use Rattle.bs_outside.specs.declared.status.TheConstants.{NO_MEMORY_CODE}
+use Rattle.bs_outside.specs.Plan.{Tells, Counts}
+use Rattle.bs_outside.specs.Statuses.{code_of, exit_code}
 use Rattle.bs_outside.specs.Texts.{Output, PutsText}
 use Rattle.bs_top_answer.specs.declared.note.Note.{Note}
 use Rattle.bs_top_answer.specs.Note.{Due}

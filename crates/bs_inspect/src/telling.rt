@@ -4,8 +4,7 @@ ghost use Rattle.bs_inspect_plans.specs.Finishes.{finishes};
 ghost use Rattle.bs_inspect_plans.specs.Work.{to_help, to_version};
 
 use bs_inspect_plans::{usage_text, version_text};
-use bs_outside::NoMemory;
-use bs_top_plan::{Reply, Status};
+use bs_outside::{NoMemory, Reply, Status};
 use std::alloc::Global;
 
 /// How words stand.

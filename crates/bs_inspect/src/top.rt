@@ -3,8 +3,8 @@ ghost use Rattle.std.specs.Prelude.{◌≡◌, ◌≢◌, ℕ, List, map, option
 ghost use Rattle.std.specs.Io.KnownBytes.{Keeps};
 ghost use Rattle.bs_outside.specs.Faults.{Rose};
 ghost use Rattle.bs_outside.specs.Texts.{output, PutsText};
-ghost use Rattle.bs_top_plan.specs.Answers.{RefusesWords};
-ghost use Rattle.bs_top_plan.specs.Clauses.{Answered, AnsweredAsTold, AnsweredWhole, CallByCall, CallsWanting, IsCalm, IsWordsOnlyFor, ReadFaultOf, RefusesFirstOf};
+ghost use Rattle.bs_outside.specs.Answers.{RefusesWords};
+ghost use Rattle.bs_outside.specs.Clauses.{Answered, AnsweredAsTold, AnsweredWhole, CallByCall, CallsWanting, IsCalm, IsWordsOnlyFor, ReadFaultOf, RefusesFirstOf};
 ghost use Rattle.bs_top_answer.specs.Note.{Due};
 ghost use Rattle.bs_top_answer.specs.Prepared.{PreparedNoted};
 ghost use Rattle.bs_top_answer.specs.Said.{CallNoted};
@@ -20,9 +20,8 @@ ghost use Rattle.bs_inspect_plans.specs.Work.{plan_of};
 use crate::asking::request_answer;
 use bs_inspect_usages::words_note;
 use bs_inspect_words::{Request, read_request};
-use bs_outside::{NoMemory, Shelf, Sink, put_text};
+use bs_outside::{NoMemory, Shelf, Sink, Status, put_text, refused_words};
 use bs_top_answer::{Response, deliver_noted, note_made};
-use bs_top_plan::{Status, refused_words};
 use std::alloc::Global;
 
 /// The answer to words that are no request, and the note on what is wrong with them.

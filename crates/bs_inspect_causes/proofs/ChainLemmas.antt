@@ -9,9 +9,10 @@ use Rattle.std.proofs.lemmas.List.Elements.{All-append, All-nil, filter_more}
 use Rattle.std.proofs.lemmas.List.Sums.{fold-append, length-filter, position_or_len_is}
 use Rattle.bs_bits.proofs.RangeLemmas.{range_push}
 use Rattle.bs_net_facts.specs.declared.fact.Fact.{Fact}
+use Rattle.bs_net_facts.specs.Facts.{is_again}
 use Rattle.bs_inspect_causes.specs.declared.account.Account.{Account}
 use Rattle.bs_inspect_causes.specs.declared.chain.Chain.{Chain}
-use Rattle.bs_inspect_causes.specs.Chains.{IsWithin, account_at, alone, chain_at, chained, chained_at, chains_of, come_again, comes_again, extended, goes_on, is_again, is_before, is_other, is_step, may_be_before, may_go, no_account, other_causes, same_nets}
+use Rattle.bs_inspect_causes.specs.Chains.{IsWithin, account_at, alone, chain_at, chained, chained_at, chains_of, come_again, comes_again, extended, goes_on, is_before, is_other, is_step, may_be_before, may_go, no_account, other_causes, same_nets}
 
 -- ---- facts of one kind
 

@@ -1,4 +1,3 @@
-pub mod BreakLemmas
 pub mod DriverLemmas
 pub mod FactLemmas
 pub mod SourceLemmas
@@ -9,5 +8,6 @@ pub mod LayerLemmas
 pub mod FurtherLemmas
 pub mod ExplainLemmas
 pub mod ChainLemmas
+pub mod SearchLemmas
 pub mod OrderLemmas
 pub mod SinceLemmas

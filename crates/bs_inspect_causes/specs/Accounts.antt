@@ -37,12 +37,6 @@ pub record LeadsBefore (c : Circuit) (states inputs : List (List Bool)) (count :
 abbrev pub LeadsOn : Circuit → List (List Bool) → List (List Bool) → Type 0
 LeadsOn c states inputs = LeadsBefore c states inputs (length inputs)
 
--- the first state that does not
-pub record IsBreak (c : Circuit) (states inputs : List (List Bool)) (t : ℕ) : Type 0 where
-  pub there : t < length inputs
-  pub other : LeadsAt c states inputs t → ⊥
-  pub before : LeadsBefore c states inputs t
-
 -- whether one of some nets is this one
 abbrev pub has_net : List NetId → NetId → Bool
 has_net nets n = list_any (λ m. m.0 == n.0) nets

@@ -1,12 +1,12 @@
 -- Accounts that step a vector on for the same reasons, as one (docs/DEFINITIONS.md, "Chain").
 use Rattle.std.specs.Prelude.{ℕ, ◌+◌, ◌<◌, ◌≤◌, ◌==◌, ◌&&◌, ◌||◌, not, Bool, false, List, [], ◌∷◌, ◌++◌, length, map, filter, fold, slice_index_or, slice_set, Option, Some, None}
-use Rattle.std.specs.Bool.{beq}
 use Rattle.std.specs.List.{list_all, list_any, position, range_with_len}
 use Rattle.std.specs.List.Sorted.{IsPermutation, IsSorted}
 use Rattle.std.specs.declared.cmp.Ordering.{Ordering}
 use Rattle.std.specs.Ordering.{nat_cmp, ordering_then}
 use Rattle.bs_net_facts.specs.declared.block.Block.{Block}
 use Rattle.bs_net_facts.specs.declared.fact.Fact.{Fact}
+use Rattle.bs_net_facts.specs.Facts.{is_again}
 use Rattle.bs_inspect_causes.specs.declared.account.Account.{Account}
 use Rattle.bs_inspect_causes.specs.declared.chain.Chain.{Chain}
 use Rattle.bs_inspect_causes.specs.declared.chain.Place.{Place}
@@ -37,10 +37,6 @@ same_nets facts others = (length facts == length others) && are_among facts othe
 -- the causes that are of other nets than the bits
 abbrev pub other_causes : Account → List Fact
 other_causes a = filter (λ f. not (has_fact a.block.bits f)) a.causes
-
--- whether a fact is the same as another one, of the same net and with the same bit, a cycle later
-abbrev pub is_again : Fact → Fact → Bool
-is_again f g = (g.net.0 == f.net.0) && (beq g.bit f.bit && (g.cycle == f.cycle + 1))
 
 abbrev pub comes_again : List Fact → Fact → Bool
 comes_again later f = list_any (is_again f) later

@@ -1,12 +1,11 @@
 //! Accounts that step a vector on for the same reasons, as one.
 ghost use Rattle.std.specs.Prelude.{◌≡◌, ◌<◌, ◌+◌, ◌^◌, length, count_by, All, IfOk, OnOk, None, Some};
-ghost use Rattle.std.specs.Bool.{beq};
 ghost use Rattle.std.specs.List.{list_all, list_any, position};
-ghost use Rattle.bs_inspect_causes.specs.Chains.{are_among, chain_at, chained, chained_at, chains_of, come_again, goes_on, has_fact, is_again, is_before, is_other, is_other_again, is_step, IsWithin, may_be_before, may_go, other_causes, same_nets};
+ghost use Rattle.bs_inspect_causes.specs.Chains.{are_among, chain_at, chained, chained_at, chains_of, come_again, goes_on, has_fact, is_before, is_other, is_other_again, is_step, IsWithin, may_be_before, may_go, other_causes, same_nets};
 
 use crate::account::Account;
 use bs_bits::NoMemory;
-use bs_net_facts::Fact;
+use bs_net_facts::{Fact, is_again};
 use std::alloc::Global;
 
 /// Accounts from the one that ends last to that of the first step, by their places, and how many they are.
@@ -29,14 +28,25 @@ pub struct Place {
 fn has_fact(facts: &[Fact], fact: Fact) -> bool
     ensures { result ≡ has_fact facts.now fact }
 {
-    facts.iter().any(|other| other.net.0 == fact.net.0)
+    'facts: for other in facts {
+        let same = other.net.0 == fact.net.0;
+        if same {
+            return true;
+        }
+    }
+    false
 }
 
 /// Whether facts are all of nets of others.
 fn are_among(facts: &[Fact], others: &[Fact]) -> bool
     ensures { result ≡ are_among facts.now others.now }
 {
-    facts.iter().all(|fact| has_fact(others, *fact))
+    'facts: for fact in facts {
+        if !has_fact(others, *fact) {
+            return false;
+        }
+    }
+    true
 }
 
 /// Whether facts are of the same nets.
@@ -65,21 +75,6 @@ fn count_others(account: &Account) -> usize
         .count()
 }
 
-/// Whether two bits are the same.
-fn same_bit(one: bool, other: bool) -> bool
-    ensures { result ≡ beq one other }
-{
-    one == other
-}
-
-/// Whether a fact is the same as another one, a cycle later.
-fn is_again(fact: Fact, later: Fact) -> bool
-    ensures { result ≡ is_again fact later }
-{
-    later.net.0 == fact.net.0
-        && (same_bit(later.bit, fact.bit) && u64::from(later.cycle) == u64::from(fact.cycle) + 1)
-}
-
 /// Whether a fact is of another net than the bits of an account, and the same as another one, a cycle later.
 fn is_other_again(later: &Account, fact: Fact, other: Fact) -> bool
     ensures { result ≡ is_other_again later.now fact other }
@@ -91,11 +86,13 @@ fn is_other_again(later: &Account, fact: Fact, other: Fact) -> bool
 fn comes_again(later: &Account, fact: Fact) -> bool
     ensures { result ≡ list_any (is_other_again later.now fact) later.now.causes }
 {
-    later
-        .causes
-        .slice()
-        .iter()
-        .any(|other| is_other_again(later, fact, *other))
+    let causes = later.causes.slice();
+    'causes: for other in causes {
+        if is_other_again(later, fact, *other) {
+            return true;
+        }
+    }
+    false
 }
 
 /// Whether a fact comes again among the other causes of an account, unless it is of the bits of the account before.
@@ -109,11 +106,13 @@ fn may_go(later: &Account, account: &Account, fact: Fact) -> bool
 fn all_again(later: &Account, account: &Account) -> bool
     ensures { result ≡ list_all (may_go later.now account.now) account.now.causes }
 {
-    account
-        .causes
-        .slice()
-        .iter()
-        .all(|fact| may_go(later, account, *fact))
+    let causes = account.causes.slice();
+    'causes: for fact in causes {
+        if !may_go(later, account, *fact) {
+            return false;
+        }
+    }
+    true
 }
 
 /// Whether each of the other causes of an account comes again a cycle later, and no others.

@@ -1,8 +1,7 @@
 //! Accounts of facts of a trace: what forces them, what forces that in turn, which of them step a vector on
 //! as one, and since when a net has had its bit.
 //!
-//! Modules: `breaks` (`first_break`: whether a trace is of an execution), `drivers` (which nets flip-flops
-//! and data inputs drive), `basis` (what accounts are made by), `facts`, `block_account` (the account of a
+//! Modules: `drivers` (which nets flip-flops and data inputs drive), `basis` (what accounts are made by), `facts`, `block_account` (the account of a
 //! block), `sourced` (the block by all flip-flops and data inputs of a cycle), `telling` (the account of a
 //! unit), `units` (facts of one vector and cycle), `layer`, `ledger` and `further` (what is told already, and
 //! asked further), `accounts` (`accounts_of`). Used above: `Explain` (`specs/Accounts`). By which facts a
@@ -18,7 +17,6 @@ mod account;
 mod accounts;
 mod basis;
 mod block_account;
-mod breaks;
 mod chain;
 mod drivers;
 mod facts;
@@ -33,7 +31,6 @@ mod units;
 
 pub use account::Account;
 pub use accounts::accounts_of;
-pub use breaks::first_break;
 pub use chain::{Chain, Place, chains_of};
 pub use facts::input_facts;
 pub use order::ordered_chains;

@@ -13,7 +13,8 @@ use Rattle.bs_inspect_check.specs.declared.flops.FlopComparison.{FlopComparison}
 use Rattle.bs_inspect_check.specs.declared.tally.Tally.{Tally as CodeTally}
 use Rattle.bs_inspect_check.specs.declared.walk.Watch.{Watch as CodeWatch}
 use Rattle.bs_inspect_check.specs.Flops.{compared_by, comparison}
-use Rattle.bs_inspect_check.specs.Samples.{changes_of, edge_levels, is_found, levels_by, samples}
+use Rattle.bs_vcd.specs.Found.{is_found}
+use Rattle.bs_inspect_check.specs.Samples.{changes_of, edge_levels, levels_by, samples}
 use Rattle.bs_inspect_check.specs.Tallies.{comparison_by, comparison_in, IsBegin, IsSmall, lasted, moved, Replayed, stepped, Tally, tally_of, walked, Watch, watch_in, whole}
 use Rattle.bs_inspect_check.proofs.TallyLemmas.{tally_push}
 use Rattle.bs_inspect_check.proofs.WalkLemmas.{moments_counted}

@@ -19,7 +19,8 @@ use Rattle.bs_inspect_check.specs.declared.flops.FlopComparison.{FlopComparison}
 use Rattle.bs_inspect_check.specs.declared.level.FlopLevel.{FlopLevel}
 use Rattle.bs_inspect_check.specs.declared.level.FlopLevel.TheVariants.{Missing, Unknown, Known as Level}
 use Rattle.bs_inspect_check.specs.declared.tally.CycleEnd.{CycleEnd}
-use Rattle.bs_inspect_check.specs.Samples.{is_found, samples, some_found, sources_of}
+use Rattle.bs_vcd.specs.Found.{is_found, some_found, sources_of}
+use Rattle.bs_inspect_check.specs.Samples.{samples}
 
 -- ---- a flip-flop at the end of a cycle
 

@@ -8,18 +8,18 @@ ghost use Rattle.bs_vcd_header.specs.Header.{begun_in, header_in};
 ghost use Rattle.bs_vcd_header.specs.Tokens.{tokens_from};
 ghost use Rattle.bs_vcd.specs.History.{history_of};
 ghost use Rattle.bs_inspect_check.specs.Flops.{compared_by, compared_from, compared_of, flops_compared};
-ghost use Rattle.bs_inspect_check.specs.Samples.{is_found};
+ghost use Rattle.bs_vcd.specs.Found.{is_found};
 ghost use Rattle.bs_inspect_check.specs.Tallies.{comparison_in, IsBegin, IsSmall, watch_in, whole};
 
 use crate::replay::Replay;
-use crate::sources::{found_bits, found_sources};
+use crate::sources::found_bits;
 use crate::tally::{CycleEnd, Tally, end_cycle};
 use crate::walk::{Sources, Watch, no_watch, walk};
 use bs_bits::{Bits, List};
 use bs_net::Netlist;
 use bs_net_names::key_parts;
 use bs_stim::Runs;
-use bs_vcd::{clock_scope, clock_source};
+use bs_vcd::{clock_scope, clock_source, found_sources};
 use bs_vcd_header::{Behind, HeaderDeclarations, HeaderState, VcdFault, nothing, take_words};
 use std::alloc::Global;
 

@@ -1,10 +1,10 @@
 -- The VCDs, one after another.
 use Rattle.std.proofs.Common.{◌≡◌, ℕ, List, [], ◌∷◌, length, map, Bor, Result, Ok, Err, refl, sym, subst, arith}
 use Rattle.bs_outside.specs.Calls.{FetchCall}
-use Rattle.bs_top_plan.specs.declared.diagnostic.WalkStop.{WalkStop}
-use Rattle.bs_top_plan.specs.Plan.{Tells, Counts, Plan}
-use Rattle.bs_top_plan.specs.Telling.{WalksDiagnosed}
-use Rattle.bs_top_plan.proofs.TellingLemmas.{diagnosed_stop, diagnosed_then}
+use Rattle.bs_outside.specs.declared.diagnostic.WalkStop.{WalkStop}
+use Rattle.bs_outside.specs.Plan.{Tells, Counts, Plan}
+use Rattle.bs_outside.specs.Telling.{WalksDiagnosed}
+use Rattle.bs_outside.proofs.TellingLemmas.{diagnosed_stop, diagnosed_then}
 use Rattle.bs_top_files.specs.NoteCases.{NoteCase, NoteSays}
 use Rattle.bs_top_files.specs.Refusals.{Case, CheckSays}
 use Rattle.bs_inspect_check.specs.declared.comparison.Comparison.{Comparison}

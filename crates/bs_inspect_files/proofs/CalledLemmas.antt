@@ -3,10 +3,10 @@ use Rattle.std.proofs.Common.{◌≡◌, ℕ, ◌+◌, Bool, List, [], ◌∷◌
 use Rattle.std.specs.Borrow.{Bor}
 use Rattle.std.proofs.lemmas.List.{map-append, take_more}
 use Rattle.std.proofs.lemmas.Option.{get_or_from_slice_get, slice_get_within}
-use Rattle.bs_top_plan.specs.declared.walk.Refusal.{Refusal}
-use Rattle.bs_top_plan.specs.declared.walk.Refusal.TheVariants as Q
-use Rattle.bs_top_plan.specs.Plan.{exactly}
-use Rattle.bs_top_plan.specs.Walks.{Reads}
+use Rattle.bs_outside.specs.declared.walk.Refusal.{Refusal}
+use Rattle.bs_outside.specs.declared.walk.Refusal.TheVariants as Q
+use Rattle.bs_outside.specs.Plan.{exactly}
+use Rattle.bs_outside.specs.Walks.{Reads}
 use Rattle.bs_top_files.specs.NoteCases.{HasNote, NoteCase, NoteSays}
 use Rattle.bs_top_files.specs.Refusals.{Case, CheckSays, HasWords}
 use Rattle.bs_inspect_notes.specs.Names.{net_text}

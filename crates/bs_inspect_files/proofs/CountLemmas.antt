@@ -5,14 +5,14 @@ use Rattle.std.specs.Result.{IfOk}
 use Rattle.std.proofs.lemmas.Bool.{eq-eqb, ne_eqb}
 use Rattle.std.proofs.lemmas.List.{length-map}
 use Rattle.bs_stim.specs.Runs.{Stimulus}
-use Rattle.bs_top_plan.specs.declared.diagnostic.Unread.{Unread}
-use Rattle.bs_top_plan.specs.declared.diagnostic.WalkStop.{WalkStop}
-use Rattle.bs_top_plan.specs.declared.file.File.{File}
-use Rattle.bs_top_plan.specs.declared.walk.Refusal.{Refusal}
-use Rattle.bs_top_plan.specs.declared.walk.Refusal.TheVariants as Q
-use Rattle.bs_top_plan.specs.Diagnostic.{settled_diagnostic}
-use Rattle.bs_top_plan.specs.Plan.{exactly}
-use Rattle.bs_top_plan.specs.Walks.{Reads}
+use Rattle.bs_outside.specs.declared.diagnostic.Unread.{Unread}
+use Rattle.bs_outside.specs.declared.diagnostic.WalkStop.{WalkStop}
+use Rattle.bs_outside.specs.declared.file.File.{File}
+use Rattle.bs_outside.specs.declared.walk.Refusal.{Refusal}
+use Rattle.bs_outside.specs.declared.walk.Refusal.TheVariants as Q
+use Rattle.bs_outside.specs.Diagnostic.{settled_diagnostic}
+use Rattle.bs_outside.specs.Plan.{exactly}
+use Rattle.bs_outside.specs.Walks.{Reads}
 use Rattle.bs_top_files.specs.NoteCases.{HasNote, NoteCase, NoteSays}
 use Rattle.bs_top_files.specs.Refusals.{Case, CheckSays, HasWords}
 use Rattle.bs_inspect_values.proofs.WalkLemmas.{settled_if}

@@ -3,10 +3,10 @@ use Rattle.std.proofs.Common.{◌≡◌, ◌⊎◌, inl, inr, ℕ, List, Result,
 use Rattle.bs_vcd_header.specs.declared.fault.VcdFault.{VcdFault}
 use Rattle.bs_vcd_header.specs.declared.fault.VcdFault.TheVariants.{NoMemory as Want}
 use Rattle.bs_inspect_check.specs.declared.comparison.Comparison.{Comparison}
-use Rattle.bs_top_plan.specs.declared.walk.Refusal.{Refusal}
-use Rattle.bs_top_plan.specs.declared.walk.Refusal.TheVariants as Q
-use Rattle.bs_top_plan.specs.Plan.{Reason}
-use Rattle.bs_top_plan.specs.Walks.{Reads}
+use Rattle.bs_outside.specs.declared.walk.Refusal.{Refusal}
+use Rattle.bs_outside.specs.declared.walk.Refusal.TheVariants as Q
+use Rattle.bs_outside.specs.Plan.{Reason}
+use Rattle.bs_outside.specs.Walks.{Reads}
 use Rattle.bs_top_files.specs.NoteCases.{HasNote, NoteCase, NoteSays}
 use Rattle.bs_top_files.specs.Noting.{noted_by}
 use Rattle.bs_top_files.specs.Refusals.{CheckSays, HasWords, with_reason}

@@ -6,8 +6,8 @@ use Rattle.bs_stim.specs.Runs.{Stimulus}
 use Rattle.bs_inspect_notes.specs.declared.name.Subject.TheVariants.{Flops}
 use Rattle.bs_inspect_report.specs.Keys.{flop_keys}
 use Rattle.bs_inspect_check.specs.declared.comparison.Comparison.{Comparison}
-use Rattle.bs_top_plan.specs.declared.file.File.TheVariants as files
-use Rattle.bs_top_plan.specs.Plan.{Plan, ◌>>=◌, end, fetched, read_as}
+use Rattle.bs_outside.specs.declared.file.File.TheVariants as files
+use Rattle.bs_outside.specs.Plan.{Plan, ◌>>=◌, end, fetched, read_as}
 use Rattle.bs_top_files.specs.NoteCases.{NoteCase}
 use Rattle.bs_top_files.specs.Refusals.{Case}
 use Rattle.bs_inspect_files.specs.Taken.{run_files_looked, run_files_of, RunFiles}

@@ -1,35 +1,37 @@
--- Whether the trace of a report has as many bits as a netlist has flip-flops and data inputs, and whether names are those of a netlist.
-use Rattle.std.specs.Prelude.{ℕ, ◌==◌, ◌||◌, not, Bool, true, List, ◌++◌, length, codes, decimal, Option, Some, None, Result, Ok, Err, if◌then◌else◌}
-use Rattle.std.specs.List.{position}
+-- Whether a report fits a netlist, and whether names are those of a netlist (docs/FORMATS.md, "Words of `backspace_inspect`").
+use Rattle.std.specs.Prelude.{ℕ, ◌||◌, Bool, true, List, ◌++◌, codes, decimal, Option, Some, None, Result, Ok, Err, if◌then◌else◌}
 use Rattle.bs_net.specs.Parts.{Parts}
-use Rattle.bs_net.specs.Netlist.{circuit_of}
 use Rattle.bs_report.specs.declared.report.Report.{Report}
-use Rattle.bs_top_plan.specs.Plan.{Reason, exactly}
+use Rattle.bs_outside.specs.Plan.{Reason, exactly}
 use Rattle.bs_inspect_report.specs.Known.{first_unknown}
+use Rattle.bs_inspect_report_texts.specs.Fits.{fit_fault}
+use Rattle.bs_inspect_report_texts.specs.declared.misfit.FitFault.{FitFault}
+use Rattle.bs_inspect_report_texts.specs.declared.misfit.FitFault.TheVariants.{State, Input, Astray, Candidate}
 use Rattle.bs_top_files.specs.Readings.{is_known}
 use Rattle.bs_top_files.specs.Refusals.{Case, partial_reason}
 use Rattle.bs_inspect_files.specs.Words.{name_reason}
 
--- the place of the first list of another length
-abbrev pub misfit : ℕ → List (List Bool) → Option ℕ
-misfit width lists = position (λ bits. not (length bits == width)) lists
+-- ---- a report
 
-abbrev pub fit_of : (state input : Option ℕ) → Result Bool (Reason Case)
-fit_of (Some i) input = Err (exactly (codes "TraceState " ++ decimal i))
-fit_of None (Some i) = Err (exactly (codes "TraceInput " ++ decimal i))
-fit_of None None = Ok true
+abbrev pub fault_words : FitFault → List ℕ
+fault_words (State i) = codes "TraceState " ++ decimal i
+fault_words (Input i) = codes "TraceInput " ++ decimal i
+fault_words (Astray i) = codes "TraceStep " ++ decimal i
+fault_words (Candidate i) = codes "Candidate " ++ decimal i
 
--- the trace has the netlist's widths, or the place of its first state or input that has not
-abbrev pub widths_in : Parts → Report → Result Bool (Reason Case)
-widths_in r report = fit_of (misfit (length r.flops) report.states) (misfit (length (circuit_of r).inputs) report.inputs)
+abbrev pub fit_of : Option FitFault → Result Bool (Reason Case)
+fit_of None = Ok true
+fit_of (Some fault) = Err (exactly (fault_words fault))
 
 -- whether a trace is known as far as it has to be: all of it, where it may not be known in part
 abbrev pub is_enough : (partial : Bool) → Report → Bool
 is_enough partial report = partial || is_known report
 
--- the trace is known as far as it has to be, and it fits the netlist
+-- the trace is known as far as it has to be, and the report fits the netlist
 abbrev pub fit_in : (partial : Bool) → Parts → Report → Result Bool (Reason Case)
-fit_in partial r report = if is_enough partial report then widths_in r report else Err partial_reason
+fit_in partial r report = if is_enough partial report then fit_of (fit_fault r report) else Err partial_reason
+
+-- ---- names
 
 abbrev pub known_of : Option (List ℕ) → Result Bool (Reason Case)
 known_of None = Ok true

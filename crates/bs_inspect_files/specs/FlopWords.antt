@@ -4,7 +4,7 @@ use Rattle.bs_inspect_netlist.specs.declared.fault.OrderFault.{OrderFault}
 use Rattle.bs_inspect_netlist.specs.declared.fault.OrderFault.TheVariants as chain
 use Rattle.bs_inspect_netlist.specs.declared.fault.PatternFault.{PatternFault}
 use Rattle.bs_inspect_netlist.specs.declared.fault.PatternFault.TheVariants as pattern
-use Rattle.bs_note_places.specs.Quotes.{shown_line}
+use Rattle.bs_net_names.specs.Quotes.{shown_line}
 
 -- an order of a scan chain; a line counts from 1
 abbrev pub order_words : OrderFault → List ℕ

@@ -2,8 +2,8 @@
 use Rattle.std.specs.Prelude.{ℕ, false, List, Option, Some, None}
 use Rattle.bs_net.specs.Parts.{Parts}
 use Rattle.bs_scan.specs.Choice.{Chosen}
-use Rattle.bs_top_plan.specs.declared.file.File.TheVariants as files
-use Rattle.bs_top_plan.specs.Plan.{Plan, end, ◌>>=◌, read_as}
+use Rattle.bs_outside.specs.declared.file.File.TheVariants as files
+use Rattle.bs_outside.specs.Plan.{Plan, end, ◌>>=◌, read_as}
 use Rattle.bs_top_files.specs.Entry.{netlist_of, signature_of}
 use Rattle.bs_top_files.specs.Looking.{netlist_looked, signature_looked}
 use Rattle.bs_top_files.specs.NoteCases.{NoteCase}

@@ -12,7 +12,7 @@ use Rattle.bs_note_files.specs.Notes.{Saying, saying, plain_text}
 use Rattle.bs_inspect_notes.specs.declared.name.Subject.TheVariants.{Flops}
 use Rattle.bs_inspect_notes.specs.Names.{key_saying, net_text, numbered}
 use Rattle.bs_inspect_report.specs.Keys.{flop_keys}
-use Rattle.bs_top_plan.specs.Plan.{Reason, exactly, any_of}
+use Rattle.bs_outside.specs.Plan.{Reason, exactly, any_of}
 use Rattle.bs_top_files.specs.NoteCases.{NoteCase, at_line}
 use Rattle.bs_top_files.specs.Noting.{noted_by}
 use Rattle.bs_top_files.specs.Refusals.{Case, with_reason}

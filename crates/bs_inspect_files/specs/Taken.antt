@@ -4,8 +4,8 @@ use Rattle.bs_net.specs.Parts.{Parts}
 use Rattle.bs_report.specs.declared.report.Report.{Report}
 use Rattle.bs_scan.specs.Moments.{Moment}
 use Rattle.bs_stim.specs.Runs.{Stimulus as Runs}
-use Rattle.bs_top_plan.specs.declared.file.File.TheVariants as files
-use Rattle.bs_top_plan.specs.Plan.{Plan, end, ◌>>=◌, read_as}
+use Rattle.bs_outside.specs.declared.file.File.TheVariants as files
+use Rattle.bs_outside.specs.Plan.{Plan, end, ◌>>=◌, read_as}
 use Rattle.bs_scan.specs.Choice.{Chosen}
 use Rattle.bs_top_files.specs.Entry.{netlist_of, report_of, signature_of, stimulus_of}
 use Rattle.bs_top_files.specs.Looking.{netlist_looked, report_looked, signature_looked, stimulus_looked}

@@ -1,8 +1,8 @@
 //! Whether the nets of a netlist have names, or the diagnostic of the first that none has.
 ghost use Rattle.std.specs.Prelude.{◌≡◌, true, map, IfOk};
-ghost use Rattle.bs_top_plan.specs.Plan.{exactly};
-ghost use Rattle.bs_top_plan.specs.Diagnostic.{note_refusal, noted, word_refusal, worded};
-ghost use Rattle.bs_top_plan.specs.Walks.{Reads};
+ghost use Rattle.bs_outside.specs.Plan.{exactly};
+ghost use Rattle.bs_outside.specs.Diagnostic.{note_refusal, noted, word_refusal, worded};
+ghost use Rattle.bs_outside.specs.Walks.{Reads};
 ghost use Rattle.bs_top_files.specs.NoteCases.{HasNote, NoteSays};
 ghost use Rattle.bs_top_files.specs.Refusals.{CheckSays, HasWords};
 ghost use Rattle.bs_net.specs.Netlist.{parts_of};
@@ -15,7 +15,7 @@ use bs_bits::NoMemory;
 use bs_inspect_names::first_unnamed;
 use bs_inspect_notes::net_note;
 use bs_net::{NetId, Netlist, Raw};
-use bs_top_plan::{Unread, both};
+use bs_outside::{Unread, both};
 use std::alloc::Global;
 
 /// The keys of the nets of a netlist's parts, as bytes.

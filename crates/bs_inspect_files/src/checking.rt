@@ -1,7 +1,7 @@
 //! The walk over all files.
 ghost use Rattle.std.specs.Prelude.{◌≡◌, length, map};
 ghost use Rattle.bs_net.specs.Netlist.{circuit};
-ghost use Rattle.bs_top_plan.specs.Telling.{WalksDiagnosed};
+ghost use Rattle.bs_outside.specs.Telling.{WalksDiagnosed};
 ghost use Rattle.bs_top_files.specs.NoteCases.{NoteSays};
 ghost use Rattle.bs_top_files.specs.Refusals.{CheckSays};
 ghost use Rattle.bs_inspect_files.specs.Taken.{run_files_in};
@@ -15,8 +15,7 @@ use crate::ready::RunFiles;
 use crate::tracing::load_run_files;
 use bs_inspect_check::Comparison;
 use bs_inspect_values::clock_or;
-use bs_outside::Shelf;
-use bs_top_plan::{File, WalkStop, settle_diagnostic};
+use bs_outside::{File, Shelf, WalkStop, settle_diagnostic};
 use std::alloc::Global;
 
 /// The names of the files, and the clock and the scope, where they are asked for.

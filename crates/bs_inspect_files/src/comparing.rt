@@ -1,9 +1,9 @@
 //! All runs beside their VCDs, one after another.
 ghost use Rattle.std.specs.Prelude.{◌≡◌, ◌<◌, ◌≤◌, ◌+◌, ◌^◌, ◌++◌, ◌∷◌, [], length, map, IfErr, OnOk};
 ghost use Rattle.bs_net.specs.Netlist.{circuit};
-ghost use Rattle.bs_top_plan.specs.declared.diagnostic.WalkStop.TheVariants.{Plain};
-ghost use Rattle.bs_top_plan.specs.declared.walk.JobFault.TheVariants.{NoMemory as NoRoom};
-ghost use Rattle.bs_top_plan.specs.Telling.{WalksDiagnosed};
+ghost use Rattle.bs_outside.specs.declared.diagnostic.WalkStop.TheVariants.{Plain};
+ghost use Rattle.bs_outside.specs.declared.walk.JobFault.TheVariants.{NoMemory as NoRoom};
+ghost use Rattle.bs_outside.specs.Telling.{WalksDiagnosed};
 ghost use Rattle.bs_top_files.specs.NoteCases.{NoteSays};
 ghost use Rattle.bs_top_files.specs.Refusals.{CheckSays};
 ghost use Rattle.bs_inspect_files.specs.Checked.{all_behind, all_behind_looked, all_looked, all_of, beside_in, next_looked, next_of, one_looked, one_of};
@@ -13,9 +13,8 @@ use bs_bits::NoMemory;
 use bs_inspect_check::{Comparison, RunOf};
 use bs_inspect_values::Sampling;
 use bs_net::Netlist;
-use bs_outside::Shelf;
+use bs_outside::{File, JobFault, Shelf, WalkStop, fetch_file, settle_diagnostic};
 use bs_stim::Runs;
-use bs_top_plan::{File, JobFault, WalkStop, fetch_file, settle_diagnostic};
 use std::alloc::Global;
 
 /// A netlist and recorded runs, the clock of the VCDs, and a scope, where one is asked for.

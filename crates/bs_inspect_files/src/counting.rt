@@ -1,8 +1,8 @@
 //! As many VCDs as runs.
 ghost use Rattle.std.specs.Prelude.{◌≡◌, length, map, true, IfOk};
-ghost use Rattle.bs_top_plan.specs.Plan.{exactly};
-ghost use Rattle.bs_top_plan.specs.Diagnostic.{note_refusal, noted, word_refusal, worded};
-ghost use Rattle.bs_top_plan.specs.Walks.{Reads};
+ghost use Rattle.bs_outside.specs.Plan.{exactly};
+ghost use Rattle.bs_outside.specs.Diagnostic.{note_refusal, noted, word_refusal, worded};
+ghost use Rattle.bs_outside.specs.Walks.{Reads};
 ghost use Rattle.bs_top_files.specs.NoteCases.{HasNote, NoteSays};
 ghost use Rattle.bs_top_files.specs.Refusals.{CheckSays, HasWords};
 ghost use Rattle.bs_inspect_files.specs.VcdReadings.{count_in, count_noted, count_text, count_words};
@@ -10,8 +10,8 @@ ghost use Rattle.bs_inspect_files.specs.VcdReadings.{count_in, count_noted, coun
 use bs_bits::{NoMemory, push_number, push_piece};
 use bs_inspect_values::numbered;
 use bs_note_files::file_note;
+use bs_outside::{Unread, both};
 use bs_stim::Runs;
-use bs_top_plan::{Unread, both};
 use std::alloc::Global;
 
 /// A note on a number of VCDs that is not that of the runs.

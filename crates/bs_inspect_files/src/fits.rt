@@ -1,80 +1,53 @@
-//! Whether the trace of a report fits a netlist, and whether names are those of a netlist, or the diagnostic of them.
-ghost use Rattle.std.specs.Prelude.{◌≡◌, ◌==◌, ◌++◌, codes, decimal, length, true, not, map, All, IfOk};
-ghost use Rattle.std.specs.List.{position};
+//! Whether a report fits a netlist, and whether names are those of a netlist, or the diagnostic of them.
+ghost use Rattle.std.specs.Prelude.{◌≡◌, ◌+◌, None, length, true, map, All, IfOk};
 ghost use Rattle.bs_net.specs.Netlist.{circuit};
-ghost use Rattle.bs_top_plan.specs.Plan.{exactly};
-ghost use Rattle.bs_top_plan.specs.Diagnostic.{note_refusal, noted, word_refusal, worded};
-ghost use Rattle.bs_top_plan.specs.Walks.{Reads};
+ghost use Rattle.bs_outside.specs.Plan.{exactly};
+ghost use Rattle.bs_outside.specs.Diagnostic.{note_refusal, noted, word_refusal, worded};
+ghost use Rattle.bs_outside.specs.Walks.{Reads};
 ghost use Rattle.bs_top_files.specs.NoteCases.{HasNote, NoteSays};
 ghost use Rattle.bs_top_files.specs.Refusals.{CheckSays, HasWords};
-ghost use Rattle.bs_inspect_notes.specs.Names.{name_text, state_text, trace_text};
-ghost use Rattle.bs_inspect_files.specs.Fits.{fit_in, is_enough, known_in, misfit, widths_in};
+ghost use Rattle.bs_inspect_notes.specs.Names.{name_text};
+ghost use Rattle.bs_inspect_report_texts.specs.Fits.{fit_fault};
+ghost use Rattle.bs_inspect_files.specs.Fits.{fit_in, fit_of, is_enough, known_in};
 ghost use Rattle.bs_inspect_values.specs.Saying.{all_keys};
-ghost use Rattle.bs_inspect_files.specs.Saying.{fit_noted, known_noted, widths_noted};
+ghost use Rattle.bs_inspect_files.specs.Saying.{fit_noted, fit_said, known_noted};
 ghost use Rattle.bs_inspect_files.specs.Words.{name_words};
 
+use crate::fit_fault::fault_diagnostic;
 use crate::refusals::name_refusal;
-use bs_bits::{Bits, NoMemory};
-use bs_inspect_notes::{name_note, state_note, trace_note};
+use bs_bits::NoMemory;
+use bs_inspect_notes::name_note;
 use bs_inspect_report::first_unknown;
-use bs_inspect_values::{all_bytes, numbered};
+use bs_inspect_report_texts::fit_fault;
+use bs_inspect_values::all_bytes;
 use bs_net::Netlist;
+use bs_outside::{Unread, both};
 use bs_report::Report;
 use bs_top_files::{is_known, partial_diagnostic};
-use bs_top_plan::{Unread, both};
 use std::alloc::Global;
 
 // ---- a report and a netlist
 
-/// The place of the first of these that has another number of bits.
-fn misfit(width: usize, lists: &[Bits]) -> Option<usize>
-    ensures { result ≡ misfit width lists.now }
-{
-    lists.iter().position(|bits| bits.len() != width)
-}
-
-/// The diagnostic of a state that does not fit.
-#[tactic(auto, using(bs_top_files::proofs::NotingLemmas::both_words, bs_top_files::proofs::NotingLemmas::both_these))]
-fn state_diagnostic(alloc: Global, path: &str, place: u64) -> Unread
-    ensures words { HasWords (codes "TraceState " ++ decimal place) (word_refusal result) }
-    ensures note { HasNote (exactly (state_text path.now place)) (note_refusal result) }
-{
-    let words = numbered(alloc, b"TraceState ", place);
-    let note = state_note(alloc, path, place);
-    both(words, note)
-}
-
-/// The diagnostic of an input that does not fit.
-#[tactic(auto, using(bs_top_files::proofs::NotingLemmas::both_words, bs_top_files::proofs::NotingLemmas::both_these))]
-fn input_diagnostic(alloc: Global, path: &str, place: u64) -> Unread
-    ensures words { HasWords (codes "TraceInput " ++ decimal place) (word_refusal result) }
-    ensures note { HasNote (exactly (trace_text path.now place)) (note_refusal result) }
-{
-    let words = numbered(alloc, b"TraceInput ", place);
-    let note = trace_note(alloc, path, place);
-    both(words, note)
-}
-
-/// Whether the trace of a report has a netlist's widths, or the diagnostic of it.
-#[tactic(auto, using(crate::proofs::FitLemmas::all_fit, crate::proofs::FitLemmas::state_words, crate::proofs::FitLemmas::state_note, crate::proofs::FitLemmas::input_words, crate::proofs::FitLemmas::input_note))]
-fn widths_or_diagnostic(
+/// Whether a report fits a netlist, or the diagnostic of it.
+#[tactic(auto, using(bs_inspect_report_texts::proofs::FitLemmas::states_fit, bs_inspect_report_texts::proofs::FitLemmas::inputs_fit, crate::proofs::FitLemmas::fault_words, crate::proofs::FitLemmas::fault_note))]
+fn fits_or_diagnostic(
     alloc: Global,
     path: &str,
     net: &Netlist,
     report: &Report,
 ) -> Result<(), Unread>
-    ensures words { Reads CheckSays (λ _. true) (widths_in net.now.raw report.now) (worded result) }
-    ensures note { Reads NoteSays (λ _. true) (widths_noted path.now net.now.raw report.now) (noted result) }
+    requires { length report.now.states ≡ length report.now.inputs + 1 }
+    ensures words { Reads CheckSays (λ _. true) (fit_of (fit_fault net.now.raw report.now)) (worded result) }
+    ensures note { Reads NoteSays (λ _. true) (fit_said path.now (fit_fault net.now.raw report.now)) (noted result) }
     ensures states { IfOk result (λ _. All (λ s. length s ≡ length (circuit net.now).flops) report.now.states) }
     ensures inputs { IfOk result (λ _. All (λ x. length x ≡ length (circuit net.now).inputs) report.now.inputs) }
+    ensures fits { IfOk result (λ _. None ≡ fit_fault net.now.raw report.now) }
 {
-    if let Some(place) = misfit(net.width(), report.states.slice()) {
-        return Err(state_diagnostic(alloc, path, place as u64));
+    match fit_fault(alloc, net, report) {
+        Ok(None) => Ok(()),
+        Ok(Some(fault)) => Err(fault_diagnostic(alloc, path, fault)),
+        Err(_) => Err(Unread::NoMemory),
     }
-    if let Some(place) = misfit(net.data_inputs().len(), report.inputs.slice()) {
-        return Err(input_diagnostic(alloc, path, place as u64));
-    }
-    Ok(())
 }
 
 /// Whether a trace is known as far as it has to be: all of it, where it may not be known in part.
@@ -84,7 +57,7 @@ fn is_enough(partial: bool, report: &Report) -> bool
     partial || is_known(report)
 }
 
-/// Whether a report's trace, which may be known in part or not, fits a netlist, or the diagnostic of it.
+/// Whether a report fits a netlist, whose trace may be known in part or not, or the diagnostic of it.
 #[tactic(auto, using(bs_top_files::proofs::NotingLemmas::words_where, bs_top_files::proofs::NotingLemmas::note_where, bs_top_files::proofs::NotingLemmas::words_not, bs_top_files::proofs::NotingLemmas::note_not))]
 pub fn fit_or_diagnostic(
     alloc: Global,
@@ -93,13 +66,15 @@ pub fn fit_or_diagnostic(
     net: &Netlist,
     report: &Report,
 ) -> Result<(), Unread>
+    requires { length report.now.states ≡ length report.now.inputs + 1 }
     ensures words { Reads CheckSays (λ _. true) (fit_in partial net.now.raw report.now) (worded result) }
     ensures note { Reads NoteSays (λ _. true) (fit_noted partial path.now net.now.raw report.now) (noted result) }
     ensures states { IfOk result (λ _. All (λ s. length s ≡ length (circuit net.now).flops) report.now.states) }
     ensures inputs { IfOk result (λ _. All (λ x. length x ≡ length (circuit net.now).inputs) report.now.inputs) }
+    ensures fits { IfOk result (λ _. None ≡ fit_fault net.now.raw report.now) }
 {
     if is_enough(partial, report) {
-        widths_or_diagnostic(alloc, path, net, report)
+        fits_or_diagnostic(alloc, path, net, report)
     } else {
         Err(partial_diagnostic(alloc, path))
     }

@@ -2,16 +2,16 @@
 ghost use Rattle.std.specs.Prelude.{◌≡◌, IfOk};
 ghost use Rattle.bs_inspect_netlist.specs.declared.fault.OrderFault.TheVariants.{NoMemory as OrderWant};
 ghost use Rattle.bs_inspect_netlist.specs.declared.fault.PatternFault.TheVariants.{NoMemory as PatternWant};
-ghost use Rattle.bs_top_plan.specs.declared.walk.Refusal.TheVariants.{NoMemory as Want};
+ghost use Rattle.bs_outside.specs.declared.walk.Refusal.TheVariants.{NoMemory as Want};
 ghost use Rattle.bs_top_files.specs.Refusals.{HasWords};
 ghost use Rattle.bs_inspect_files.specs.FlopWords.{order_words, pattern_words, unnamed_words};
 
 use bs_bits::{NoMemory, push_piece};
 use bs_inspect_netlist::{OrderFault, PatternFault};
 use bs_inspect_values::{numbered, refusal};
-use bs_note_places::push_quoted;
+use bs_net_names::push_quoted;
+use bs_outside::Refusal;
 use bs_top_files::worded;
-use bs_top_plan::Refusal;
 use std::alloc::Global;
 
 /// Why a text is no order of a scan chain.

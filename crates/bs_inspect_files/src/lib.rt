@@ -1,8 +1,8 @@
 //! The files of a request about a report, recorded runs or flip-flops: each is fetched, read and checked
 //! before the next, up to what they make ready or the first refusal.
 //!
-//! Modules: `refusals` and `flop_refusals` (the words of a refusal), `fits` (whether a trace fits a netlist,
-//! and names are its own, or a diagnostic), `called`, `order` and `pattern` (names, a scan chain's order and
+//! Modules: `refusals` and `flop_refusals` (the words of a refusal), `fits` (whether a report fits a netlist,
+//! and names are its own, or a diagnostic), `fit_fault` (why it does not), `called`, `order` and `pattern` (names, a scan chain's order and
 //! a pattern: a reader each, `*_or_diagnostic`), `ready` (`TraceFiles`, `PageFiles`, `RunFiles`,
 //! `BenchFiles`, `ReportFiles`, `OneRun`, `Scanned`), `tracing`, `paging` and `loading` (the walks). The
 //! netlist, the report and the stimulus are fetched and read by bs_top_files; an answer of `reach` in place
@@ -21,6 +21,7 @@ mod called;
 mod checking;
 mod comparing;
 mod counting;
+mod fit_fault;
 mod fits;
 mod flop_refusals;
 mod loading;

@@ -1,8 +1,8 @@
 //! The walks over the files: each is fetched and read once, up to the first that stops the walk.
 ghost use Rattle.std.specs.Prelude.{◌≡◌, map};
-ghost use Rattle.bs_top_plan.specs.declared.file.File.TheVariants as files;
-ghost use Rattle.bs_top_plan.specs.Plan.{read_as};
-ghost use Rattle.bs_top_plan.specs.Telling.{WalksDiagnosed};
+ghost use Rattle.bs_outside.specs.declared.file.File.TheVariants as files;
+ghost use Rattle.bs_outside.specs.Plan.{read_as};
+ghost use Rattle.bs_outside.specs.Telling.{WalksDiagnosed};
 ghost use Rattle.bs_top_files.specs.NoteCases.{NoteSays};
 ghost use Rattle.bs_top_files.specs.Refusals.{CheckSays};
 ghost use Rattle.bs_inspect_files.specs.Readings.{pattern_noted, pattern_read};
@@ -14,9 +14,8 @@ use crate::pattern::{file_in, joined, pattern_or_diagnostic};
 use crate::ready::Scanned;
 use bs_bits::Bits;
 use bs_net::Netlist;
-use bs_outside::Shelf;
+use bs_outside::{File, JobFault, Shelf, WalkStop, fetch_file, settle_diagnostic};
 use bs_top_files::load_netlist;
-use bs_top_plan::{File, JobFault, WalkStop, fetch_file, settle_diagnostic};
 use std::alloc::Global;
 
 /// Drops a value, which a walk that stops lets go.

@@ -1,8 +1,8 @@
 //! The names that the flip-flops have in a simulation.
 ghost use Rattle.std.specs.Prelude.{◌≡◌, ◌<◌, ◌≤◌, ◌^◌, length, map, option_map, None, Some};
 ghost use Rattle.bs_net.specs.Netlist.{circuit};
-ghost use Rattle.bs_top_plan.specs.declared.limits.TheConstants.{MAX_MAP_BYTES};
-ghost use Rattle.bs_top_plan.specs.Telling.{WalksDiagnosed};
+ghost use Rattle.bs_outside.specs.declared.limits.TheConstants.{MAX_MAP_BYTES};
+ghost use Rattle.bs_outside.specs.Telling.{WalksDiagnosed};
 ghost use Rattle.bs_top_files.specs.NoteCases.{NoteSays};
 ghost use Rattle.bs_top_files.specs.Refusals.{CheckSays};
 ghost use Rattle.bs_inspect_report.specs.Keys.{flop_keys};
@@ -14,8 +14,7 @@ use bs_inspect_check::Comparison;
 use bs_inspect_names::slices_of;
 use bs_inspect_notes::Subject;
 use bs_inspect_values::{flop_bytes, names_or_diagnostic};
-use bs_outside::Shelf;
-use bs_top_plan::{File, JobFault, WalkStop, fetch_file, settle_diagnostic};
+use bs_outside::{File, JobFault, Shelf, WalkStop, fetch_file, settle_diagnostic};
 use std::alloc::Global;
 
 /// All runs, where the names of the flip-flops are their keys.

@@ -1,6 +1,6 @@
 //! The walk over the files of a page: each file is fetched and read once, up to the first that stops the walk.
 ghost use Rattle.std.specs.Prelude.{◌≡◌, None, Some, map, option_map};
-ghost use Rattle.bs_top_plan.specs.Telling.{WalksDiagnosed};
+ghost use Rattle.bs_outside.specs.Telling.{WalksDiagnosed};
 ghost use Rattle.bs_top_files.specs.NoteCases.{NoteSays};
 ghost use Rattle.bs_top_files.specs.Refusals.{CheckSays};
 ghost use Rattle.bs_inspect_files.specs.Paged.{chosen_step, chosen_step_looked, known_step, known_step_looked, page_files_in, page_files_looked, page_files_of, picked_step, picked_step_looked, signed_step, signed_step_looked};
@@ -10,10 +10,9 @@ use crate::fits::known_or_diagnostic;
 use crate::ready::{PageFiles, TraceFiles};
 use crate::tracing::load_reported;
 use bs_net::Netlist;
-use bs_outside::Shelf;
+use bs_outside::{File, Shelf, WalkStop, settle_diagnostic};
 use bs_scan::Choice;
 use bs_top_files::{load_netlist, load_signature};
-use bs_top_plan::{File, WalkStop, settle_diagnostic};
 use std::alloc::Global;
 
 /// Drops a value, which a walk that stops lets go.

@@ -1,10 +1,10 @@
 //! The pattern of a scan chain, or the diagnostic of its bits.
 ghost use Rattle.std.specs.Prelude.{◌≡◌, ◌++◌, ◌∷◌, [], not, IfOk, OnOk, if◌then◌else◌};
 ghost use Rattle.std.specs.Option.{option_copied};
-ghost use Rattle.bs_top_plan.specs.declared.walk.Refusal.TheVariants.{NoMemory as Want};
-ghost use Rattle.bs_top_plan.specs.Plan.{exactly};
-ghost use Rattle.bs_top_plan.specs.Diagnostic.{note_refusal, noted, word_refusal, worded};
-ghost use Rattle.bs_top_plan.specs.Walks.{Reads};
+ghost use Rattle.bs_outside.specs.declared.walk.Refusal.TheVariants.{NoMemory as Want};
+ghost use Rattle.bs_outside.specs.Plan.{exactly};
+ghost use Rattle.bs_outside.specs.Diagnostic.{note_refusal, noted, word_refusal, worded};
+ghost use Rattle.bs_outside.specs.Walks.{Reads};
 ghost use Rattle.bs_top_files.specs.NoteCases.{HasNote, NoteSays};
 ghost use Rattle.bs_top_files.specs.Refusals.{CheckSays, HasWords};
 ghost use Rattle.bs_inspect_netlist.specs.declared.fault.PatternFault.TheVariants.{NoMemory as PatternWant};
@@ -15,7 +15,7 @@ use crate::flop_refusals::pattern_refusal;
 use bs_bits::{Bits, NoMemory, push_number, push_piece};
 use bs_inspect_netlist::{PatternFault, read_pattern};
 use bs_note_files::plain_note;
-use bs_top_plan::{Unread, both};
+use bs_outside::{Unread, both};
 use std::alloc::Global;
 
 /// A note on bits that have another character than 0 and 1.

@@ -4,9 +4,9 @@ ghost use Rattle.bs_bits.specs.Reading.{Answers};
 ghost use Rattle.bs_net.specs.Netlist.{circuit};
 ghost use Rattle.bs_vcd_header.specs.declared.fault.VcdFault.TheVariants.{NoMemory as Want};
 ghost use Rattle.bs_inspect_check.specs.Comparison.{compared_in};
-ghost use Rattle.bs_top_plan.specs.declared.limits.TheConstants.{MAX_VCD_BYTES};
-ghost use Rattle.bs_top_plan.specs.Diagnostic.{noted, worded};
-ghost use Rattle.bs_top_plan.specs.Walks.{Reads};
+ghost use Rattle.bs_outside.specs.declared.limits.TheConstants.{MAX_VCD_BYTES};
+ghost use Rattle.bs_outside.specs.Diagnostic.{noted, worded};
+ghost use Rattle.bs_outside.specs.Walks.{Reads};
 ghost use Rattle.bs_top_files.specs.NoteCases.{NoteSays};
 ghost use Rattle.bs_top_files.specs.Refusals.{CheckSays};
 ghost use Rattle.bs_inspect_files.specs.VcdReadings.{compared_noted, compared_read};
@@ -14,7 +14,7 @@ ghost use Rattle.bs_inspect_files.specs.VcdReadings.{compared_noted, compared_re
 use bs_inspect_check::{Comparison, RunOf, compare};
 use bs_inspect_notes::Subject;
 use bs_inspect_values::{Sampling, maybe_bytes, vcd_diagnostic};
-use bs_top_plan::Unread;
+use bs_outside::Unread;
 use bs_vcd_header::VcdFault;
 use std::alloc::Global;
 

@@ -1,9 +1,10 @@
 //! What the files of a request made ready.
-ghost use Rattle.std.specs.Prelude.{◌≡◌, ◌≤◌, ◌+◌, length, All};
+ghost use Rattle.std.specs.Prelude.{◌≡◌, ◌≤◌, ◌+◌, None, length, All};
 ghost use Rattle.bs_report.specs.declared.limits.TheConstants.{MAX_STEPS};
 ghost use Rattle.bs_net.specs.Netlist.{circuit};
 ghost use Rattle.bs_scan.specs.Moments.{IsMoment};
 ghost use Rattle.bs_stim.specs.Runs.{inputs_of};
+ghost use Rattle.bs_inspect_report_texts.specs.Fits.{fit_fault};
 
 use bs_bits::Bits;
 use bs_net::Netlist;
@@ -11,7 +12,7 @@ use bs_report::Report;
 use bs_scan::{Choice, Moment};
 use bs_stim::Runs;
 
-/// A netlist, and a report whose trace has as many bits as it.
+/// A netlist, and a report that fits it.
 #[derive(Drop)]
 pub struct TraceFiles {
     pub net: Netlist,
@@ -19,6 +20,7 @@ pub struct TraceFiles {
     ghost more: { length report.states ≡ length report.inputs + 1 },
     ghost states: { All (λ s. length s ≡ length (circuit net).flops) report.states },
     ghost inputs: { All (λ x. length x ≡ length (circuit net).inputs) report.inputs },
+    ghost fits: { None ≡ fit_fault net.raw report },
 }
 
 /// The files of a page: a netlist and a report, and what the signature is taken of, where one is given.

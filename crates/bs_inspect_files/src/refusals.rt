@@ -5,8 +5,8 @@ ghost use Rattle.bs_inspect_files.specs.Words.{name_words};
 
 use bs_bits::{NoMemory, push_piece};
 use bs_inspect_values::refusal;
-use bs_note_places::push_quoted;
-use bs_top_plan::Refusal;
+use bs_net_names::push_quoted;
+use bs_outside::Refusal;
 use std::alloc::Global;
 
 /// The words of a name that is none of a netlist.

@@ -1,7 +1,7 @@
 //! The walks over the files of a report and of recorded runs: each file is fetched and read once, up to the first that stops the walk.
 ghost use Rattle.std.specs.Prelude.{◌≡◌, ◌+◌, length, map};
 ghost use Rattle.bs_net.specs.Netlist.{circuit};
-ghost use Rattle.bs_top_plan.specs.Telling.{WalksDiagnosed};
+ghost use Rattle.bs_outside.specs.Telling.{WalksDiagnosed};
 ghost use Rattle.bs_top_files.specs.NoteCases.{NoteSays};
 ghost use Rattle.bs_top_files.specs.Refusals.{CheckSays};
 ghost use Rattle.bs_inspect_files.specs.Taken.{bench_files_in, bench_files_looked, bench_files_of, chart_step, chart_step_looked, charted_looked, charted_of, one_run_in, one_run_looked, one_run_of, drawn_step, drawn_step_looked, drive_step, drive_step_looked, driven_step, driven_step_looked, run_files_in, run_files_looked, run_files_of, picked_looked, picked_of, choice_step, choice_step_looked, fit_step, fit_step_looked, report_files_in, report_files_looked, report_files_of, report_files_step, report_files_step_looked, report_step, report_step_looked, runs_step, runs_step_looked, trace_files_in, trace_files_looked, trace_files_of};
@@ -10,14 +10,13 @@ use crate::called::called_or_diagnostic;
 use crate::fits::{fit_or_diagnostic, known_or_diagnostic};
 use crate::ready::{BenchFiles, OneRun, ReportFiles, RunFiles, TraceFiles};
 use bs_net::Netlist;
-use bs_outside::Shelf;
+use bs_outside::{File, Shelf, WalkStop, settle_diagnostic};
 use bs_report::Report;
 use bs_scan::Choice;
 use bs_top_files::{
     load_netlist, load_report, load_signature, load_stimulus, moment_or_diagnostic,
     size_or_diagnostic,
 };
-use bs_top_plan::{File, WalkStop, settle_diagnostic};
 use bs_top_reach::load_trace;
 use std::alloc::Global;
 

@@ -8,7 +8,7 @@ use Rattle.std.proofs.lemmas.Nat.{mod_below}
 use Rattle.std.proofs.lemmas.List.Edits.{length-remove}
 use Rattle.std.proofs.lemmas.List.FromFn.{length-range_with_len}
 use Rattle.rand_pcg.specs.Lcg.{Lcg}
-use Rattle.bs_draws.specs.Draws.{after, draw, draws_of, pick}
+use Rattle.bs_gen.specs.Draws.{after, draw, draws_of, pick}
 use Rattle.bs_inspect_lists.specs.Deck.{Deck, behind, deck_before, filled, hand, place_of, rest_of, top_of, weight_of}
 use Rattle.bs_inspect_lists.specs.declared.deck.TheConstants.{FEW_ITEMS, SEED, WEIGHT}
 use Rattle.bs_inspect_lists.proofs.MixedLemmas.{mapped_place}

@@ -1,7 +1,7 @@
 -- Worked items: five flip-flops that draw from decks of three, and the first of seven that draws three of six.
 use Rattle.std.proofs.Common.{◌≡◌, [], ◌∷◌, refl}
 use Rattle.rand_pcg.specs.Lcg.{state_after}
-use Rattle.bs_draws.specs.Draws.{after, draw, draws_of}
+use Rattle.bs_gen.specs.Draws.{after, draw, draws_of}
 use Rattle.bs_inspect_lists.specs.Deck.{behind, deck_before, hand_of}
 use Rattle.bs_inspect_lists.specs.Mixed.{mixed_items}
 

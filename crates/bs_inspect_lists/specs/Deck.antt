@@ -2,7 +2,7 @@
 use Rattle.std.specs.Prelude.{ℕ, zero, suc, List, [], length, map, nat_lt, remove, slice_index_or, if◌then◌else◌}
 use Rattle.std.specs.List.{range_with_len}
 use Rattle.rand_pcg.specs.Lcg.{Lcg}
-use Rattle.bs_draws.specs.Draws.{after, draws_of, pick}
+use Rattle.bs_gen.specs.Draws.{after, draws_of, pick}
 use Rattle.bs_inspect_lists.specs.declared.deck.Deck.{Deck as CodeDeck}
 use Rattle.bs_inspect_lists.specs.declared.deck.TheConstants.{FEW_ITEMS, SEED, WEIGHT}
 

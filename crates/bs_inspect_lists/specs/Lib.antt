@@ -9,6 +9,6 @@ pub mod Lines
 pub mod Deck
 pub mod Mixed
 pub mod Proposal
-pub use Rattle.bs_draws.specs.Draws
+pub use Rattle.bs_gen.specs.Draws
 -- what inner functions promise each other
 pub mod Items

@@ -1,8 +1,8 @@
 -- How many predecessors the states at some moments have.
 use Rattle.std.specs.Prelude.{◌≡◌, ◌⊎◌, ℕ, ◌<◌, ◌≤◌, ◌+◌, ◌-◌, ◌/◌, ◌^◌, max, nat_le, ◌==◌, Bool, true, false, List, [], ◌∷◌, length, map, take, All, None, if◌then◌else◌}
 use Rattle.std.specs.List.{count_by, range_with_len, sum_by}
-use Rattle.bs_seen.specs.declared.seen.Seen.{Seen}
-use Rattle.bs_seen.specs.Seen.{whole}
+use Rattle.bs_scan.specs.declared.seen.Seen.{Seen}
+use Rattle.bs_scan.specs.Seen.{whole}
 use Rattle.bs_clause.specs.Literal.{Literal}
 use Rattle.bs_clause.specs.Range.{HasVariables}
 use Rattle.bs_clause.specs.UnitRun.{IsUnitRun}

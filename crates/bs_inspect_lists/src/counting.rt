@@ -9,8 +9,7 @@ ghost use Rattle.bs_inspect_lists.specs.MomentCount.{IsCountOf, counted_as, is_c
 use bs_bits::{Bits, NoMemory};
 use bs_preimage::{Listing, Preimage};
 use bs_report::ListEnd;
-use bs_scan::Dump;
-use bs_seen::Seen;
+use bs_scan::{Dump, Seen};
 use std::alloc::Global;
 
 /// A list that has more members is cut. `run` without an option cuts a list there too.

@@ -4,7 +4,7 @@ ghost use Rattle.std.specs.List.{range_with_len};
 ghost use Rattle.bs_inspect_lists.specs.Deck.{behind, deck_before, deck_in, filled, hand, rest_of, top_of, weight_of};
 
 use bs_bits::{List, NoMemory};
-use bs_draws::Draws;
+use bs_gen::Draws;
 use std::alloc::Global;
 
 /// How many items a flip-flop draws. With three a search ends soon up to 0.8 lost flip-flops an item; with two up to half as many.

@@ -13,9 +13,9 @@ use Rattle.bs_bits.proofs.RangeLemmas.{range_push}
 use Rattle.bs_break.specs.Masks.{has}
 use Rattle.bs_break.proofs.MaskLemmas.{nothing}
 use Rattle.bs_net.specs.declared.limits.TheConstants.{MAX_FLOPS}
-use Rattle.bs_seen.specs.declared.seen.Seen.{Seen}
-use Rattle.bs_lanes_planes.specs.Planes.{bit_place, lane}
-use Rattle.bs_lanes_planes.proofs.PlaneLemmas.{lane_at}
+use Rattle.bs_scan.specs.declared.seen.Seen.{Seen}
+use Rattle.bs_lanes.specs.Planes.{bit_place, lane}
+use Rattle.bs_lanes.proofs.PlaneLemmas.{lane_at}
 use Rattle.bs_inspect_near.specs.Counters.{Adds, AddsFour, IsOther, lane_count, one_if}
 use Rattle.bs_inspect_near.specs.Distance.{differs}
 use Rattle.bs_inspect_near.specs.Visited.{IsCount, ShowsPlace}

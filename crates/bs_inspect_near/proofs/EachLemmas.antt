@@ -7,7 +7,7 @@ use Rattle.std.proofs.lemmas.List.{get_or_append_left, get_or-replicate, get_or-
 use Rattle.bs_net.specs.Circuit.{Circuit}
 use Rattle.bs_net.specs.Order.{IsBounded}
 use Rattle.bs_net.specs.declared.limits.TheConstants.{MAX_FLOPS}
-use Rattle.bs_seen.specs.declared.seen.Seen.{Seen}
+use Rattle.bs_scan.specs.declared.seen.Seen.{Seen}
 use Rattle.bs_stim.specs.Runs.{IsStimulus, Stimulus, inputs_of}
 use Rattle.bs_scan.specs.Moments.{Run, moment}
 use Rattle.bs_chip.specs.Lockstep.{IsLongest}

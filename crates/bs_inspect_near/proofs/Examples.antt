@@ -1,8 +1,8 @@
 -- Three flip-flops, of which the second is not known: what is like it, and in how many bits states differ from it.
 use Rattle.std.proofs.Common.{◌≡◌, ℕ, true, false, [], ◌∷◌, map, refl}
-use Rattle.bs_seen.specs.declared.seen.Seen.{Seen}
-use Rattle.bs_seen.specs.Seen.{whole}
-use Rattle.bs_seen.specs.SeenText.{seen_text}
+use Rattle.bs_scan.specs.declared.seen.Seen.{Seen}
+use Rattle.bs_scan.specs.Seen.{whole}
+use Rattle.bs_scan.specs.SeenText.{seen_text}
 use Rattle.std.specs.Prelude.{codes}
 use Rattle.bs_inspect_near.specs.Distance.{differing, distance}
 use Rattle.bs_inspect_near.specs.Hints.{inverse, shifts, with_known}

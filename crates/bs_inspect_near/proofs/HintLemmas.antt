@@ -8,8 +8,8 @@ use Rattle.std.proofs.lemmas.Bool.{cases_eq, eq-eqb, eqb-true, true≢false}
 use Rattle.std.proofs.lemmas.List.{get_or_default, get_or-map, length-map}
 use Rattle.bs_net.specs.Circuit.{Circuit, bit_at, reset_state}
 use Rattle.bs_net.specs.declared.net.Flop.{Flop}
-use Rattle.bs_seen.specs.declared.seen.Seen.{Seen}
-use Rattle.bs_seen.specs.Seen.{whole}
+use Rattle.bs_scan.specs.declared.seen.Seen.{Seen}
+use Rattle.bs_scan.specs.Seen.{whole}
 use Rattle.bs_scan.specs.Moments.{IsMoment, Moment, Run, state_of}
 use Rattle.bs_inspect_near.specs.Counters.{one_if}
 use Rattle.bs_inspect_near.specs.Distance.{differs, distance}

@@ -6,7 +6,7 @@ use Rattle.std.proofs.lemmas.Bool.{and_parts, cases_eq, cases_lt, eq-eqb, eqb-tr
 use Rattle.std.proofs.lemmas.List.{get_or-map, length-map}
 use Rattle.bs_net.specs.Circuit.{Circuit}
 use Rattle.bs_net.specs.declared.limits.TheConstants.{MAX_FLOPS}
-use Rattle.bs_seen.specs.declared.seen.Seen.{Seen}
+use Rattle.bs_scan.specs.declared.seen.Seen.{Seen}
 use Rattle.bs_stim.specs.Runs.{Recorded, Stimulus, inputs_of, no_run, run_at}
 use Rattle.bs_scan.specs.Moments.{IsMoment, Moment, Run, moment, run_of, state_at, state_of}
 use Rattle.bs_inspect_near.specs.Counters.{lane_count}

@@ -7,7 +7,7 @@ use Rattle.bs_net.specs.Circuit.{Circuit}
 use Rattle.bs_stim.specs.Packing.{bit_in}
 use Rattle.bs_stim.specs.Runs.{Recorded, Stimulus, inputs_of, no_run, run_at}
 use Rattle.bs_stim.specs.declared.limits.TheConstants.{MAX_CYCLES}
-use Rattle.bs_lanes_planes.specs.Planes.{bit_place, lane}
+use Rattle.bs_lanes.specs.Planes.{bit_place, lane}
 use Rattle.bs_scan.specs.Moments.{IsMoment, Run, run_of, state_at, state_of}
 use Rattle.bs_chip.specs.Lockstep.{Passing, ShowsCycle, wide_of}
 use Rattle.bs_inspect_near.specs.Nearest.{moment_of}

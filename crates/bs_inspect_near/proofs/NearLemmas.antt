@@ -7,8 +7,8 @@ use Rattle.bs_net.specs.Netlist.{circuit_of}
 use Rattle.bs_net.specs.Order.{IsBounded}
 use Rattle.bs_net.specs.Parts.{Parts, key_at}
 use Rattle.bs_net.specs.declared.net.Flop.{Flop}
-use Rattle.bs_seen.specs.declared.seen.Seen.{Seen}
-use Rattle.bs_seen.specs.Seen.{known_count}
+use Rattle.bs_scan.specs.declared.seen.Seen.{Seen}
+use Rattle.bs_scan.specs.Seen.{known_count}
 use Rattle.bs_scan.proofs.SignatureLemmas.{length_state}
 use Rattle.bs_scan.specs.Moments.{Run, run_of, state_of}
 use Rattle.bs_inspect_report.specs.Keys.{flop_keys}

@@ -5,9 +5,9 @@ use Rattle.std.proofs.lemmas.Bool.{cases_lt}
 use Rattle.std.proofs.lemmas.List.{length-map}
 use Rattle.bs_net.specs.Circuit.{Circuit}
 use Rattle.bs_net.specs.declared.limits.TheConstants.{MAX_FLOPS}
-use Rattle.bs_seen.specs.declared.seen.Seen.{Seen}
+use Rattle.bs_scan.specs.declared.seen.Seen.{Seen}
 use Rattle.bs_stim.specs.Runs.{IsStimulus, Recorded, Stimulus, inputs_of}
-use Rattle.bs_lanes_planes.specs.Planes.{lane}
+use Rattle.bs_lanes.specs.Planes.{lane}
 use Rattle.bs_scan.specs.Moments.{IsMoment, Moment, Run, moment, state_at}
 use Rattle.bs_chip.specs.Lockstep.{IsLongest, Passing, ShowsCycle, wide_of}
 use Rattle.bs_inspect_near.specs.Distance.{differs, distance}

@@ -7,9 +7,9 @@ use Rattle.std.proofs.lemmas.List.{length-map, map_more, take_all, take_more}
 use Rattle.std.proofs.lemmas.List.FromFn.{length-range_with_len, map-range_with_len_more}
 use Rattle.bs_net.specs.Circuit.{Circuit, reset_state}
 use Rattle.bs_net.specs.declared.net.Flop.{Flop}
-use Rattle.bs_seen.specs.declared.seen.Seen.{Seen}
-use Rattle.bs_seen.specs.Seen.{kept, kept_one}
-use Rattle.bs_seen.proofs.KeptLemmas.{kept_more, kept_nothing}
+use Rattle.bs_scan.specs.declared.seen.Seen.{Seen}
+use Rattle.bs_scan.specs.Seen.{kept, kept_one}
+use Rattle.bs_scan.proofs.KeptLemmas.{kept_more, kept_nothing}
 use Rattle.bs_inspect_near.specs.Counters.{one_if}
 use Rattle.bs_inspect_near.specs.Distance.{is_free}
 use Rattle.bs_inspect_near.specs.Hints.{asked, asked_by, bit_with, inverted, known_before, known_bits, shifted_back, shifted_on, with_known}

@@ -7,7 +7,7 @@ use Rattle.std.proofs.lemmas.Grind.{flat_map-append}
 use Rattle.std.proofs.lemmas.List.{get_or-map, length_push, take-append-le}
 use Rattle.std.proofs.lemmas.List.Elements.{filter-append}
 use Rattle.bs_bits.proofs.RangeLemmas.{range_push}
-use Rattle.bs_seen.specs.declared.seen.Seen.{Seen}
+use Rattle.bs_scan.specs.declared.seen.Seen.{Seen}
 use Rattle.bs_inspect_near.specs.Distance.{differing, differs}
 use Rattle.bs_inspect_near.specs.Counters.{one_if}
 use Rattle.bs_inspect_near.specs.Told.{told_piece}

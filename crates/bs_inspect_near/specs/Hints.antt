@@ -3,8 +3,8 @@ use Rattle.std.specs.Prelude.{◌≡◌, ℕ, ◌<◌, ◌-◌, Bool, true, fals
 use Rattle.std.specs.Prelude.{if◌then◌else◌}
 use Rattle.std.specs.List.{range_with_len}
 use Rattle.bs_net.specs.Circuit.{Circuit, bit_at, reset_state}
-use Rattle.bs_seen.specs.declared.seen.Seen.{Seen}
-use Rattle.bs_seen.specs.Seen.{kept, whole}
+use Rattle.bs_scan.specs.declared.seen.Seen.{Seen}
+use Rattle.bs_scan.specs.Seen.{kept, whole}
 use Rattle.bs_scan.specs.Moments.{IsMoment, Moment, Run, state_of}
 use Rattle.bs_inspect_near.specs.Distance.{distance, is_free}
 use Rattle.bs_inspect_near.specs.Nearest.{IsNearest, no_state}

@@ -1,8 +1,8 @@
 -- The recorded moment whose state differs in the fewest known bits (docs/FORMATS.md, "Texts of `backspace_inspect`").
 use Rattle.std.specs.Prelude.{◌≡◌, ℕ, ◌<◌, ◌≤◌, List, [], length, slice_index_or}
 use Rattle.bs_net.specs.Circuit.{Circuit}
-use Rattle.bs_seen.specs.declared.seen.Seen.{Seen}
-use Rattle.bs_seen.specs.Seen.{whole}
+use Rattle.bs_scan.specs.declared.seen.Seen.{Seen}
+use Rattle.bs_scan.specs.Seen.{whole}
 use Rattle.bs_scan.specs.Moments.{IsMoment, Moment, Run, moment, state_of}
 use Rattle.bs_inspect_near.specs.Distance.{distance}
 use Rattle.bs_inspect_near.specs.declared.search.Near.{Near}

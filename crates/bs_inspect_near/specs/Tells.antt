@@ -5,8 +5,8 @@ use Rattle.bs_bits.specs.Lines.{line}
 use Rattle.bs_net.specs.Circuit.{bit_at}
 use Rattle.bs_net.specs.Netlist.{circuit_of}
 use Rattle.bs_net.specs.Parts.{Parts}
-use Rattle.bs_seen.specs.declared.seen.Seen.{Seen}
-use Rattle.bs_seen.specs.Seen.{known_count}
+use Rattle.bs_scan.specs.declared.seen.Seen.{Seen}
+use Rattle.bs_scan.specs.Seen.{known_count}
 use Rattle.bs_scan.specs.Moments.{Run, state_of}
 use Rattle.bs_inspect_report.specs.Keys.{flop_keys}
 use Rattle.bs_inspect_near.specs.Counters.{one_if}

@@ -4,9 +4,9 @@ use Rattle.std.specs.List.{range_with_len}
 use Rattle.bs_net.specs.Circuit.{Circuit}
 use Rattle.bs_net.specs.declared.limits.TheConstants.{MAX_FLOPS}
 use Rattle.bs_scan.specs.Moments.{IsMoment, Moment, Run, state_at, state_of}
-use Rattle.bs_seen.specs.declared.seen.Seen.{Seen}
+use Rattle.bs_scan.specs.declared.seen.Seen.{Seen}
 use Rattle.bs_break.specs.Masks.{has}
-use Rattle.bs_lanes_planes.specs.Planes.{lane}
+use Rattle.bs_lanes.specs.Planes.{lane}
 use Rattle.bs_inspect_near.specs.Counters.{lane_count}
 use Rattle.bs_inspect_near.specs.Distance.{differs, distance}
 use Rattle.bs_inspect_near.specs.Nearest.{IsNearest, IsNoNearer, moment_of, no_state}

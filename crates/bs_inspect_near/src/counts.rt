@@ -5,7 +5,7 @@ ghost use Rattle.bs_inspect_near.specs.Visited.{IsCount, ShowsPlace};
 
 use crate::counters::{add, add_four, others};
 use bs_bits::NoMemory;
-use bs_seen::Seen;
+use bs_scan::Seen;
 use std::alloc::Global;
 
 /// How many binary digits a counter has: it counts all flip-flops that a netlist may have.

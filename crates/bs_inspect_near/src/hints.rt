@@ -8,7 +8,7 @@ ghost use Rattle.bs_inspect_near.specs.Nearest.{AreNearest};
 
 use crate::search::Near;
 use bs_net::Netlist;
-use bs_seen::Seen;
+use bs_scan::Seen;
 use bs_stim::Runs;
 
 /// Whether all runs are at each moment in the reset state; and where a run is in a state that has the known bits inverted, and shifted by

@@ -7,7 +7,7 @@ ghost use Rattle.bs_inspect_near.specs.Visited.{is_nearer, is_viewed, IsBest, ne
 use crate::counters::lane_count;
 use crate::search::Near;
 use bs_net::Netlist;
-use bs_seen::Seen;
+use bs_scan::Seen;
 use bs_stim::Runs;
 
 /// Whether a lane has a run that lasts to a cycle.

@@ -1,6 +1,6 @@
 //! The state of a run at a moment.
 ghost use Rattle.std.specs.Prelude.{◌≡◌, ◌<◌, ◌≤◌, ◌-◌, ◌*◌, length, IfOk};
-ghost use Rattle.bs_lanes_planes.specs.Planes.{lane as lane_in};
+ghost use Rattle.bs_lanes.specs.Planes.{lane as lane_in};
 ghost use Rattle.bs_net.specs.Netlist.{circuit};
 ghost use Rattle.bs_scan.specs.Moments.{IsMoment, state_of};
 ghost use Rattle.bs_stim.specs.Runs.{inputs_of};
@@ -10,7 +10,7 @@ ghost use Rattle.bs_inspect_near.specs.Nearest.{moment_of};
 use crate::search::Near;
 use bs_bits::{Bits, NoMemory};
 use bs_chip::Pass;
-use bs_lanes_planes::lane_bit;
+use bs_lanes::lane_bit;
 use bs_net::Netlist;
 use bs_stim::Runs;
 use std::alloc::Global;

@@ -3,7 +3,7 @@ ghost use Rattle.std.specs.Prelude.{◌≡◌, ◌<◌, ◌++◌, length, IfOk, 
 ghost use Rattle.bs_net.specs.Circuit.{reset_state};
 ghost use Rattle.bs_net.specs.Netlist.{circuit};
 ghost use Rattle.bs_stim.specs.Runs.{inputs_of};
-ghost use Rattle.bs_seen.specs.Seen.{known_count};
+ghost use Rattle.bs_scan.specs.Seen.{known_count};
 ghost use Rattle.bs_scan.specs.Moments.{state_of};
 ghost use Rattle.bs_inspect_report.specs.Keys.{flop_keys as flop_keys_of};
 ghost use Rattle.bs_inspect_near.specs.Hints.{AreHints, asked};
@@ -18,7 +18,7 @@ use crate::text::{push_differences, push_hints, push_near};
 use bs_bits::NoMemory;
 use bs_inspect_report::flop_keys;
 use bs_net::Netlist;
-use bs_seen::Seen;
+use bs_scan::Seen;
 use bs_stim::Runs;
 use std::alloc::Global;
 

@@ -12,7 +12,7 @@ use crate::lanes::with_lanes;
 use bs_bits::{List, NoMemory};
 use bs_chip::{Pass, step_to};
 use bs_net::Netlist;
-use bs_seen::Seen;
+use bs_scan::Seen;
 use bs_stim::Runs;
 use std::alloc::Global;
 

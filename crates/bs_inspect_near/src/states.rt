@@ -3,14 +3,14 @@ ghost use Rattle.std.specs.Prelude.{◌≡◌, ◌<◌, ◌++◌, length, map, n
 ghost use Rattle.std.specs.List.{range_with_len};
 ghost use Rattle.bs_net.specs.Circuit.{reset_state};
 ghost use Rattle.bs_net.specs.Netlist.{circuit};
-ghost use Rattle.bs_seen.specs.Seen.{kept_one, whole};
+ghost use Rattle.bs_scan.specs.Seen.{kept_one, whole};
 ghost use Rattle.bs_inspect_near.specs.Hints.{asked, asked_by, bit_with, inverted, known_before, known_bits, shifted_back, shifted_on, shifts_by, with_known};
 
 use crate::counters::one_if;
 use bs_bits::{Bits, List, NoMemory};
 use bs_inspect_report::bit_at;
 use bs_net::Netlist;
-use bs_seen::Seen;
+use bs_scan::Seen;
 use std::alloc::Global;
 
 // ---- bits in a row

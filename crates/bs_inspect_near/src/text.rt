@@ -9,7 +9,7 @@ use crate::counters::one_if;
 use crate::hints::Hints;
 use crate::search::Near;
 use bs_bits::{Bits, NoMemory, end_line, push_line, push_number, push_piece};
-use bs_seen::Seen;
+use bs_scan::Seen;
 
 /// How many flip-flops that differ have a line.
 pub const MAX_PLACES: usize = 8;

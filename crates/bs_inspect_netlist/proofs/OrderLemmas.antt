@@ -1,42 +1,15 @@
 -- The flip-flops of an order, line by line, and the bits of a state, one by one.
-use Rattle.std.proofs.Common.{◌≡◌, ℕ, ◌<◌, ◌+◌, Bool, List, [], ◌∷◌, ◌++◌, length, map, take, get_or}
-use Rattle.std.proofs.Common.{cond, Some, None, Result, Ok, Err, refl, ap, sym, ◌∙◌, ◌⊎◌, inl, inr}
-use Rattle.std.specs.Prelude.{nat_lt, not}
-use Rattle.std.specs.List.{position, position_or_len, range_with_len}
-use Rattle.std.proofs.lemmas.List.{length-map, take_more, map-append}
+use Rattle.std.proofs.Common.{◌≡◌, ℕ, ◌+◌, Bool, List, [], ◌∷◌, ◌++◌, map}
+use Rattle.std.proofs.Common.{Result, Ok, Err, ap, sym, ◌∙◌, ◌⊎◌, inl, inr}
+use Rattle.std.specs.List.{range_with_len}
+use Rattle.std.proofs.lemmas.List.{map-append}
 use Rattle.bs_bits.specs.Lines.{lines_of}
 use Rattle.bs_bits.specs.Reading.{◌>>=◌}
 use Rattle.bs_bits.proofs.RangeLemmas.{range_push}
-use Rattle.bs_net.specs.declared.net.Flop.{Flop}
-use Rattle.bs_net.specs.Parts.{Parts, key_at}
-use Rattle.bs_net_names.specs.Keys.{KeyParts, key_parts, parts_in}
-use Rattle.bs_net_names.specs.Rtl.{same_name}
-use Rattle.bs_net_names.specs.declared.key.KeyParts.{KeyParts as CodeKeyParts}
+use Rattle.bs_net_names.specs.Keys.{KeyParts}
 use Rattle.bs_inspect_netlist.specs.declared.fault.OrderFault.{OrderFault}
 use Rattle.bs_inspect_netlist.specs.declared.fault.OrderFault.TheVariants.{NoMemory}
 use Rattle.bs_inspect_netlist.specs.Order.{is_unlisted, listed_at, listed_from, pattern_bit}
-
--- a key more
-pub parts_more : (r : Parts) (keys : List CodeKeyParts) (key : CodeKeyParts) (fs : List Flop) (i : ℕ) (d : Flop) → i < length fs →
-    map parts_in keys ≡ map (λ f. key_parts (key_at r f.q.0)) (take i fs) → parts_in key ≡ key_parts (key_at r (get_or fs i d).q.0) →
-    map parts_in (keys ++ key ∷ []) ≡ map (λ f. key_parts (key_at r f.q.0)) (take (i + 1) fs)
-parts_more r keys key fs i d lt e k =
-    map-append parts_in keys (key ∷ [])
-    ∙ ((λ j. e j ++ k j ∷ [])
-    ∙ (sym (map-append (λ (f : Flop). key_parts (key_at r f.q.0)) (take i fs) (get_or fs i d ∷ []))
-    ∙ ap (map (λ (f : Flop). key_parts (key_at r f.q.0))) (sym (take_more fs i d lt))))
-
-position_of : {X Y : Type 0} (p : Y → Bool) (f : X → Y) (xs : List X) → position_or_len p (map f xs) ≡ position_or_len (λ x. p (f x)) xs
-position_of p f [] = refl
-position_of p f (x ∷ xs) = ap (λ n. cond (not (p (f x))) (1 + n) 0) (position_of p f xs)
-
--- the place of a key of the code
-pub named_at : (flops : List CodeKeyParts) (name : KeyParts) →
-    position (λ key. same_name (parts_in key) name) flops ≡ position (λ key. same_name key name) (map parts_in flops)
-named_at flops name =
-    let e = sym (position_of (λ (key : KeyParts). same_name key name) parts_in flops) in
-    let l = sym (length-map flops parts_in) in
-    (λ i. cond (nat_lt (e i) (l i)) (Some (e i)) None)
 
 -- ---- lines
 

@@ -5,9 +5,10 @@ use Rattle.std.specs.List.{list_any, position, range_with_len}
 use Rattle.bs_bits.specs.Lines.{is_name, line, lines_of}
 use Rattle.bs_bits.specs.Reading.{◌>>=◌}
 use Rattle.bs_bits.specs.Text.{bits_of}
-use Rattle.bs_seen.specs.declared.seen.Seen.{Seen}
-use Rattle.bs_seen.specs.SeenText.{seen_text}
-use Rattle.bs_net.specs.Parts.{Parts, key_at}
+use Rattle.bs_scan.specs.declared.seen.Seen.{Seen}
+use Rattle.bs_scan.specs.ChoiceText.{flop_parts}
+use Rattle.bs_scan.specs.SeenText.{seen_text}
+use Rattle.bs_net.specs.Parts.{Parts}
 use Rattle.bs_net_names.specs.Keys.{KeyParts, key_parts}
 use Rattle.bs_net_names.specs.Rtl.{same_name}
 use Rattle.bs_inspect_netlist.specs.declared.fault.OrderFault.{OrderFault}
@@ -16,10 +17,6 @@ use Rattle.bs_inspect_netlist.specs.declared.fault.PatternFault.{PatternFault}
 use Rattle.bs_inspect_netlist.specs.declared.fault.PatternFault.TheVariants.{Bits, Width}
 
 -- ---- the lines of an order
-
--- what the keys of the flip-flops say
-abbrev pub flop_parts : Parts → List KeyParts
-flop_parts r = map (λ f. key_parts (key_at r f.q.0)) r.flops
 
 -- the first flip-flop with a name, as RTL writes it
 abbrev pub flop_named : List KeyParts → List ℕ → Option ℕ

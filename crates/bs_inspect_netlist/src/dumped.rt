@@ -2,7 +2,7 @@
 ghost use Rattle.std.specs.Prelude.{◌≡◌, ◌<◌, ◌≤◌, ◌-◌, ◌++◌, [], codes, length, slice_index_or, All, None, Some, IfOk};
 ghost use Rattle.std.specs.List.{list_any};
 ghost use Rattle.bs_bits.specs.Lines.{line};
-ghost use Rattle.bs_seen.specs.SeenText.{seen_text};
+ghost use Rattle.bs_scan.specs.SeenText.{seen_text};
 ghost use Rattle.bs_scan.specs.Choice.{depth_of};
 ghost use Rattle.bs_scan.specs.Dump.{IsDump};
 ghost use Rattle.bs_scan.specs.DumpText.{dump_text as text_of};
@@ -10,8 +10,7 @@ ghost use Rattle.bs_scan.specs.Signature.{signature};
 ghost use Rattle.bs_inspect_netlist.specs.Dumped.{dump_lines, dumped, free_among, kept_before, older_before, seen_by};
 
 use bs_bits::{Bits, List, NoMemory, end_line, push_piece};
-use bs_scan::{Choice, Dump};
-use bs_seen::Seen;
+use bs_scan::{Choice, Dump, Seen};
 use std::alloc::Global;
 
 /// The state at a cycle.

@@ -5,28 +5,15 @@ ghost use Rattle.bs_bits.specs.Lines.{lines_of};
 ghost use Rattle.bs_bits.specs.Reading.{Answers};
 ghost use Rattle.bs_net_names.specs.Keys.{parts_in};
 ghost use Rattle.bs_net_names.specs.Rtl.{same_name};
-ghost use Rattle.bs_net.specs.Netlist.{parts_of};
 ghost use Rattle.bs_inspect_netlist.specs.declared.fault.OrderFault.TheVariants.{NoMemory as Want};
-ghost use Rattle.bs_inspect_netlist.specs.Order.{flop_named, flop_parts, if_new, is_listed, is_unlisted, listed_at, listed_from, order_in, unlisted_count};
+ghost use Rattle.bs_inspect_netlist.specs.Order.{flop_named, if_new, is_listed, is_unlisted, listed_at, listed_from, order_in, unlisted_count};
 
-use crate::bits::key_at;
 use crate::fault::OrderFault;
 use bs_bits::{NoMemory, is_name, next_line};
-use bs_net::{Netlist, Raw};
+use bs_net::Netlist;
 use bs_net_names::{KeyParts, key_parts, same_name};
+use bs_scan::flop_parts;
 use std::alloc::Global;
-
-/// What the keys of the flip-flops say.
-#[tactic(auto, using(crate::proofs::OrderLemmas::parts_more))]
-fn flop_parts<'a>(alloc: Global, raw: &'a Raw) -> Result<Vec<KeyParts<'a>>, NoMemory>
-    ensures { IfOk result (λ flops. map parts_in flops.items ≡ flop_parts (parts_of raw.now)) }
-{
-    let mut flops = Vec::new(alloc);
-    'flops: for i in 0..raw.flops.len() {
-        flops.push(key_parts(key_at(raw, raw.flops.get(i).q.0)))?;
-    }
-    Ok(flops)
-}
 
 /// The first of these keys that is one name with another.
 fn place_of(keys: &[KeyParts<'_>], name: KeyParts<'_>) -> Option<usize>
@@ -36,7 +23,7 @@ fn place_of(keys: &[KeyParts<'_>], name: KeyParts<'_>) -> Option<usize>
 }
 
 /// The first flip-flop with a name.
-#[tactic(auto, using(crate::proofs::OrderLemmas::named_at))]
+#[tactic(auto, using(bs_scan::proofs::KeyLemmas::named_at))]
 fn flop_named(flops: &[KeyParts<'_>], name: &[u8]) -> Option<usize>
     ensures { result ≡ flop_named (map parts_in flops.now) name.now }
 {

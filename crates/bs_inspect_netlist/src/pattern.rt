@@ -3,14 +3,14 @@ ghost use Rattle.std.specs.Prelude.{◌≡◌, ◌∷◌, [], ◌++◌, ◌==◌
 ghost use Rattle.std.specs.List.{list_any, position, range_with_len};
 ghost use Rattle.bs_bits.specs.Lines.{line};
 ghost use Rattle.bs_bits.specs.Reading.{Answers};
-ghost use Rattle.bs_seen.specs.SeenText.{seen_text};
+ghost use Rattle.bs_scan.specs.SeenText.{seen_text};
 ghost use Rattle.bs_inspect_netlist.specs.declared.fault.PatternFault.TheVariants.{NoMemory as Want};
 ghost use Rattle.bs_inspect_netlist.specs.Order.{bit_there, is_unlisted, of_width, pattern_bit, pattern_in, state_line, unlisted_among, unscanned};
 
 use crate::fault::PatternFault;
 use crate::order::is_unlisted;
 use bs_bits::{Bits, NoMemory, end_line, push_piece};
-use bs_seen::Seen;
+use bs_scan::Seen;
 use std::alloc::Global;
 
 /// Bits, where there are so many.

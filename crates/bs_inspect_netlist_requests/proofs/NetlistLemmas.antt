@@ -10,8 +10,8 @@ use Rattle.bs_inspect_values.specs.declared.run.SimulatedRun.{SimulatedRun as Co
 use Rattle.bs_net.specs.Parts.{Parts}
 use Rattle.bs_scan.specs.Moments.{IsMoment, Moment}
 use Rattle.bs_stim.specs.Runs.{Recorded, Stimulus, inputs_of}
-use Rattle.bs_top_plan.specs.declared.status.Status.{Status}
-use Rattle.bs_top_plan.specs.declared.walk.JobFault.{JobFault}
+use Rattle.bs_outside.specs.declared.status.Status.{Status}
+use Rattle.bs_outside.specs.declared.walk.JobFault.{JobFault}
 use Rattle.bs_top_answer.specs.declared.note.Note.{Note}
 use Rattle.bs_top_answer.specs.declared.note.Note.TheVariants.{Silent}
 use Rattle.bs_top_answer.specs.Note.{Due, DueText}

@@ -9,6 +9,7 @@ ghost use Rattle.bs_inspect_plans.specs.Finishes.{finishes};
 ghost use Rattle.bs_inspect_plans.specs.Said.{late_doubt, RequestSaid, runs_doubt};
 ghost use Rattle.bs_inspect_plans.specs.Work.{plan_of, to_runs};
 ghost use Rattle.bs_inspect_notes.specs.Simulations.{data_clock_text, late_text};
+ghost use Rattle.bs_inspect_values.specs.Dumped.{dumped_in};
 ghost use Rattle.bs_inspect_values.specs.Simulated.{simulated_in};
 ghost use Rattle.bs_inspect_values.specs.SimulatedRun.{is_late, run_in};
 
@@ -25,10 +26,11 @@ use bs_inspect_files::{
     CheckFiles, load_checked, load_named, load_one_run, load_run_files, load_scanned,
 };
 use bs_inspect_notes::{data_clock_note, late_note};
-use bs_inspect_plans::{load_near_files, silent, stop_at};
+use bs_inspect_plans::{lacking_noted, load_near_files, silent, stop_at};
 use bs_inspect_seen::load_named_values;
 use bs_inspect_values::{
-    Clocked, DumpFiles, Simulated, SimulatedRun, clock_key, first_late, load_dumped, load_simulated,
+    Clocked, DumpFiles, Dumped, Simulated, SimulatedRun, clock_key, first_late, load_dumped,
+    load_simulated,
 };
 use bs_inspect_words::{
     CheckRequest, DumpRequest, KeysRequest, NearRequest, NovelRequest, SeenRequest,
@@ -216,6 +218,16 @@ pub fn check<S: Shelf>(
     }
 }
 
+/// How many flip-flops of a dump are not in the simulation.
+fn lacks_in(dumped: &Dumped) -> usize
+    ensures { result ≡ (dumped_in dumped.now).taken.lacks }
+{
+    match dumped {
+        Dumped::Plain(plain) => plain.taken.lacks,
+        Dumped::Whole(whole) => whole.taken.lacks,
+    }
+}
+
 /// The answer to `dump`.
 pub fn dump<S: Shelf>(
     alloc: Global,
@@ -235,7 +247,7 @@ pub fn dump<S: Shelf>(
         partial: asked.partial,
     };
     match load_dumped(alloc, shelf, files) {
-        Ok(dumped) => silent(tell_dump(alloc, &dumped)),
+        Ok(dumped) => lacking_noted(alloc, lacks_in(&dumped), tell_dump(alloc, &dumped)),
         Err(stop) => stop_at(alloc, dump_sources(asked), shelf.reason(), stop),
     }
 }

@@ -29,10 +29,8 @@ use bs_inspect_plans::NearFiles;
 use bs_inspect_seen::{Named, state_text as seen_text};
 use bs_inspect_values::{Dumped, Simulated, runs_text};
 use bs_net::Netlist;
-use bs_outside::NoMemory;
-use bs_scan::Moment;
-use bs_seen::Seen;
-use bs_top_plan::{Reply, Status};
+use bs_outside::{NoMemory, Reply, Status};
+use bs_scan::{Moment, Seen};
 use std::alloc::Global;
 
 /// The flip-flops of a netlist.

@@ -10,10 +10,11 @@ use Rattle.std.proofs.lemmas.List.Folds.{fold-map}
 use Rattle.bs_net_names.specs.Keys.{key_parts, parts_in}
 use Rattle.bs_net_names.specs.Naming.{plain, same_bit}
 use Rattle.bs_net_names.specs.declared.key.KeyParts.{KeyParts}
-use Rattle.bs_inspect_notes.specs.Nearest.{at_distance, bases_apart, by_bits, far, kept, least, nearest}
-use Rattle.bs_inspect_notes.specs.Listings.{listed, listing, more_piece, name_piece, near_text, quoted, some_listing, some_near}
+use Rattle.bs_inspect_view.specs.Drawn.{is_nameless}
+use Rattle.bs_inspect_notes.specs.Nearest.{at_distance, bases_apart, by_bits, far, is_made, is_offered, kept, least, nearest, offered}
+use Rattle.bs_inspect_notes.specs.Listings.{listed, listing, more_piece, name_piece, near_or, near_text, quoted, some_listing, some_near}
 use Rattle.bs_inspect_notes.specs.Simulations.{clock_piece, has_scope}
-use Rattle.bs_note_places.specs.declared.nearest.TheConstants.{NAMED}
+use Rattle.bs_net_names.specs.declared.nearest.TheConstants.{NAMED}
 use Rattle.bs_inspect_notes.specs.declared.listing.TheConstants.{LISTED}
 
 abbrev Names : Type 0
@@ -94,6 +95,25 @@ at_more name d names old now i f e lt is same step =
     let here : old ++ kept (f == d) x ≡ filter test (texts (take i names)) ++ kept (test x) x = λ j. is j ++ kept (same j == d) x in
     step ∙ (here ∙ sym parts)
 
+-- ---- those that are offered
+
+pub made_by : (key : List ℕ) (p : KeyParts) (b : Bool) → parts_in p ≡ key_parts key → b ≡ is_nameless p.base.now → b ≡ is_made key
+made_by key p b is e = e ∙ ap (λ k. is_nameless k.base) is
+
+pub offered_more : (name : List ℕ) (names : List (Bor (List ℕ))) (old now : List (List ℕ)) (i : ℕ) (b : Bool) (e : Bor (List ℕ)) → i < length names →
+    old ≡ offered name (map (λ n. n.now) (take i names)) → b ≡ is_offered name (get_or names i e).now →
+    now ≡ old ++ kept b (get_or names i e).now → now ≡ offered name (map (λ n. n.now) (take (i + 1) names))
+offered_more name names old now i b e lt is same step =
+    let x : List ℕ = (get_or names i e).now in
+    let test : List ℕ → Bool = is_offered name in
+    let more : texts (take (i + 1) names) ≡ texts (take i names) ++ x ∷ [] =
+    ap texts (take_more names i e lt) ∙ map-append (λ (n : Bor (List ℕ)). n.now) (take i names) (get_or names i e ∷ []) in
+    let parts : filter test (texts (take (i + 1) names)) ≡ filter test (texts (take i names)) ++ kept (test x) x =
+    ap (filter test) more ∙ (filter-append test (texts (take i names)) (x ∷ [])
+    ∙ ap (λ (t : List (List ℕ)). filter test (texts (take i names)) ++ t) (filter_one test x)) in
+    let here : old ++ kept b x ≡ filter test (texts (take i names)) ++ kept (test x) x = λ j. is j ++ kept (same j) x in
+    step ∙ (here ∙ sym parts)
+
 -- ---- names in a note
 
 pieces : (names : Names) → flat_map (λ (n : Bor (List ℕ)). name_piece n.now) names ≡ flat_map name_piece (texts names)
@@ -144,12 +164,17 @@ said_some : (text says now : List ℕ) (names : Names) (b : Bool) → b ≡ (len
 said_some text says now names b e is h = subst (λ (x : Bool). now ≡ text ++ some_by x says) (sym (none_of names b e ∙ is)) h
 
 pub none_near : (name text : List ℕ) (names : Names) (b : Bool) → b ≡ (length names == 0) → b ≡ true →
-    text ≡ text ++ some_near name (map (λ n. n.now) names)
+    text ≡ text ++ near_or name (map (λ n. n.now) names)
 none_near name text names b e is = said_none text (near_text name (texts names)) names b e is
 
 pub one_near : (name text now : List ℕ) (names : Names) (b : Bool) → b ≡ (length names == 0) → b ≡ false →
-    now ≡ text ++ near_text name (map (λ n. n.now) names) → now ≡ text ++ some_near name (map (λ n. n.now) names)
+    now ≡ text ++ near_text name (map (λ n. n.now) names) → now ≡ text ++ near_or name (map (λ n. n.now) names)
 one_near name text now names b e is h = said_some text (near_text name (texts names)) now names b e is h
+
+-- of those that are offered
+pub offered_near : (name text now : List ℕ) (names found some : List (Bor (List ℕ))) → map (λ n. n.now) found ≡ offered name (map (λ n. n.now) names) →
+    some ≡ found → now ≡ text ++ near_or name (map (λ n. n.now) some) → now ≡ text ++ some_near name (map (λ n. n.now) names)
+offered_near name text now names found some is same e = e ∙ ap (λ (ns : List (List ℕ)). text ++ near_or name ns) (ap texts same ∙ is)
 
 pub listed_of : (text mid now : List ℕ) (names : Names) (most count : ℕ) → mid ≡ text ++ flat_map name_piece (take most (map (λ n. n.now) names)) →
     count ≡ length names → now ≡ mid ++ more_piece most count → now ≡ text ++ listed most (map (λ n. n.now) names)

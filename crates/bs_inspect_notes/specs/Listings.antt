@@ -1,10 +1,10 @@
 -- Names as a note lists them.
 use Rattle.std.specs.Prelude.{ℕ, ◌==◌, nat_lt, List, [], ◌++◌, codes, decimal, length, take, if◌then◌else◌}
 use Rattle.std.specs.List.{flat_map}
-use Rattle.bs_note_places.specs.Quotes.{shown_line}
-use Rattle.bs_note_places.specs.declared.nearest.TheConstants.{NAMED}
+use Rattle.bs_net_names.specs.Quotes.{shown_line}
+use Rattle.bs_net_names.specs.declared.nearest.TheConstants.{NAMED}
 use Rattle.bs_note_files.specs.Notes.{plain_text}
-use Rattle.bs_inspect_notes.specs.Nearest.{nearest}
+use Rattle.bs_inspect_notes.specs.Nearest.{nearest, offered}
 use Rattle.bs_inspect_notes.specs.declared.listing.TheConstants.{LISTED}
 
 -- a name in quotes, as it is shown
@@ -23,8 +23,12 @@ abbrev pub near_text : List ℕ → List (List ℕ) → List ℕ
 near_text name names = codes "; the nearest:" ++ flat_map name_piece (take NAMED (nearest name names))
 
 -- the same, where there are names
+abbrev pub near_or : List ℕ → List (List ℕ) → List ℕ
+near_or name names = if length names == 0 then [] else near_text name names
+
+-- the same of those names that are offered for this one
 abbrev pub some_near : List ℕ → List (List ℕ) → List ℕ
-some_near name names = if length names == 0 then [] else near_text name names
+some_near name names = near_or name (offered name names)
 
 abbrev pub more_piece : (most count : ℕ) → List ℕ
 more_piece most count = if nat_lt most count then codes " .." else []

@@ -1,10 +1,11 @@
 -- Which of some names are nearest to a name. A path before a name counts as none apart.
-use Rattle.std.specs.Prelude.{ℕ, ◌-◌, ◌==◌, ◌&&◌, ◌||◌, min, max, nat_lt, Bool, true, false, List, [], ◌∷◌, length, drop, fold, slice_index, if◌then◌else◌}
+use Rattle.std.specs.Prelude.{ℕ, ◌-◌, ◌==◌, ◌&&◌, ◌||◌, min, max, nat_lt, not, Bool, true, false, List, [], ◌∷◌, length, drop, fold, slice_index, if◌then◌else◌}
 use Rattle.std.specs.List.{filter}
 use Rattle.std.specs.Str.{bytes_eq}
-use Rattle.bs_note_places.specs.Nearest.{apart}
+use Rattle.bs_net_names.specs.Nearest.{apart}
 use Rattle.bs_net_names.specs.Keys.{key_parts}
 use Rattle.bs_net_names.specs.Naming.{plain, same_bit}
+use Rattle.bs_inspect_view.specs.Drawn.{is_nameless}
 
 -- the names of a path are parted by `.`, or by `/`
 abbrev pub is_separator : ℕ → Bool
@@ -42,6 +43,21 @@ least name (n ∷ ns) = fold (λ d m. min d (far name m)) (far name n) ns
 abbrev pub kept : Bool → List ℕ → List (List ℕ)
 kept true name = name ∷ []
 kept false name = []
+
+-- ---- which names are offered
+
+-- a constant's key, or a name that synthesis made
+abbrev pub is_made : List ℕ → Bool
+is_made key = is_nameless (key_parts key).base
+
+-- a name that synthesis made is offered for another such name alone
+abbrev pub is_offered : (name other : List ℕ) → Bool
+is_offered name other = is_made name || not (is_made other)
+
+abbrev pub offered : List ℕ → List (List ℕ) → List (List ℕ)
+offered name names = filter (is_offered name) names
+
+-- ---- the nearest
 
 -- the names that are so far from this one
 abbrev pub at_distance : List ℕ → ℕ → List (List ℕ) → List (List ℕ)

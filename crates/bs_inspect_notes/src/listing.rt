@@ -2,11 +2,11 @@
 ghost use Rattle.std.specs.Prelude.{◌≡◌, ◌++◌, map, take, OnOk};
 ghost use Rattle.std.specs.List.{flat_map, list_any};
 ghost use Rattle.std.specs.Str.{bytes_eq};
-ghost use Rattle.bs_inspect_notes.specs.Listings.{listed, listing, more_piece, name_piece, near_text, quoted, some_listing, some_near, word_piece};
+ghost use Rattle.bs_inspect_notes.specs.Listings.{listed, listing, more_piece, name_piece, near_or, near_text, quoted, some_listing, some_near, word_piece};
 
-use crate::nearest::nearest;
+use crate::nearest::{nearest, offered};
 use bs_bits::{NoMemory, push_number, push_piece};
-use bs_note_places::{NAMED, push_quoted};
+use bs_net_names::{NAMED, push_quoted};
 use std::alloc::Global;
 
 /// How many names a listing has at most. A note is to be read at a glance.
@@ -102,6 +102,23 @@ fn push_near(
 
 /// Appends the nearest of some names, where there are any.
 #[tactic(auto, using(crate::proofs::NearLemmas::none_near, crate::proofs::NearLemmas::one_near))]
+fn push_near_or(
+    alloc: Global,
+    text: &mut Vec<u8>,
+    name: &[u8],
+    names: &[&[u8]],
+) -> Result<(), NoMemory>
+    ensures { OnOk result (text.new.items ≡ text.old.items ++ near_or name.now (map (λ n. n.now) names.now)) }
+{
+    if names.is_empty() {
+        return Ok(());
+    }
+    push_near(alloc, text, name, names)?;
+    Ok(())
+}
+
+/// Appends the nearest of those names that are offered for one, where there are any.
+#[tactic(auto, using(crate::proofs::NearLemmas::offered_near))]
 pub fn push_some_near(
     alloc: Global,
     text: &mut Vec<u8>,
@@ -110,10 +127,9 @@ pub fn push_some_near(
 ) -> Result<(), NoMemory>
     ensures { OnOk result (text.new.items ≡ text.old.items ++ some_near name.now (map (λ n. n.now) names.now)) }
 {
-    if names.is_empty() {
-        return Ok(());
-    }
-    push_near(alloc, text, name, names)?;
+    let found = offered(alloc, name, names)?;
+    let some = found.as_slice();
+    push_near_or(alloc, text, name, some)?;
     Ok(())
 }
 

@@ -1,10 +1,10 @@
-//! How far two names are apart, and which of some names are nearest to one.
+//! How far two names are apart, and which of some names are offered for one, and nearest to it.
 ghost use Rattle.std.specs.Prelude.{◌≡◌, ◌++◌, map, min, fold, IfOk, OnOk};
-ghost use Rattle.bs_inspect_notes.specs.Nearest.{at_distance, bases_apart, by_bits, ends_behind, far, is_separator, kept, least, nearest};
+ghost use Rattle.bs_inspect_notes.specs.Nearest.{at_distance, bases_apart, by_bits, ends_behind, far, is_made, is_offered, is_separator, kept, least, nearest, offered};
 
 use bs_bits::NoMemory;
-use bs_net_names::{key_parts, plain, same_bit};
-use bs_note_places::apart;
+use bs_inspect_view::is_nameless;
+use bs_net_names::{apart, key_parts, plain, same_bit};
 use bs_vcd_header::is_text;
 use std::alloc::Global;
 
@@ -95,6 +95,40 @@ fn add_if<'a>(found: &mut Vec<&'a [u8]>, name: &'a [u8], is: bool) -> Result<(),
         found.push(name)?;
     }
     Ok(())
+}
+
+/// Whether this is a constant's key, or a name that synthesis made.
+#[tactic(auto, using(crate::proofs::NearLemmas::made_by))]
+fn is_made(key: &[u8]) -> bool
+    ensures { result ≡ is_made key.now }
+{
+    let parts = key_parts(key);
+    is_nameless(parts.base)
+}
+
+/// Whether a name is offered for another.
+fn is_offered(name: &[u8], other: &[u8]) -> bool
+    ensures { result ≡ is_offered name.now other.now }
+{
+    let asked = is_made(name);
+    let made = is_made(other);
+    asked || !made
+}
+
+/// Those of these names that are offered for one.
+pub fn offered<'a>(
+    alloc: Global,
+    name: &[u8],
+    names: &[&'a [u8]],
+) -> Result<Vec<&'a [u8]>, NoMemory>
+    ensures { IfOk result (λ found. map (λ n. n.now) found.items ≡ offered name.now (map (λ n. n.now) names.now)) }
+{
+    let mut found = Vec::new(alloc);
+    'names: for &other in names {
+        let keep = is_offered(name, other);
+        add_if(&mut found, other, keep)?;
+    }
+    Ok(found)
 }
 
 /// Those of these names that are so far from one.

@@ -11,7 +11,7 @@ use Rattle.std.proofs.lemmas.List.FromFn.{get_or-map-range_with_len, length-map-
 use Rattle.std.proofs.lemmas.Nat.Bits.{bit_at-zero}
 use Rattle.bs_bits.specs.Bits.{bits_eq}
 use Rattle.bs_stim.specs.Packing.{bit_in}
-use Rattle.bs_lanes_planes.specs.Planes.{bit_place, lane}
+use Rattle.bs_lanes.specs.Planes.{bit_place, lane}
 use Rattle.bs_scan.specs.Moments.{is_listed}
 use Rattle.bs_break.specs.Masks.{has, IsCut}
 use Rattle.bs_inspect_novel.specs.Values.{state_bit}

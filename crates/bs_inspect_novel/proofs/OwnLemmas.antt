@@ -7,7 +7,7 @@ use Rattle.std.proofs.lemmas.List.FromFn.{map-range_with_len_more}
 use Rattle.std.proofs.lemmas.Nat.{row_fits}
 use Rattle.bs_net.specs.Circuit.{Circuit}
 use Rattle.bs_stim.specs.Packing.{bit_in}
-use Rattle.bs_lanes_planes.specs.Planes.{bit_place, lane}
+use Rattle.bs_lanes.specs.Planes.{bit_place, lane}
 use Rattle.bs_scan.specs.Moments.{Run, run_of, state_at}
 use Rattle.bs_chip.specs.Lockstep.{Passing, ShowsCycle, wide_of}
 use Rattle.bs_inspect_novel.specs.Known.{AreOwn}

@@ -11,7 +11,7 @@ use Rattle.std.proofs.lemmas.Nat.Bits.{bit_at-trailing_zeros, bit_at-zero}
 use Rattle.bs_net.specs.Circuit.{Circuit}
 use Rattle.bs_bits.specs.Bits.{bits_eq}
 use Rattle.bs_stim.specs.Packing.{bit_in}
-use Rattle.bs_lanes_planes.specs.Planes.{bit_place, lane}
+use Rattle.bs_lanes.specs.Planes.{bit_place, lane}
 use Rattle.bs_break.specs.Masks.{has}
 use Rattle.bs_scan.specs.Moments.{IsMoment, Run, is_listed, moment, run_of, state_at}
 use Rattle.bs_inspect_novel.specs.declared.novelty.TheConstants.{MAX_VALUES}

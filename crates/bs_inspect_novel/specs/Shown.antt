@@ -8,7 +8,7 @@ use Rattle.bs_net_names.specs.Rtl.{rtl_text}
 use Rattle.bs_net_names.specs.Signals.{Signal}
 use Rattle.bs_net_names.specs.Values.{value_text}
 use Rattle.bs_inspect_report.specs.Signal.{signal_bits}
-use Rattle.bs_lanes_planes.specs.Planes.{lane}
+use Rattle.bs_lanes.specs.Planes.{lane}
 use Rattle.bs_break.specs.Masks.{has}
 use Rattle.bs_scan.specs.Moments.{IsMoment, Moment, Run, is_listed, moment, state_at}
 use Rattle.bs_inspect_novel.specs.Values.{AreElsewhere, value_at, value_in}

@@ -5,7 +5,7 @@ ghost use Rattle.bs_inspect_novel.specs.Shown.{is_viewed, IsColumn, IsMask};
 
 use crate::run::Run;
 use bs_bits::NoMemory;
-use bs_lanes_planes::put_bit;
+use bs_lanes::put_bit;
 use std::alloc::Global;
 
 /// So many words of zeros.

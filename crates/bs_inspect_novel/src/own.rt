@@ -1,6 +1,6 @@
 //! The states of one run, from reset to its end.
 ghost use Rattle.std.specs.Prelude.{◌≡◌, ◌<◌, ◌≤◌, ◌+◌, ◌-◌, ◌*◌, [], length, IfOk, OnOk};
-ghost use Rattle.bs_lanes_planes.specs.Planes.{lane as lane_in};
+ghost use Rattle.bs_lanes.specs.Planes.{lane as lane_in};
 ghost use Rattle.bs_net.specs.Netlist.{circuit};
 ghost use Rattle.bs_scan.specs.Moments.{run_of, state_at};
 ghost use Rattle.bs_stim.specs.Runs.{inputs_of};
@@ -9,7 +9,7 @@ ghost use Rattle.bs_inspect_novel.specs.Known.{AreOwn};
 use crate::run::Run;
 use bs_bits::{Bits, List, NoMemory};
 use bs_chip::{Pass, step_to};
-use bs_lanes_planes::lane_bit;
+use bs_lanes::lane_bit;
 use std::alloc::Global;
 
 /// The bits of a lane.

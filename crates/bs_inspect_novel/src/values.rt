@@ -1,7 +1,7 @@
 //! The values of a signal that other runs have, each once.
 ghost use Rattle.std.specs.Prelude.{◌≡◌, ◌<◌, ◌+◌, true, [], ◌∷◌, ◌++◌, length, IfOk, OnOk};
 ghost use Rattle.bs_break.specs.Masks.{has};
-ghost use Rattle.bs_lanes_planes.specs.Planes.{lane as lane_in};
+ghost use Rattle.bs_lanes.specs.Planes.{lane as lane_in};
 ghost use Rattle.bs_net.specs.Netlist.{circuit};
 ghost use Rattle.bs_stim.specs.Runs.{inputs_of};
 ghost use Rattle.bs_inspect_novel.specs.Values.{AreElsewhere, state_bit};
@@ -11,7 +11,7 @@ use crate::look::misses;
 use crate::novelty::MAX_VALUES;
 use crate::run::{Column, Run};
 use bs_bits::{Bits, List, NoMemory};
-use bs_lanes_planes::lane_bit;
+use bs_lanes::lane_bit;
 use std::alloc::Global;
 
 /// The bit of a lane at a place, and 0 past the end.

@@ -1,1 +1,3 @@
 pub mod WorkLemmas
+pub mod WindowLemmas
+pub mod LackingLemmas

@@ -3,32 +3,32 @@ use Rattle.std.proofs.Common.{◌≡◌, ℕ, true, false, List, Option, Some, N
 use Rattle.std.specs.Prelude.{Bool, IfOk, option_map, if◌then◌else◌}
 use Rattle.bs_bits.specs.declared.memory.NoMemory.{NoMemory}
 use Rattle.bs_outside.specs.Calls.{FetchCall}
-use Rattle.bs_top_plan.specs.declared.file.File.{File}
-use Rattle.bs_top_plan.specs.declared.reply.Reply.{Reply}
-use Rattle.bs_top_plan.specs.declared.status.Status.{Status}
-use Rattle.bs_top_plan.specs.declared.diagnostic.WalkStop.{WalkStop}
-use Rattle.bs_top_plan.specs.Files.{is_work_status}
-use Rattle.bs_top_plan.specs.Plan.{Tells, Counts, Plan, ◌>>=◌, end}
-use Rattle.bs_top_plan.specs.Prepared.{AnswersStop, IsWork}
-use Rattle.bs_top_plan.specs.Telling.{WalksDiagnosed}
-use Rattle.bs_top_plan.specs.Diagnostic.{line_stop, note_stop}
-use Rattle.bs_top_plan.proofs.TellingLemmas.{diagnosed_end}
+use Rattle.bs_outside.specs.declared.file.File.{File}
+use Rattle.bs_outside.specs.declared.reply.Reply.{Reply}
+use Rattle.bs_outside.specs.declared.status.Status.{Status}
+use Rattle.bs_outside.specs.declared.diagnostic.WalkStop.{WalkStop}
+use Rattle.bs_outside.specs.PlanFiles.{is_work_status}
+use Rattle.bs_outside.specs.Plan.{Tells, Counts, Plan, ◌>>=◌, end}
+use Rattle.bs_outside.specs.Prepared.{AnswersStop, IsWork}
+use Rattle.bs_outside.specs.Telling.{WalksDiagnosed}
+use Rattle.bs_outside.specs.Diagnostic.{line_stop, note_stop}
+use Rattle.bs_outside.proofs.TellingLemmas.{diagnosed_end}
 use Rattle.bs_top_answer.specs.declared.note.Response.{Response}
 use Rattle.bs_top_answer.specs.declared.note.Note.TheVariants.{Silent}
 use Rattle.bs_top_answer.specs.Note.{DueText}
-use Rattle.bs_top_answer.specs.Prepared.{NoteAlong, PreparedNoted}
+use Rattle.bs_top_answer.specs.Prepared.{NoteAlong, PreparedNoted, replied}
 use Rattle.bs_top_answer.specs.Stops.{StopNoted}
 use Rattle.bs_top_answer.proofs.AnswerLemmas.{diagnosed_as, diagnosed_stopped, diagnosed_work}
 use Rattle.bs_top_files.specs.NoteCases.{NoteCase, NoteSays}
 use Rattle.bs_top_files.specs.Refusals.{Case, CheckSays}
 use Rattle.bs_inspect_words.specs.Request.{Request}
-use Rattle.bs_inspect_plans.specs.Said.{RequestSaid, silent, WordsSaid, WorkSaid, work_note}
+use Rattle.bs_inspect_plans.specs.Said.{RequestSaid, said_by, silent, WordsSaid, WorkSaid, work_note}
 use Rattle.bs_inspect_plans.specs.Sources.{Sources, source_of}
 use Rattle.bs_evidence.specs.declared.flaw.Evidence.{Evidence}
 use Rattle.bs_evidence.specs.declared.flaw.Evidence.TheVariants.{Text, Flawed}
 use Rattle.bs_inspect_plans.specs.Work.{to_table, to_steps_table, to_lists, to_keys, to_seen, to_state, to_evidence, to_lengths, to_page, to_novel, to_why, to_check, to_bench, to_near, Work, plan_of, to_help, to_version, to_flops, to_inputs, to_stats, to_steps, to_trace, to_runs, to_dump, to_wave, to_save, to_signature}
 use Rattle.bs_inspect_check.specs.Comparison.{all_agree}
-use Rattle.bs_top_plan.specs.declared.status.Status.TheVariants.{Done, Rejected}
+use Rattle.bs_outside.specs.declared.status.Status.TheVariants.{Done, Rejected}
 use Rattle.bs_inspect_report_texts.specs.declared.fault.Bench.{Bench}
 use Rattle.bs_inspect_report_texts.specs.declared.fault.Bench.TheVariants as bench
 use Rattle.bs_inspect_why.specs.declared.denial.Why.{Why}
@@ -93,7 +93,8 @@ silent_done finish (Ok reply) done = done
 silent_done finish (Err want) done = tt
 
 silent_said : (work : Work) (r : Result Reply NoMemory) → work_note work ≡ None → IfOk (silent r) (λ a. WorkSaid work a.reply.text.items a.note)
-silent_said work (Ok reply) quiet = subst (λ (o : Option (List ℕ)). DueText o Silent) (sym quiet) refl
+silent_said work (Ok reply) quiet =
+    subst (λ (o : Option (List ℕ → Option (List ℕ))). DueText (said_by o reply.text.items) Silent) (sym quiet) refl
 silent_said work (Err want) quiet = tt
 
 -- work that a walk made ready for, on which there is no note
@@ -106,6 +107,12 @@ diagnosed_done {held = held} {faults = faults} {leads = leads} {before = before}
     same quiet walks done =
     subst (PreparedNoted CheckSays finishes (NoteAlong NoteSays WorkSaid path_of looked) held faults leads before now (Some plan)) (sym same)
     (diagnosed_work WorkSaid path_of (silent r) is_work walks (silent_done (finishes (view t)) r done) (silent_said (view t) r quiet))
+
+-- a reply with a note on it
+noted_done : (finish : Status → List ℕ → Type 0) (answer : Result Response NoMemory) (r : Result Reply NoMemory) → replied answer ≡ r →
+    IfOk r (λ a. finish a.status a.text.items) → IfOk answer (λ a. finish a.reply.status a.reply.text.items)
+noted_done finish (Ok a) r same done = subst (λ (x : Result Reply NoMemory). IfOk x (λ b. finish b.status b.text.items)) (sym same) done
+noted_done finish (Err want) r same done = tt
 
 -- a walk that stopped, with the names of these files
 pub diagnosed_stop_at : {S T : Type 0} {held : S → Tells} {faults : S → Counts} {leads : S → FetchCall → S → Type 0} {before now : S} {plan : Plan Case Work}
@@ -127,6 +134,18 @@ pub walked_done : {A S T : Type 0} {held : S → Tells} {faults : S → Counts} 
     (Some (plan >>= (λ v. end (work v)))) answer
 walked_done {T = T} {view = view} {t = t} plan looked work path_of r answer same quiet walks done =
     diagnosed_done {T = T} {view = λ x. work (view x)} {t = t} path_of r answer same quiet (diagnosed_as work walks) done
+
+-- the same of work on which there is a note
+pub walked_noted : {A S T : Type 0} {held : S → Tells} {faults : S → Counts} {leads : S → FetchCall → S → Type 0} {before now : S} {view : T → A} {t : T}
+    (plan : Plan Case A) (looked : Plan NoteCase A) (work : A → Work) (path_of : File → List ℕ) (r : Result Reply NoMemory)
+    (answer : Result Response NoMemory) → replied answer ≡ r → IfOk answer (λ a. WorkSaid (work (view t)) a.reply.text.items a.note) →
+    WalksDiagnosed CheckSays NoteSays held faults leads before now plan looked view view (Ok t) →
+    IfOk r (λ a. finishes (work (view t)) a.status a.text.items) →
+    PreparedNoted CheckSays finishes (NoteAlong NoteSays WorkSaid path_of (looked >>= (λ v. end (work v)))) held faults leads before now
+    (Some (plan >>= (λ v. end (work v)))) answer
+walked_noted {T = T} {view = view} {t = t} plan looked work path_of r answer same said walks done =
+    diagnosed_work {T = T} {view = λ x. work (view x)} {t = t} WorkSaid path_of answer is_work (diagnosed_as work walks)
+    (noted_done (finishes (work (view t))) answer r same done) said
 
 pub walked_stop : {A S T : Type 0} {held : S → Tells} {faults : S → Counts} {leads : S → FetchCall → S → Type 0} {before now : S} {view : T → A}
     {stop : WalkStop} (plan : Plan Case A) (looked : Plan NoteCase A) (work : A → Work) (given sources : Sources) (r : Result Response NoMemory) →

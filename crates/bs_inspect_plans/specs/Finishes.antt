@@ -1,7 +1,7 @@
 -- The status and the text of work that is done.
 use Rattle.std.specs.Prelude.{◌≡◌, ℕ, List, [], Option, length, if◌then◌else◌}
-use Rattle.bs_top_plan.specs.declared.status.Status.{Status}
-use Rattle.bs_top_plan.specs.declared.status.Status.TheVariants.{Done, Rejected}
+use Rattle.bs_outside.specs.declared.status.Status.{Status}
+use Rattle.bs_outside.specs.declared.status.Status.TheVariants.{Done, Rejected}
 use Rattle.bs_inspect_values.specs.SimulatedRun.{simulated_text}
 use Rattle.bs_inspect_netlist.specs.Dumped.{dump_lines}
 use Rattle.bs_inspect_check.specs.declared.comparison.Comparison.{Comparison}

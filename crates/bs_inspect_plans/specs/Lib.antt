@@ -3,6 +3,9 @@ pub mod Asked
 pub mod Work
 pub mod Sources
 pub mod Finishes
+pub mod Rejections
+pub mod Windows
+pub mod Lacking
 pub mod Said
 pub mod Readings
 pub mod Taken

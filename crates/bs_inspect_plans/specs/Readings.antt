@@ -1,11 +1,11 @@
 -- What is seen of the state of a dump, by its first line alone, or the reason of the refusal (docs/FORMATS.md, "Texts of `backspace_inspect`").
 use Rattle.std.specs.Prelude.{ℕ, List, codes, slice_get, Result}
 use Rattle.bs_bits.specs.Lines.{lines_of}
-use Rattle.bs_seen.specs.declared.seen.Seen.{Seen}
+use Rattle.bs_scan.specs.declared.seen.Seen.{Seen}
 use Rattle.bs_scan.specs.DumpText.{seen_line}
 use Rattle.bs_scan.specs.declared.fault.DumpFault.{DumpFault}
 use Rattle.bs_note_files.specs.declared.dump.Widths.{Widths}
-use Rattle.bs_top_plan.specs.Plan.{Reason}
+use Rattle.bs_outside.specs.Plan.{Reason}
 use Rattle.bs_top_files.specs.NoteCases.{NoteCase}
 use Rattle.bs_top_files.specs.Noting.{dump_note_reason, noted_by}
 use Rattle.bs_top_files.specs.Refusals.{Case, dump_reason, with_reason}

@@ -4,9 +4,9 @@ use Rattle.std.specs.List.{range_with_len}
 use Rattle.bs_bits.specs.declared.memory.NoMemory.{NoMemory}
 use Rattle.bs_net.specs.Parts.{Parts}
 use Rattle.bs_outside.specs.Calls.{FetchCall}
-use Rattle.bs_top_plan.specs.declared.reply.Reply.{Reply}
-use Rattle.bs_top_plan.specs.declared.status.Status.{Status}
-use Rattle.bs_top_plan.specs.Plan.{Plan, end, ◌>>=◌}
+use Rattle.bs_outside.specs.declared.reply.Reply.{Reply}
+use Rattle.bs_outside.specs.declared.status.Status.{Status}
+use Rattle.bs_outside.specs.Plan.{Plan, end, ◌>>=◌}
 use Rattle.bs_top_answer.specs.declared.note.Response.{Response}
 use Rattle.bs_top_answer.specs.declared.note.Note.{Note}
 use Rattle.bs_top_answer.specs.declared.note.Note.TheVariants.{Silent}
@@ -32,6 +32,10 @@ use Rattle.bs_inspect_notes.specs.Names.{unlisted_text}
 use Rattle.bs_inspect_notes.specs.Simulations.{data_clock_text, late_text}
 use Rattle.bs_inspect_report.specs.Keys.{flop_keys}
 use Rattle.bs_inspect_plans.specs.Asked.{check_files, clocked_of, dump_files, page_options, question_of, window_of}
+use Rattle.bs_inspect_plans.specs.Rejections.{rejected_text}
+use Rattle.bs_inspect_plans.specs.declared.rejection.Rejecting.TheVariants as R
+use Rattle.bs_inspect_plans.specs.Windows.{window_text}
+use Rattle.bs_inspect_plans.specs.Lacking.{lacking_text}
 use Rattle.bs_inspect_plans.specs.Sources.{source_of, sources_of}
 use Rattle.bs_inspect_plans.specs.Work.{Work, to_help, to_version, to_flops, to_inputs, to_stats, to_steps, to_trace, to_runs, to_dump, to_wave, to_save, to_signature, to_table, to_steps_table, to_lists, to_keys, to_seen, to_state, to_evidence, to_lengths, to_page, to_novel, to_why, to_check, to_bench, to_near}
 
@@ -141,14 +145,27 @@ count_doubt count raw order = if count == 0 then None else Some (unlisted_text c
 abbrev pub order_doubt : Scanned → Option (List ℕ)
 order_doubt scanned = count_doubt (unlisted_count (length scanned.raw.flops) scanned.order) scanned.raw scanned.order
 
--- what is said of work that is done: what is doubtful about runs, and which flip-flops a scan chain lacks; and nothing of other work
-abbrev pub work_note : Work → Option (List ℕ)
-work_note (to_runs clock simulated) = runs_doubt clock simulated
-work_note (to_state scanned) = order_doubt scanned
+-- What is said of work that is done, by its text: what is doubtful about runs; which flip-flops a scan chain lacks; what it means that an
+-- answer is rejected; how long a trace is, where none of its states is told; how many flip-flops of a dump are not there; and nothing of other
+-- work.
+abbrev pub work_note : Work → Option (List ℕ → Option (List ℕ))
+work_note (to_runs clock simulated) = Some (λ text. runs_doubt clock simulated)
+work_note (to_state scanned) = Some (λ text. order_doubt scanned)
+work_note (to_dump dumped) = Some (λ text. lacking_text dumped.taken.lacks)
+work_note (to_why q trace_files) = Some (rejected_text R.Why)
+work_note (to_bench top bench_files) = Some (rejected_text R.Bench)
+work_note (to_evidence kind step report_files) = Some (rejected_text R.Evidence)
+work_note (to_lengths kind asked answer_files) = Some (rejected_text R.Evidence)
+work_note (to_trace all w only trace_files) = Some (λ text. window_text w (length trace_files.report.states))
+work_note (to_table w only trace_files) = Some (λ text. window_text w (length trace_files.report.states))
 work_note _ = None
 
+abbrev pub said_by : Option (List ℕ → Option (List ℕ)) → List ℕ → Option (List ℕ)
+said_by None text = None
+said_by (Some says) text = says text
+
 abbrev pub WorkSaid : Work → List ℕ → Note → Type 0
-WorkSaid work text note = DueText (work_note work) note
+WorkSaid work text note = DueText (said_by (work_note work) text) note
 
 -- what is said of the answer to a request, after these fetches
 abbrev pub RequestSaid : Request → List FetchCall → Status → List ℕ → Note → Type 0

@@ -2,8 +2,8 @@
 use Rattle.std.specs.Prelude.{ℕ, List, [], ◌∷◌, ◌++◌, codes, Option}
 use Rattle.std.specs.List.{flat_map}
 use Rattle.std.specs.Option.{unwrap_or}
-use Rattle.bs_top_plan.specs.declared.file.File.{File}
-use Rattle.bs_top_plan.specs.declared.file.File.TheVariants as files
+use Rattle.bs_outside.specs.declared.file.File.{File}
+use Rattle.bs_outside.specs.declared.file.File.TheVariants as files
 use Rattle.bs_inspect_files.specs.Readings.{file_in}
 use Rattle.bs_inspect_words.specs.Request.{Request, BenchRequest, CheckRequest, DumpRequest, NearRequest, NovelRequest, SignatureRequest, StimulusRequest, UnscanRequest, Help, Version, Flops, Inputs, Stats, Keys, Seen, Trace, TraceTable, Steps, StepsTable, Lists, Wave, Gtkw, Stimulus, Check, Dump, Signature, Unscan, Bench, Cnf, Lrat, ReachCnf, ReachLrat, EvidenceRequest, LengthsRequest, PageRequest, Page, Novel, Near, Why}
 use Rattle.bs_inspect_plans.specs.declared.sources.Sources.{Sources as CodeSources}

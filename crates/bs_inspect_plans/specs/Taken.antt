@@ -2,9 +2,9 @@
 use Rattle.std.specs.Prelude.{ℕ, List, length}
 use Rattle.bs_net.specs.Netlist.{circuit_of}
 use Rattle.bs_net.specs.Parts.{Parts}
-use Rattle.bs_top_plan.specs.declared.file.File.TheVariants as files
-use Rattle.bs_top_plan.specs.Plan.{Plan, end, ◌>>=◌, fetched, read_as}
-use Rattle.bs_seen.specs.declared.seen.Seen.{Seen}
+use Rattle.bs_outside.specs.declared.file.File.TheVariants as files
+use Rattle.bs_outside.specs.Plan.{Plan, end, ◌>>=◌, fetched, read_as}
+use Rattle.bs_scan.specs.declared.seen.Seen.{Seen}
 use Rattle.bs_top_files.specs.NoteCases.{NoteCase}
 use Rattle.bs_top_files.specs.Refusals.{Case}
 use Rattle.bs_inspect_files.specs.Taken.{RunFiles, run_files_in, run_files_looked, run_files_of}

@@ -3,7 +3,7 @@ use Rattle.std.specs.Prelude.{ℕ, Bool, List, Option, [], ◌∷◌}
 use Rattle.bs_net.specs.Parts.{Parts}
 use Rattle.bs_report.specs.declared.report.Report.{Report}
 use Rattle.bs_inspect_words.specs.Request.{Request, Help, Version, Flops, Inputs, Stats, Keys, Seen, Trace, TraceTable, Steps, StepsTable, Lists, Wave, Gtkw, Stimulus, Check, Dump, Signature, Unscan, Bench, Cnf, Lrat, ReachCnf, ReachLrat, Page, Novel, Near, Why}
-use Rattle.bs_top_plan.specs.Plan.{Plan, end, ◌>>=◌}
+use Rattle.bs_outside.specs.Plan.{Plan, end, ◌>>=◌}
 use Rattle.bs_top_files.specs.Entry.{netlist_of, report_of}
 use Rattle.bs_top_files.specs.Refusals.{Case}
 use Rattle.bs_evidence.specs.declared.evidence.Format.{Format}

@@ -3,7 +3,8 @@
 //!
 //! `specs/`: the plan of each request (`Work`), the names of its files (`Sources`), the status and the text
 //! of work that is done (`Finishes`), and what is said besides (`Said`). Modules: `sources` (the answer to a
-//! walk that stopped), `replies` (a reply with no note), `usage` (what `help` and `version` show). Used
+//! walk that stopped), `replies` (a reply with no note), `rejection` (what an answer that is rejected means),
+//! `window` (a trace of which no state is told), `lacking` (a dump of which flip-flops are not there), `usage` (what `help` and `version` show). Used
 //! above: `plan_of`, `finishes` and `RequestSaid`, which the answer to a request is proved of
 //! (bs_inspect_report_requests, bs_inspect_netlist_requests), and the clauses of the call (bs_inspect).
 //! `proofs/WorkLemmas`: a walk that came to its end, or stopped, is such an answer.
@@ -14,15 +15,21 @@
 //! `specs/Taken`.
 #![tactic(auto)]
 
+mod lacking;
 mod loading;
 mod reading;
 mod ready;
+mod rejection;
 mod replies;
 mod sources;
 mod usage;
+mod window;
 
+pub use lacking::lacking_noted;
 pub use loading::load_near_files;
 pub use ready::NearFiles;
+pub use rejection::{Rejecting, rejected_noted};
 pub use replies::silent;
 pub use sources::{Sources, or_none, stop_at};
 pub use usage::{usage_text, version_text};
+pub use window::window_noted;

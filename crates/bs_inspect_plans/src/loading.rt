@@ -1,7 +1,7 @@
 //! The walk over the files.
 ghost use Rattle.std.specs.Prelude.{◌≡◌, length, IfOk};
 ghost use Rattle.bs_net.specs.Netlist.{circuit};
-ghost use Rattle.bs_top_plan.specs.Telling.{WalksDiagnosed};
+ghost use Rattle.bs_outside.specs.Telling.{WalksDiagnosed};
 ghost use Rattle.bs_top_files.specs.NoteCases.{NoteSays};
 ghost use Rattle.bs_top_files.specs.Refusals.{CheckSays};
 ghost use Rattle.bs_inspect_files.specs.Taken.{run_files_in};
@@ -11,9 +11,8 @@ use crate::reading::state_or_diagnostic;
 use crate::ready::NearFiles;
 use bs_inspect_files::{RunFiles, load_run_files};
 use bs_net::Netlist;
-use bs_outside::Shelf;
-use bs_seen::Seen;
-use bs_top_plan::{File, WalkStop, fetch_file, settle_diagnostic};
+use bs_outside::{File, Shelf, WalkStop, fetch_file, settle_diagnostic};
+use bs_scan::Seen;
 use std::alloc::Global;
 
 /// Drops a value, which a walk that stops lets go.

@@ -3,7 +3,7 @@ ghost use Rattle.std.specs.Prelude.{◌≡◌, length};
 ghost use Rattle.bs_net.specs.Netlist.{circuit};
 
 use bs_inspect_files::RunFiles;
-use bs_seen::Seen;
+use bs_scan::Seen;
 
 /// A netlist and recorded runs, and what is seen of a state of the netlist.
 #[derive(Drop)]

@@ -1,14 +1,13 @@
 //! The names of the files of a request, for the notes on them, and the answer to a walk that stopped at one.
 ghost use Rattle.std.specs.Prelude.{◌≡◌, IfOk, option_map, [], IfSome};
 ghost use Rattle.std.specs.Option.{unwrap_or};
-ghost use Rattle.bs_top_plan.specs.Prepared.{AnswersStop};
-ghost use Rattle.bs_top_plan.specs.Diagnostic.{line_stop, note_stop};
+ghost use Rattle.bs_outside.specs.Prepared.{AnswersStop};
+ghost use Rattle.bs_outside.specs.Diagnostic.{line_stop, note_stop};
 ghost use Rattle.bs_top_answer.specs.Stops.{stop_file, StopNoted};
 ghost use Rattle.bs_inspect_plans.specs.Sources.{source_of, sources_in};
 
-use bs_outside::NoMemory;
+use bs_outside::{File, NoMemory, WalkStop};
 use bs_top_answer::{Response, stop_file, stopped_at};
-use bs_top_plan::{File, WalkStop};
 use std::alloc::Global;
 use std::io::ErrorKind;
 

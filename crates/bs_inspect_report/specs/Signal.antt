@@ -5,7 +5,7 @@ use Rattle.std.specs.List.{flat_map, list_any}
 use Rattle.bs_bits.specs.Lines.{line}
 use Rattle.bs_net_names.specs.Signals.{Signal, name_text}
 use Rattle.bs_net_names.specs.Values.{value_text}
-use Rattle.bs_seen.specs.SeenText.{seen_text}
+use Rattle.bs_scan.specs.SeenText.{seen_text}
 
 -- the bit at a place of a state or an input
 abbrev pub bit_at : List Bool → ℕ → Bool

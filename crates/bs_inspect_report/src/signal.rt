@@ -8,7 +8,7 @@ ghost use Rattle.bs_inspect_report.specs.Signal.{bit_at, has_changed, is_open, o
 
 use bs_bits::{Bits, NoMemory, end_line, push_number, push_piece};
 use bs_net_names::{Signal, push_name, push_value};
-use bs_seen::push_seen_text;
+use bs_scan::push_seen_text;
 use std::alloc::Global;
 
 /// The bit at a place of a state or an input; 0 past its end.

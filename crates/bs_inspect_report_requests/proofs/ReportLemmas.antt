@@ -1,5 +1,5 @@
 -- What is told of a report, as the answer to its request.
-use Rattle.std.proofs.Common.{◌≡◌, ℕ, ◌≤◌, ◌*◌, List, Option, subst}
+use Rattle.std.proofs.Common.{◌≡◌, ℕ, ◌≤◌, ◌+◌, ◌*◌, List, [], get_or, Option, None, subst}
 use Rattle.std.specs.Prelude.{Bool}
 use Rattle.bs_inspect_view.specs.Drawn.{ViewRequest}
 use Rattle.bs_inspect_view.specs.Save.{IsSaveFile}
@@ -7,14 +7,20 @@ use Rattle.bs_inspect_view.specs.View.{IsDrawing}
 use Rattle.bs_inspect_html.specs.Signed.{SignatureFile}
 use Rattle.bs_inspect_page.specs.Page.{PageOptions, ShowsReport}
 use Rattle.bs_report.specs.declared.report.Report.{Report}
+use Rattle.bs_net.specs.Circuit.{next}
+use Rattle.bs_net.specs.Netlist.{Checked, circuit}
 use Rattle.bs_net.specs.Parts.{Parts}
+use Rattle.bs_net.proofs.NextLemmas.{bits_eq_Decides}
 use Rattle.bs_scan.specs.Moments.{Run}
 use Rattle.bs_stim.specs.Runs.{inputs_of}
-use Rattle.bs_top_plan.specs.declared.status.Status.{Status}
+use Rattle.bs_outside.specs.declared.status.Status.{Status}
+use Rattle.bs_inspect_causes.specs.Accounts.{LeadsOn}
 use Rattle.bs_inspect_why.specs.Question.{Question}
 use Rattle.bs_inspect_why.specs.Why.{Answers}
 use Rattle.bs_inspect_files.specs.Taken.{BenchFiles, TraceFiles}
 use Rattle.bs_inspect_report_texts.specs.Bench.{BenchAnswers}
+use Rattle.bs_inspect_report_texts.specs.Fits.{fit_fault}
+use Rattle.bs_inspect_report_texts.proofs.FitLemmas.{fit_leads}
 use Rattle.bs_inspect_report_texts.specs.declared.fault.Bench.{Bench}
 use Rattle.bs_inspect_why.specs.declared.denial.Why.{Why}
 use Rattle.bs_inspect_plans.specs.Finishes.{TellsBench, TellsReasons, bench_status, bench_text, why_status, why_text}
@@ -24,6 +30,13 @@ pub question_is : (q : Question) (depth : ℕ) → depth ≡ q.depth →
     record { name = q.name; at = q.at; depth = depth; flops = q.flops; all = q.all; csv = q.csv } ≡ q
 question_is q depth e =
     λ i. record { name = q.name; at = q.at; depth = e i; flops = q.flops; all = q.all; csv = q.csv }
+
+-- the trace of a report that fits leads on
+pub leads_on : (net : Checked) (r : Report) → None ≡ fit_fault net.raw r → LeadsOn (circuit net) r.states r.inputs
+leads_on net r e = record {
+  each = λ t lt.
+      (bits_eq_Decides (get_or r.states (t + 1) []) (next (circuit net) (get_or r.states t []) (get_or r.inputs t []))).0 (fit_leads net r e t lt);
+}
 
 -- an answer to `why`
 pub reasons_told : (q : Question) (t : TraceFiles) (answer : Why) (status : Status) (text : List ℕ) → Answers t.raw t.report q answer →

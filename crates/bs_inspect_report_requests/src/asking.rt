@@ -20,7 +20,7 @@ use bs_evidence::Format;
 use bs_inspect_files::{
     load_bench_files, load_charted, load_page_files, load_picked, load_report_files,
 };
-use bs_inspect_plans::{silent, stop_at};
+use bs_inspect_plans::{Rejecting, rejected_noted, silent, stop_at, window_noted};
 use bs_inspect_words::{
     BenchRequest, EvidenceRequest, GtkwRequest, LengthsRequest, ListsRequest, PageRequest,
     TraceRequest, WaveRequest, WhyRequest,
@@ -36,7 +36,11 @@ pub fn steps<S: Shelf>(alloc: Global, shelf: &mut S, report: &str) -> Result<Res
     ensures { PreparedNoted CheckSays finishes (RequestSaid (StepsOf report.now)) S.held S.faults S.leads shelf.old shelf.new (Some (plan_of (StepsOf report.now))) result }
 {
     match load_report(alloc, shelf, report) {
-        Ok(content) => silent(tell_steps(alloc, &content)),
+        Ok(content) => {
+            let answer = silent(tell_steps(alloc, &content));
+            drop(content);
+            answer
+        }
         Err(stop) => stop_at(alloc, report_source(report), shelf.reason(), stop),
     }
 }
@@ -50,7 +54,11 @@ pub fn steps_table<S: Shelf>(
     ensures { PreparedNoted CheckSays finishes (RequestSaid (StepsTableOf report.now)) S.held S.faults S.leads shelf.old shelf.new (Some (plan_of (StepsTableOf report.now))) result }
 {
     match load_report(alloc, shelf, report) {
-        Ok(content) => silent(tell_steps_table(alloc, &content)),
+        Ok(content) => {
+            let answer = silent(tell_steps_table(alloc, &content));
+            drop(content);
+            answer
+        }
         Err(stop) => stop_at(alloc, report_source(report), shelf.reason(), stop),
     }
 }
@@ -65,7 +73,16 @@ pub fn trace<S: Shelf>(
 {
     let only = asked.only.as_slice();
     match load_picked(alloc, shelf, asked.netlist, asked.report, only) {
-        Ok(trace_files) => silent(tell_trace(alloc, &trace_files, asked.all, asked.window, only)),
+        Ok(trace_files) => {
+            let answer = window_noted(
+                alloc,
+                asked.window,
+                &trace_files.report,
+                tell_trace(alloc, &trace_files, asked.all, asked.window, only),
+            );
+            drop(trace_files);
+            answer
+        }
         Err(stop) => stop_at(
             alloc,
             trace_sources(asked.netlist, asked.report),
@@ -85,7 +102,16 @@ pub fn trace_table<S: Shelf>(
 {
     let only = asked.only.as_slice();
     match load_picked(alloc, shelf, asked.netlist, asked.report, only) {
-        Ok(trace_files) => silent(tell_table(alloc, &trace_files, asked.window, only)),
+        Ok(trace_files) => {
+            let answer = window_noted(
+                alloc,
+                asked.window,
+                &trace_files.report,
+                tell_table(alloc, &trace_files, asked.window, only),
+            );
+            drop(trace_files);
+            answer
+        }
         Err(stop) => stop_at(
             alloc,
             trace_sources(asked.netlist, asked.report),
@@ -105,7 +131,11 @@ pub fn lists<S: Shelf>(
 {
     let only = asked.only.as_slice();
     match load_picked(alloc, shelf, asked.netlist, asked.report, only) {
-        Ok(trace_files) => silent(tell_lists(alloc, &trace_files, only)),
+        Ok(trace_files) => {
+            let answer = silent(tell_lists(alloc, &trace_files, only));
+            drop(trace_files);
+            answer
+        }
         Err(stop) => stop_at(
             alloc,
             trace_sources(asked.netlist, asked.report),
@@ -125,7 +155,11 @@ pub fn wave<S: Shelf>(
 {
     let only = asked.only.as_slice();
     match load_charted(alloc, shelf, asked.netlist, asked.report, only) {
-        Ok(trace_files) => silent(tell_wave(alloc, &trace_files, asked.from, asked.all, only)),
+        Ok(trace_files) => {
+            let answer = silent(tell_wave(alloc, &trace_files, asked.from, asked.all, only));
+            drop(trace_files);
+            answer
+        }
         Err(stop) => stop_at(
             alloc,
             trace_sources(asked.netlist, asked.report),
@@ -145,14 +179,18 @@ pub fn gtkw<S: Shelf>(
 {
     let only = asked.only.as_slice();
     match load_charted(alloc, shelf, asked.netlist, asked.report, only) {
-        Ok(trace_files) => silent(tell_save(
-            alloc,
-            &trace_files,
-            asked.wave,
-            asked.from,
-            asked.all,
-            only,
-        )),
+        Ok(trace_files) => {
+            let answer = silent(tell_save(
+                alloc,
+                &trace_files,
+                asked.wave,
+                asked.from,
+                asked.all,
+                only,
+            ));
+            drop(trace_files);
+            answer
+        }
         Err(stop) => stop_at(
             alloc,
             trace_sources(asked.netlist, asked.report),
@@ -179,15 +217,19 @@ pub fn page<S: Shelf>(
         asked.report,
         only,
     ) {
-        Ok(page_files) => silent(tell_page(
-            alloc,
-            &page_files,
-            asked.netlist,
-            asked.report,
-            asked.signature,
-            only,
-            asked.most,
-        )),
+        Ok(page_files) => {
+            let answer = silent(tell_page(
+                alloc,
+                &page_files,
+                asked.netlist,
+                asked.report,
+                asked.signature,
+                only,
+                asked.most,
+            ));
+            drop(page_files);
+            answer
+        }
         Err(stop) => stop_at(alloc, page_sources(asked), shelf.reason(), stop),
     }
 }
@@ -201,12 +243,15 @@ pub fn cnf<S: Shelf>(
     ensures { PreparedNoted CheckSays finishes (RequestSaid (CnfOf (evidence_in asked.now))) S.held S.faults S.leads shelf.old shelf.new (Some (plan_of (CnfOf (evidence_in asked.now)))) result }
 {
     match load_report_files(alloc, shelf, asked.netlist, asked.signature, asked.report) {
-        Ok(report_files) => silent(tell_evidence(
-            alloc,
-            Format::Clauses,
-            &report_files,
-            asked.step,
-        )),
+        Ok(report_files) => {
+            let answer = rejected_noted(
+                alloc,
+                Rejecting::Evidence,
+                tell_evidence(alloc, Format::Clauses, &report_files, asked.step),
+            );
+            drop(report_files);
+            answer
+        }
         Err(stop) => stop_at(alloc, evidence_sources(asked), shelf.reason(), stop),
     }
 }
@@ -220,7 +265,15 @@ pub fn lrat<S: Shelf>(
     ensures { PreparedNoted CheckSays finishes (RequestSaid (LratOf (evidence_in asked.now))) S.held S.faults S.leads shelf.old shelf.new (Some (plan_of (LratOf (evidence_in asked.now)))) result }
 {
     match load_report_files(alloc, shelf, asked.netlist, asked.signature, asked.report) {
-        Ok(report_files) => silent(tell_evidence(alloc, Format::Proof, &report_files, asked.step)),
+        Ok(report_files) => {
+            let answer = rejected_noted(
+                alloc,
+                Rejecting::Evidence,
+                tell_evidence(alloc, Format::Proof, &report_files, asked.step),
+            );
+            drop(report_files);
+            answer
+        }
         Err(stop) => stop_at(alloc, evidence_sources(asked), shelf.reason(), stop),
     }
 }
@@ -234,12 +287,15 @@ pub fn reach_cnf<S: Shelf>(
     ensures { PreparedNoted CheckSays finishes (RequestSaid (ReachCnfOf (lengths_in asked.now))) S.held S.faults S.leads shelf.old shelf.new (Some (plan_of (ReachCnfOf (lengths_in asked.now)))) result }
 {
     match load_answer_files(alloc, shelf, asked.netlist, asked.state, asked.answer) {
-        Ok(answer_files) => silent(tell_lengths(
-            alloc,
-            Format::Clauses,
-            &answer_files,
-            asked.length,
-        )),
+        Ok(answer_files) => {
+            let answer = rejected_noted(
+                alloc,
+                Rejecting::Evidence,
+                tell_lengths(alloc, Format::Clauses, &answer_files, asked.length),
+            );
+            drop(answer_files);
+            answer
+        }
         Err(stop) => stop_at(alloc, lengths_sources(asked), shelf.reason(), stop),
     }
 }
@@ -253,7 +309,15 @@ pub fn reach_lrat<S: Shelf>(
     ensures { PreparedNoted CheckSays finishes (RequestSaid (ReachLratOf (lengths_in asked.now))) S.held S.faults S.leads shelf.old shelf.new (Some (plan_of (ReachLratOf (lengths_in asked.now)))) result }
 {
     match load_answer_files(alloc, shelf, asked.netlist, asked.state, asked.answer) {
-        Ok(answer_files) => silent(tell_lengths(alloc, Format::Proof, &answer_files, asked.length)),
+        Ok(answer_files) => {
+            let answer = rejected_noted(
+                alloc,
+                Rejecting::Evidence,
+                tell_lengths(alloc, Format::Proof, &answer_files, asked.length),
+            );
+            drop(answer_files);
+            answer
+        }
         Err(stop) => stop_at(alloc, lengths_sources(asked), shelf.reason(), stop),
     }
 }
@@ -267,7 +331,15 @@ pub fn bench<S: Shelf>(
     ensures { PreparedNoted CheckSays finishes (RequestSaid (BenchOf (bench_in asked.now))) S.held S.faults S.leads shelf.old shelf.new (Some (plan_of (BenchOf (bench_in asked.now)))) result }
 {
     match load_bench_files(alloc, shelf, asked.netlist, asked.runs, asked.report) {
-        Ok(bench_files) => silent(tell_bench(alloc, &bench_files, asked.top)),
+        Ok(bench_files) => {
+            let answer = rejected_noted(
+                alloc,
+                Rejecting::Bench,
+                tell_bench(alloc, &bench_files, asked.top),
+            );
+            drop(bench_files);
+            answer
+        }
         Err(stop) => stop_at(alloc, bench_sources(asked), shelf.reason(), stop),
     }
 }
@@ -281,7 +353,15 @@ pub fn why<S: Shelf>(
     ensures { PreparedNoted CheckSays finishes (RequestSaid (WhyOf (why_in asked.now))) S.held S.faults S.leads shelf.old shelf.new (Some (plan_of (WhyOf (why_in asked.now)))) result }
 {
     match load_charted(alloc, shelf, asked.netlist, asked.report, &[asked.name]) {
-        Ok(trace_files) => silent(tell_why(alloc, &trace_files, asked)),
+        Ok(trace_files) => {
+            let answer = rejected_noted(
+                alloc,
+                Rejecting::Why,
+                tell_why(alloc, &trace_files, asked),
+            );
+            drop(trace_files);
+            answer
+        }
         Err(stop) => stop_at(
             alloc,
             trace_sources(asked.netlist, asked.report),

@@ -12,8 +12,7 @@ ghost use Rattle.bs_inspect_why.specs.Why.{Answers};
 use bs_inspect_files::TraceFiles;
 use bs_inspect_why::{Denial, Question, Why, denial_text, why_text};
 use bs_inspect_words::WhyRequest;
-use bs_outside::NoMemory;
-use bs_top_plan::{Reply, Status};
+use bs_outside::{NoMemory, Reply, Status};
 use std::alloc::Global;
 
 /// What is asked of a trace.
@@ -59,6 +58,7 @@ fn tell_reasons(alloc: Global, why: Why) -> Result<Reply, NoMemory>
 }
 
 /// What forces the bits of a name in the trace of a report.
+#[tactic(auto, using(crate::proofs::ReportLemmas::leads_on))]
 fn reasons_of(
     alloc: Global,
     trace_files: &TraceFiles,

@@ -27,11 +27,10 @@ use bs_inspect_report::{
 use bs_inspect_report_texts::{Bench, BenchFault, bench_fault_text, bench_of, lists_text};
 use bs_inspect_usages::TraceWindow;
 use bs_inspect_view::{ViewRequest, drawing, save_file};
-use bs_outside::NoMemory;
+use bs_outside::{NoMemory, Reply, Status};
 use bs_reach::Reach;
 use bs_report::Report;
 use bs_scan::Choice;
-use bs_top_plan::{Reply, Status};
 use bs_top_reach::{AnswerFiles, Target};
 use std::alloc::Global;
 

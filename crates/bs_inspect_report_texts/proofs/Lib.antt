@@ -3,3 +3,7 @@ pub mod DriveLemmas
 pub mod TextLemmas
 pub mod LawLemmas
 pub mod ListLemmas
+pub mod FitLemmas
+pub mod ListedLemmas
+pub mod PlaceLemmas
+pub mod LeadLemmas

@@ -5,3 +5,4 @@ pub mod Bench
 pub mod Faults
 pub mod Law
 pub mod Lists
+pub mod Fits

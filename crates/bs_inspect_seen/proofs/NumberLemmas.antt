@@ -24,15 +24,6 @@ net_more r keys key n lt e k =
     ∙ ((λ j. e j ++ k j ∷ [])
     ∙ (sym (map-append key_parts (take n r.names) (get_or r.names n [] ∷ [])) ∙ ap (map key_parts) (sym (take_more r.names n [] lt))))
 
-pub flop_more : (r : Parts) (keys : List CodeKeyParts) (key : CodeKeyParts) (fs : List Flop) (i : ℕ) (d : Flop) → i < length fs →
-    map parts_in keys ≡ map (λ f. key_parts (key_at r f.q.0)) (take i fs) → parts_in key ≡ key_parts (key_at r (get_or fs i d).q.0) →
-    map parts_in (keys ++ key ∷ []) ≡ map (λ f. key_parts (key_at r f.q.0)) (take (i + 1) fs)
-flop_more r keys key fs i d lt e k =
-    map-append parts_in keys (key ∷ [])
-    ∙ ((λ j. e j ++ k j ∷ [])
-    ∙ (sym (map-append (λ (f : Flop). key_parts (key_at r f.q.0)) (take i fs) (get_or fs i d ∷ []))
-    ∙ ap (map (λ (f : Flop). key_parts (key_at r f.q.0))) (sym (take_more fs i d lt))))
-
 pub bytes_more : (r : Parts) (keys : List (Bor (List ℕ))) (key : Bor (List ℕ)) (fs : List Flop) (i : ℕ) (d : Flop) → i < length fs →
     map (λ k. k.now) keys ≡ map (λ f. key_at r f.q.0) (take i fs) → key.now ≡ key_at r (get_or fs i d).q.0 →
     map (λ k. k.now) (keys ++ key ∷ []) ≡ map (λ f. key_at r f.q.0) (take (i + 1) fs)

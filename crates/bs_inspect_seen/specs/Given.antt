@@ -7,6 +7,7 @@ use Rattle.bs_net.specs.Parts.{Parts, key_at}
 use Rattle.bs_net_names.specs.Keys.{KeyParts, key_parts}
 use Rattle.bs_net_names.specs.Naming.{is_named}
 use Rattle.bs_net_names.specs.Splits.{Halves, last_split}
+use Rattle.bs_scan.specs.ChoiceText.{flop_parts}
 use Rattle.bs_inspect_seen.specs.declared.fault.GivenFault.{GivenFault}
 use Rattle.bs_inspect_seen.specs.declared.fault.GivenFault.TheVariants.{Form, Unknown, Wide, Twice}
 use Rattle.bs_inspect_seen.specs.declared.given.Given.{Given as CodeGiven}
@@ -23,12 +24,9 @@ given_in g = record { name = g.name.now; bits = g.bits.items; low = g.low }
 
 -- ---- the bits that have a name
 
--- what the keys of the nets and of the flip-flops say
+-- what the keys of the nets say
 abbrev pub net_parts : Parts → List KeyParts
 net_parts r = map key_parts r.names
-
-abbrev pub flop_parts : Parts → List KeyParts
-flop_parts r = map (λ f. key_parts (key_at r f.q.0)) r.flops
 
 -- the keys of the flip-flops
 abbrev pub flop_keys : Parts → List (List ℕ)

@@ -6,7 +6,7 @@ use Rattle.bs_note_files.specs.Notes.{plain_text}
 use Rattle.bs_inspect_notes.specs.declared.name.Subject.TheVariants.{Flops}
 use Rattle.bs_inspect_notes.specs.Listings.{quoted}
 use Rattle.bs_inspect_notes.specs.Names.{key_sentence}
-use Rattle.bs_top_plan.specs.Plan.{Reason, exactly}
+use Rattle.bs_outside.specs.Plan.{Reason, exactly}
 use Rattle.bs_top_files.specs.NoteCases.{NoteCase}
 use Rattle.bs_top_files.specs.Noting.{noted_by}
 use Rattle.bs_top_files.specs.Refusals.{Case, with_reason}

@@ -5,9 +5,10 @@ use Rattle.bs_bits.specs.Lines.{line}
 use Rattle.bs_net.specs.Parts.{Parts}
 use Rattle.bs_net_names.specs.Keys.{KeyParts}
 use Rattle.bs_net_names.specs.Naming.{is_named}
-use Rattle.bs_seen.specs.declared.seen.Seen.{Seen}
-use Rattle.bs_seen.specs.SeenText.{seen_text}
-use Rattle.bs_inspect_seen.specs.Given.{Given, flop_parts, is_given, number_of}
+use Rattle.bs_scan.specs.declared.seen.Seen.{Seen}
+use Rattle.bs_scan.specs.ChoiceText.{flop_parts}
+use Rattle.bs_scan.specs.SeenText.{seen_text}
+use Rattle.bs_inspect_seen.specs.Given.{Given, is_given, number_of}
 
 -- the name that a flip-flop has, with its value
 abbrev pub given_for : List Given → KeyParts → Option Given

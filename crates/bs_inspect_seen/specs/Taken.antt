@@ -1,8 +1,8 @@
 -- The file of names with values, and what it makes ready.
 use Rattle.std.specs.Prelude.{ℕ, List, map}
 use Rattle.bs_net.specs.Parts.{Parts}
-use Rattle.bs_top_plan.specs.declared.file.File.TheVariants as files
-use Rattle.bs_top_plan.specs.Plan.{Plan, end, ◌>>=◌, read_as}
+use Rattle.bs_outside.specs.declared.file.File.TheVariants as files
+use Rattle.bs_outside.specs.Plan.{Plan, end, ◌>>=◌, read_as}
 use Rattle.bs_top_files.specs.Entry.{netlist_of}
 use Rattle.bs_top_files.specs.Looking.{netlist_looked}
 use Rattle.bs_top_files.specs.NoteCases.{NoteCase}

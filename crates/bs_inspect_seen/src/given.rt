@@ -10,11 +10,12 @@ ghost use Rattle.bs_inspect_seen.specs.Value.{value_in};
 ghost use Rattle.bs_inspect_seen.specs.Given.{given_at, given_by, given_in, given_of, given_with, givens_from, givens_in, has_flop, is_given, is_twice};
 
 use crate::fault::GivenFault;
-use crate::numbers::{flop_parts, is_wide, least, net_parts, numbers_of};
+use crate::numbers::{is_wide, least, net_parts, numbers_of};
 use crate::value::read_value;
 use bs_bits::NoMemory;
 use bs_net::Netlist;
 use bs_net_names::{KeyParts, is_named, last_split};
+use bs_scan::flop_parts;
 use std::alloc::Global;
 
 /// A name of flip-flops, the bits of its value, the lowest first, and the lowest number of a bit that has the name.

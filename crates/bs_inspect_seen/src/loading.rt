@@ -1,6 +1,6 @@
 //! The walk over the file of names with values.
 ghost use Rattle.std.specs.Prelude.{◌≡◌, map};
-ghost use Rattle.bs_top_plan.specs.Telling.{WalksDiagnosed};
+ghost use Rattle.bs_outside.specs.Telling.{WalksDiagnosed};
 ghost use Rattle.bs_top_files.specs.NoteCases.{NoteSays};
 ghost use Rattle.bs_top_files.specs.Refusals.{CheckSays};
 ghost use Rattle.bs_inspect_seen.specs.Taken.{named_in, named_looked, named_of, named_step, named_step_looked};
@@ -8,9 +8,8 @@ ghost use Rattle.bs_inspect_seen.specs.Taken.{named_in, named_looked, named_of, 
 use crate::given::Given;
 use crate::reading::givens_or_diagnostic;
 use bs_net::Netlist;
-use bs_outside::Shelf;
+use bs_outside::{File, Shelf, WalkStop, settle_diagnostic};
 use bs_top_files::load_netlist;
-use bs_top_plan::{File, WalkStop, settle_diagnostic};
 use std::alloc::Global;
 
 /// A netlist, and names of its flip-flops with their values.

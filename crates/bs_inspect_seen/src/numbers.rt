@@ -4,7 +4,7 @@ ghost use Rattle.std.specs.List.{list_any};
 ghost use Rattle.bs_net.specs.Netlist.{parts_of};
 ghost use Rattle.bs_net.specs.Parts.{key_at};
 ghost use Rattle.bs_net_names.specs.Keys.{parts_in};
-ghost use Rattle.bs_inspect_seen.specs.Given.{flop_keys, flop_parts, greatest, is_wide, least, net_parts, number_if, number_of, numbers_of};
+ghost use Rattle.bs_inspect_seen.specs.Given.{flop_keys, greatest, is_wide, least, net_parts, number_if, number_of, numbers_of};
 
 use bs_bits::NoMemory;
 use bs_net::{NetId, Netlist, Raw};
@@ -30,18 +30,6 @@ pub(crate) fn net_parts<'a>(alloc: Global, raw: &'a Raw) -> Result<Vec<KeyParts<
         nets.push(key_parts(key_of(raw, n)))?;
     }
     Ok(nets)
-}
-
-/// What the keys of the flip-flops say.
-#[tactic(auto, using(crate::proofs::NumberLemmas::flop_more))]
-pub(crate) fn flop_parts<'a>(alloc: Global, raw: &'a Raw) -> Result<Vec<KeyParts<'a>>, NoMemory>
-    ensures { IfOk result (λ flops. map parts_in flops.items ≡ flop_parts (parts_of raw.now)) }
-{
-    let mut flops = Vec::new(alloc);
-    'flops: for i in 0..raw.flops.len() {
-        flops.push(key_parts(key_of(raw, raw.flops.get(i).q.0)))?;
-    }
-    Ok(flops)
 }
 
 /// The keys of the flip-flops.

@@ -1,13 +1,13 @@
 //! The words of a refusal line (docs/FORMATS.md, "Values of flip-flops").
 ghost use Rattle.std.specs.Prelude.{◌≡◌, ◌++◌, decimal, IfOk};
 ghost use Rattle.bs_inspect_seen.specs.declared.fault.GivenFault.TheVariants.{NoMemory as GivenWant};
-ghost use Rattle.bs_top_plan.specs.declared.walk.Refusal.TheVariants.{NoMemory as Want};
+ghost use Rattle.bs_outside.specs.declared.walk.Refusal.TheVariants.{NoMemory as Want};
 ghost use Rattle.bs_top_files.specs.Refusals.{HasWords};
 ghost use Rattle.bs_inspect_seen.specs.Readings.{given_words};
 
 use crate::fault::GivenFault;
 use bs_bits::{NoMemory, push_number, push_piece};
-use bs_top_plan::Refusal;
+use bs_outside::Refusal;
 use std::alloc::Global;
 
 /// A word and a number.

@@ -4,16 +4,16 @@ ghost use Rattle.std.specs.List.{list_any};
 ghost use Rattle.bs_bits.specs.Lines.{line};
 ghost use Rattle.bs_net_names.specs.Keys.{parts_in};
 ghost use Rattle.bs_net_names.specs.Naming.{is_named};
-ghost use Rattle.bs_seen.specs.SeenText.{seen_text};
+ghost use Rattle.bs_scan.specs.SeenText.{seen_text};
 ghost use Rattle.bs_inspect_seen.specs.Given.{given_in, is_given};
 ghost use Rattle.bs_inspect_seen.specs.State.{bit_in, free_among, given_bit, given_for, is_open, seen_among, seen_by, state_line};
 
 use crate::given::{Given, is_given};
-use crate::numbers::{flop_parts, number_of};
+use crate::numbers::number_of;
 use bs_bits::{Bits, NoMemory, end_line, push_piece};
 use bs_net::Netlist;
 use bs_net_names::{KeyParts, is_named};
-use bs_seen::Seen;
+use bs_scan::{Seen, flop_parts};
 use std::alloc::Global;
 
 /// The first of these names that a flip-flop has.

@@ -3,3 +3,4 @@ pub mod ReasonLemmas
 pub mod PlaceLemmas
 pub mod SettingLemmas
 pub mod ValueLemmas
+pub mod TwiceLemmas

@@ -8,8 +8,8 @@ use Rattle.std.specs.declared.alloc.Global.{Global}
 use Rattle.std.proofs.lemmas.List.{drop_more, drop_all}
 use Rattle.bs_bits.specs.declared.memory.NoMemory.{NoMemory}
 use Rattle.bs_inspect_usages.specs.declared.reason.Bounds.{Bounds}
-use Rattle.bs_inspect_usages.specs.Usages.{bad_text, bad_word_text, bound_text, bounds_in, bounds_or, first_bad, foreign_text, given_of, gives, is_bad, is_foreign, is_misplaced}
-use Rattle.bs_inspect_usages.specs.Usages.{number_text, option_name, reason_text, stand_by, stand_of}
+use Rattle.bs_inspect_usages.specs.Usages.{bad_text, bad_word_text, bound_text, bounds_in, bounds_or, first_bad, foreign_text, given_of, gives, has_needless, is_bad, is_foreign, is_misplaced, is_worded}
+use Rattle.bs_inspect_usages.specs.Usages.{lack_text, needless_text, number_text, once_of, option_name, reason_text, stand_by, stand_of, value_text}
 
 abbrev Words : Type 0
 Words = List (String Global)
@@ -56,7 +56,7 @@ entry_none command name table i goal le e = sym (ap (bounds_in command name) (dr
 
 -- ---- the first word whose option takes another value
 
-index_is : (ws : List (List ℕ)) (i : ℕ) → slice_index_or ws i [] ≡ get_or ws i []
+pub index_is : (ws : List (List ℕ)) (i : ℕ) → slice_index_or ws i [] ≡ get_or ws i []
 index_is [] i = refl
 index_is (w ∷ ws) zero = refl
 index_is (w ∷ ws) (suc i) = index_is ws i
@@ -117,20 +117,41 @@ gives_by option words b e = e ∙ each words
 
 -- ---- the reason
 
-abbrev Said : Type 0
+abbrev pub Said : Type 0
 Said = Result (Vec ℕ Global) NoMemory
 
 abbrev by_foreign : List ℕ → ℕ → List ℕ → Bool → Said → Type 0
-by_foreign command number word b r =
-    IfOk r (λ n. n.items ≡ (if b then foreign_text number word else bound_text number word (bounds_or command (option_name word))))
+by_foreign command number word b r = IfOk r (λ n. n.items ≡ (if b then foreign_text number word else value_text command number word))
 
 pub foreign_said : (command : List ℕ) (number : ℕ) (word : List ℕ) (b : Bool) (r : Result (Vec ℕ Global) NoMemory) → b ≡ is_foreign command word → b ≡ true →
     IfOk r (λ n. n.items ≡ foreign_text number word) → IfOk r (λ n. n.items ≡ bad_word_text command number word)
 foreign_said command number word b r e is says = subst (λ (c : Bool). by_foreign command number word c r) (sym is ∙ e) says
 
-pub outside_said : (command : List ℕ) (number : ℕ) (word : List ℕ) (b : Bool) (r : Result (Vec ℕ Global) NoMemory) → b ≡ is_foreign command word → b ≡ false →
-    IfOk r (λ n. n.items ≡ bound_text number word (bounds_or command (option_name word))) → IfOk r (λ n. n.items ≡ bad_word_text command number word)
-outside_said command number word b r e is says = subst (λ (c : Bool). by_foreign command number word c r) (sym is ∙ e) says
+pub value_said : (command : List ℕ) (number : ℕ) (word : List ℕ) (b : Bool) (r : Result (Vec ℕ Global) NoMemory) → b ≡ is_foreign command word → b ≡ false →
+    IfOk r (λ n. n.items ≡ value_text command number word) → IfOk r (λ n. n.items ≡ bad_word_text command number word)
+value_said command number word b r e is says = subst (λ (c : Bool). by_foreign command number word c r) (sym is ∙ e) says
+
+abbrev by_lack : List ℕ → ℕ → List ℕ → (worded needless : Bool) → Said → Type 0
+by_lack command number word worded needless r =
+    IfOk r (λ n. n.items ≡ (if worded then lack_text number word
+    else (if needless then needless_text number word else bound_text number word (bounds_or command (option_name word)))))
+
+pub lack_said : (command : List ℕ) (number : ℕ) (word : List ℕ) (b : Bool) (r : Result (Vec ℕ Global) NoMemory) → b ≡ is_worded word → b ≡ true →
+    IfOk r (λ n. n.items ≡ lack_text number word) → IfOk r (λ n. n.items ≡ value_text command number word)
+lack_said command number word b r e is says = subst (λ (c : Bool). by_lack command number word c (has_needless word) r) (sym is ∙ e) says
+
+pub needless_said : (command : List ℕ) (number : ℕ) (word : List ℕ) (b c : Bool) (r : Result (Vec ℕ Global) NoMemory) → b ≡ is_worded word → b ≡ false →
+    c ≡ has_needless word → c ≡ true → IfOk r (λ n. n.items ≡ needless_text number word) → IfOk r (λ n. n.items ≡ value_text command number word)
+needless_said command number word b c r e is f has says =
+    subst (λ (d : Bool). by_lack command number word d (has_needless word) r) (sym is ∙ e)
+    (subst (λ (d : Bool). by_lack command number word false d r) (sym has ∙ f) says)
+
+pub outside_said : (command : List ℕ) (number : ℕ) (word : List ℕ) (b c : Bool) (r : Result (Vec ℕ Global) NoMemory) → b ≡ is_worded word → b ≡ false →
+    c ≡ has_needless word → c ≡ false → IfOk r (λ n. n.items ≡ bound_text number word (bounds_or command (option_name word))) →
+    IfOk r (λ n. n.items ≡ value_text command number word)
+outside_said command number word b c r e is f has says =
+    subst (λ (d : Bool). by_lack command number word d (has_needless word) r) (sym is ∙ e)
+    (subst (λ (d : Bool). by_lack command number word false d r) (sym has ∙ f) says)
 
 abbrev misplaced : List ℕ
 misplaced = codes "`--length J` stands behind the files, and J is a word of its own"
@@ -151,7 +172,7 @@ pub number_found : (command : List ℕ) (words : List (List ℕ)) (number : ℕ)
 number_found command words number found r e says = subst (λ (o : Option ℕ). IfOk r (λ n. n.items ≡ number_text command words o)) e says
 
 pub number_none : (command : List ℕ) (words : List (List ℕ)) (found : Option ℕ) (r : Said) → None ≡ found →
-    IfOk r (λ n. n.items ≡ stand_of command words) → IfOk r (λ n. n.items ≡ number_text command words found)
+    IfOk r (λ n. n.items ≡ once_of command words) → IfOk r (λ n. n.items ≡ number_text command words found)
 number_none command words found r e says = subst (λ (o : Option ℕ). IfOk r (λ n. n.items ≡ number_text command words o)) e says
 
 pub reason_by : (command : List ℕ) (words : List (List ℕ)) (one other : Option (List ℕ)) (r : Said) → one ≡ other →

@@ -8,8 +8,8 @@ use Rattle.std.specs.declared.alloc.Global.{Global}
 use Rattle.std.proofs.lemmas.List.{drop_more, drop_all}
 use Rattle.bs_bits.specs.declared.memory.NoMemory.{NoMemory}
 use Rattle.bs_note_files.specs.Notes.{plain_text, pair_text}
-use Rattle.bs_inspect_usages.specs.Usages.{behind_text, command_text, commands, first_wrong, hint, is_others, is_wrong, line_among, option_name, options, others_hint, others_text, reason_of}
-use Rattle.bs_inspect_usages.specs.Usages.{unknown_text, usages, word_text, words_text}
+use Rattle.bs_inspect_usages.specs.Usages.{behind_text, budget_text, command_text, commands, first_wrong, hint, is_budget, is_others, is_wrong, line_among, option_name, options, others_hint, others_text, reason_of}
+use Rattle.bs_inspect_usages.specs.Usages.{unknown_text, usages, word_text, words_text, wrong_text}
 
 index_is : (ws : List (List ℕ)) (i : ℕ) → slice_index_or ws i [] ≡ get_or ws i []
 index_is [] i = refl
@@ -67,6 +67,18 @@ pub misspelt_said : (command : List ℕ) (b : Bool) (r : Result (Vec ℕ Global)
     IfOk r (λ n. n.items ≡ plain_text (word_text 1 command command (codes "command") commands) ++ plain_text hint) → IfOk r (λ n. n.items ≡ unknown_text command)
 misspelt_said command b r e is says = subst (λ (c : Bool). by_program command c r) (sym is ∙ e) says
 
+abbrev by_option : ℕ → List ℕ → Bool → Result (Vec ℕ Global) NoMemory → Type 0
+by_option number word b r =
+    IfOk r (λ n. n.items ≡ (if b then budget_text number word else word_text number word (option_name word) (codes "option") options))
+
+pub budget_said : (number : ℕ) (word : List ℕ) (b : Bool) (r : Result (Vec ℕ Global) NoMemory) → b ≡ is_budget word → b ≡ true →
+    IfOk r (λ n. n.items ≡ budget_text number word) → IfOk r (λ n. n.items ≡ wrong_text number word)
+budget_said number word b r e is says = subst (λ (c : Bool). by_option number word c r) (sym is ∙ e) says
+
+pub no_budget_said : (number : ℕ) (word : List ℕ) (b : Bool) (r : Result (Vec ℕ Global) NoMemory) → b ≡ is_budget word → b ≡ false →
+    IfOk r (λ n. n.items ≡ word_text number word (option_name word) (codes "option") options) → IfOk r (λ n. n.items ≡ wrong_text number word)
+no_budget_said number word b r e is says = subst (λ (c : Bool). by_option number word c r) (sym is ∙ e) says
+
 pub known_command : (command : List ℕ) (words : List (List ℕ)) (line : Bor (List ℕ)) (found : Option (List ℕ)) (r : Result (Vec ℕ Global) NoMemory) →
     Some line.now ≡ found → IfOk r (λ n. n.items ≡ behind_text words line.now (first_wrong 2 (drop 1 words))) →
     IfOk r (λ n. n.items ≡ command_text command words found)
@@ -97,11 +109,11 @@ some_words (w ∷ ws) command count r e some is says =
 
 pub behind_found : (words : List (List ℕ)) (line word : List ℕ) (number : ℕ) (found : Option ℕ) (r : Result (Vec ℕ Global) NoMemory) → Some number ≡ found →
     word ≡ slice_index_or words (number - 1) [] →
-    IfOk r (λ n. n.items ≡ plain_text (word_text number word (option_name word) (codes "option") options) ++ plain_text line) →
+    IfOk r (λ n. n.items ≡ plain_text (wrong_text number word) ++ plain_text line) →
     IfOk r (λ n. n.items ≡ behind_text words line found)
 behind_found words line word number found r e is says =
     subst (λ (o : Option ℕ). IfOk r (λ n. n.items ≡ behind_text words line o)) e
-    (subst (λ (w : List ℕ). IfOk r (λ n. n.items ≡ plain_text (word_text number w (option_name w) (codes "option") options) ++ plain_text line)) is says)
+    (subst (λ (w : List ℕ). IfOk r (λ n. n.items ≡ plain_text (wrong_text number w) ++ plain_text line)) is says)
 
 pub behind_none : (words : List (List ℕ)) (line : List ℕ) (found : Option ℕ) (r : Result (Vec ℕ Global) NoMemory) → None ≡ found →
     IfOk r (λ n. n.items ≡ plain_text (reason_of words) ++ plain_text line) → IfOk r (λ n. n.items ≡ behind_text words line found)

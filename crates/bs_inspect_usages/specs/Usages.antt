@@ -1,5 +1,5 @@
 -- How the words of each command stand, and the note on words that are none of them (docs/FORMATS.md, "Words of `backspace_inspect`").
-use Rattle.std.specs.Prelude.{ℕ, ◌+◌, ◌-◌, ◌==◌, ◌&&◌, ◌||◌, drop, nat_le, nat_lt, nat_eq, Bool, false, not, List, [], ◌∷◌, ◌++◌, codes, decimal, length, map, slice_index_or}
+use Rattle.std.specs.Prelude.{ℕ, ◌+◌, ◌-◌, ◌==◌, ◌&&◌, ◌||◌, drop, take, nat_le, nat_lt, nat_eq, Bool, false, not, List, [], ◌∷◌, ◌++◌, codes, decimal, length, map, slice_index_or}
 use Rattle.std.specs.Prelude.{Option, Some, None, if◌then◌else◌}
 use Rattle.std.specs.List.{list_any, starts_with}
 use Rattle.std.specs.Str.{bytes_eq}
@@ -250,9 +250,39 @@ abbrev pub is_outside : Option Bounds → List ℕ → Bool
 is_outside None value = false
 is_outside (Some b) value = not (is_between b (number_in value))
 
--- a word behind a command that gives an option of another command, or another value than a number in its bounds
+-- ---- options whose value is a word, and options without a value
+
+-- the options whose value is a word
+abbrev pub worded : List (List ℕ)
+worded = codes "--only" ∷ codes "--clock" ∷ codes "--scope" ∷ codes "--map" ∷ codes "--signature" ∷ []
+
+-- the options without a value
+abbrev pub bare : List (List ℕ)
+bare = codes "--all" ∷ codes "--csv" ∷ codes "--flops" ∷ codes "--partial" ∷ []
+
+abbrev pub is_worded : List ℕ → Bool
+is_worded word = list_any (λ o. bytes_eq o word) worded
+
+-- no word, or one that begins with `-`
+abbrev pub is_no_value : List ℕ → Bool
+is_no_value next = length next == 0 || starts_with nat_eq next (codes "-")
+
+-- such an option is all of a word, and the next one is no value
+abbrev pub lacks_value : (word next : List ℕ) → Bool
+lacks_value word next = is_worded word && is_no_value next
+
+-- a word gives a value to an option without one
+abbrev pub has_needless : List ℕ → Bool
+has_needless word = list_any (λ o. bytes_eq o (option_name word)) bare && not (bytes_eq (option_name word) word)
+
+-- a word gives its option no value that it takes
+abbrev pub is_ill : (command word next : List ℕ) → Bool
+is_ill command word next =
+    is_outside (bounds_of command (option_name word)) (value_of word next) || (lacks_value word next || has_needless word)
+
+-- a word behind a command that gives an option of another command, or no value that its option takes
 unfoldable pub is_bad : (command word next : List ℕ) → Bool
-is_bad command word next = is_foreign command word || is_outside (bounds_of command (option_name word)) (value_of word next)
+is_bad command word next = is_foreign command word || is_ill command word next
 
 -- the number of the first such word of these, the first of which has this number; behind `--` there is none
 abbrev pub first_bad : List ℕ → ℕ → List (List ℕ) → Option ℕ
@@ -269,10 +299,23 @@ bounds_piece b = codes ", wants a number in digits from " ++ (decimal b.least ++
 unfoldable pub bound_text : ℕ → List ℕ → Bounds → List ℕ
 bound_text number word b = word_piece number word ++ bounds_piece b
 
+-- a word with its number from 1, whose option has no value
+unfoldable pub lack_text : ℕ → List ℕ → List ℕ
+lack_text number word = word_piece number word ++ codes ", has no value; one that begins with `-` stands in the same word, behind a `=`"
+
+-- a word with its number from 1, whose option takes no value
+unfoldable pub needless_text : ℕ → List ℕ → List ℕ
+needless_text number word = word_piece number word ++ codes ", gives a value to an option that takes none"
+
+-- what is said of a word by its option's value
+abbrev pub value_text : List ℕ → ℕ → List ℕ → List ℕ
+value_text command number word =
+    if is_worded word then lack_text number word
+    else (if has_needless word then needless_text number word else bound_text number word (bounds_or command (option_name word)))
+
 -- what is said of such a word
 abbrev pub bad_word_text : List ℕ → ℕ → List ℕ → List ℕ
-bad_word_text command number word =
-    if is_foreign command word then foreign_text number word else bound_text number word (bounds_or command (option_name word))
+bad_word_text command number word = if is_foreign command word then foreign_text number word else value_text command number word
 
 abbrev pub bad_text : List ℕ → List (List ℕ) → ℕ → List ℕ
 bad_text command words number = bad_word_text command number (slice_index_or words (number - 1) [])
@@ -296,6 +339,38 @@ lack_of command words =
     else (if bytes_eq command (codes "dump")
     then lack_if (gives (codes "--cycle") words || gives (codes "--time") words) (codes "`--cycle N` or `--time T` is missing: the moment of the dump")
     else None))
+
+-- ---- options that are given twice
+
+-- both options say the moment of a dump
+abbrev pub is_moment : List ℕ → Bool
+is_moment name = bytes_eq name (codes "--cycle") || bytes_eq name (codes "--time")
+
+-- earlier words say a moment
+abbrev pub gives_moment : List (List ℕ) → Bool
+gives_moment words = gives (codes "--cycle") words || gives (codes "--time") words
+
+-- an option with this name says what an option of these words says
+abbrev pub repeats : (name : List ℕ) → List (List ℕ) → Bool
+repeats name before = gives name before || (is_moment name && gives_moment before)
+
+-- a word gives an option that may stand once, and says what an option of the words before it says
+unfoldable pub is_again : List (List ℕ) → List ℕ → Bool
+is_again before word = is_dashed word && (not (bytes_eq (option_name word) (codes "--only")) && repeats (option_name word) before)
+
+-- the number of the first such word of these words from a place on; behind `--` there is none
+abbrev pub first_again : List (List ℕ) → ℕ → List (List ℕ) → Option ℕ
+first_again words at [] = None
+first_again words at (w ∷ ws) =
+    if bytes_eq w (codes "--") then None
+    else (if is_again (take at words) w then Some (at + 1) else first_again words (at + 1) ws)
+
+abbrev pub again_words : List ℕ → List ℕ
+again_words name = if is_moment name then codes ", says the moment a second time: `--cycle N` or `--time T` stands once" else codes ", is given a second time"
+
+-- what is said of such a word
+abbrev pub again_text : ℕ → List ℕ → List ℕ
+again_text number word = word_piece number word ++ again_words (option_name word)
 
 -- ---- the reason
 
@@ -326,8 +401,8 @@ places =
     ∷ range (codes "wave") [] 2 2
     ∷ range (codes "gtkw") [] 3 3
     ∷ range (codes "page") [] 2 2
-    ∷ range (codes "stimulus") [] 2 MANY
-    ∷ range (codes "check") [] 3 MANY
+    ∷ range (codes "stimulus") [] 2 (MAX_RUNS + 1)
+    ∷ range (codes "check") [] 3 (MAX_RUNS + 2)
     ∷ range (codes "dump") [] 2 2
     ∷ range (codes "signature") [] 2 2
     ∷ range (codes "unscan") [] 3 3
@@ -386,8 +461,16 @@ abbrev pub stand_of : List ℕ → List (List ℕ) → List ℕ
 stand_of command words =
     if is_misplaced command words then codes "`--length J` stands behind the files, and J is a word of its own" else stand_by command (given_of words)
 
+-- what is said by the first word that says what an earlier one does, where there is one
+abbrev pub once_text : List ℕ → List (List ℕ) → Option ℕ → List ℕ
+once_text command words None = stand_of command words
+once_text command words (Some number) = again_text number (slice_index_or words (number - 1) [])
+
+abbrev pub once_of : List ℕ → List (List ℕ) → List ℕ
+once_of command words = once_text command words (first_again words 1 (drop 1 words))
+
 abbrev pub number_text : List ℕ → List (List ℕ) → Option ℕ → List ℕ
-number_text command words None = stand_of command words
+number_text command words None = once_of command words
 number_text command words (Some number) = bad_text command words number
 
 abbrev pub reason_text : List ℕ → List (List ℕ) → Option (List ℕ) → List ℕ
@@ -404,11 +487,25 @@ reason_of words = reason_for (slice_index_or words 0 []) words
 
 -- ---- the note on words
 
+-- the options of the program `backspace`, none of which is one here; `--steps` is taken for a misspelt `--step`
+abbrev pub budgets : List (List ℕ)
+budgets = codes "--candidates" ∷ codes "--conflicts" ∷ []
+
+-- a word gives one of them
+abbrev pub is_budget : List ℕ → Bool
+is_budget word = list_any (λ o. bytes_eq o (option_name word)) budgets
+
+unfoldable pub budget_text : ℕ → List ℕ → List ℕ
+budget_text number word = word_piece number word ++ codes ", is an option of the program `backspace`"
+
+-- what is said of a word that begins as an option and is none
+abbrev pub wrong_text : ℕ → List ℕ → List ℕ
+wrong_text number word =
+    if is_budget word then budget_text number word else word_text number word (option_name word) (codes "option") options
+
 abbrev pub behind_text : List (List ℕ) → List ℕ → Option ℕ → List ℕ
 behind_text words line None = plain_text (reason_of words) ++ plain_text line
-behind_text words line (Some number) =
-    plain_text (word_text number (slice_index_or words (number - 1) []) (option_name (slice_index_or words (number - 1) [])) (codes "option") options)
-    ++ plain_text line
+behind_text words line (Some number) = plain_text (wrong_text number (slice_index_or words (number - 1) [])) ++ plain_text line
 
 -- the commands of the program `backspace` that are none here
 abbrev pub others : List (List ℕ)

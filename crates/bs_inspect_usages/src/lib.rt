@@ -2,10 +2,11 @@
 //! the notes on words that are no request.
 //!
 //! Of the notes: `usage` (how words stand, and wrong words), `reason` (an option that is missing, a number
-//! out of its bounds), `foreign` (an option of another command), `positions` (how many words by position
-//! there are). Used above: the text of each note, exactly (`specs/Usages`). A command: a line of `usages`,
-//! `owned` and `places` and of `USAGES`, `COMMANDS`, `OWNED` and `PLACES`; each option in `options` and
-//! `OPTIONS`; each number in `ranges` and `RANGES`.
+//! out of its bounds), `valued` (a value that is missing, or needless), `twice` (an option that is given
+//! twice), `foreign` (an option of another command), `positions` (how many words by position there are).
+//! Used above: the text of each note, exactly (`specs/Usages`). A command: a line of `usages`, `owned` and
+//! `places` and of `USAGES`, `COMMANDS`, `OWNED` and `PLACES`; each option in `options` and `OPTIONS`, and in
+//! `worded` or `bare` where its value is a word or it has none; each number in `ranges` and `RANGES`.
 //!
 //! Of the options: `given` (the words behind a command, parted by bs_top_words), `settings` (which options
 //! are given, and their values), `numbers` (the numbers that options take), `window` (which states of a
@@ -21,7 +22,9 @@ mod numbers;
 mod positions;
 mod reason;
 mod settings;
+mod twice;
 mod usage;
+mod valued;
 mod window;
 
 pub use given::given_words;

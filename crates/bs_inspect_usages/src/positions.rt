@@ -45,14 +45,14 @@ const PLACES: [((&str, &str), Bounds); 26] = [
         ("stimulus", ""),
         Bounds {
             least: 2,
-            most: MANY,
+            most: MAX_RUNS as u64 + 1,
         },
     ),
     (
         ("check", ""),
         Bounds {
             least: 3,
-            most: MANY,
+            most: MAX_RUNS as u64 + 2,
         },
     ),
     (("dump", ""), Bounds { least: 2, most: 2 }),

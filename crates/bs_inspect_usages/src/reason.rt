@@ -1,15 +1,18 @@
-//! Why the words behind a command do not stand as it takes them: an option is missing or is none of the command, or a number is none or
-//! out of its bounds.
+//! Why the words behind a command do not stand as it takes them: an option is missing, is none of the command or is given twice, or a
+//! value is missing, needless, or a number out of its bounds.
 ghost use Rattle.std.specs.Prelude.{◌≡◌, ◌<◌, ◌≤◌, ◌++◌, ◌&&◌, [], drop, length, map, option_map, slice_index_or, string_bytes, IfOk, IfSome, OnOk};
 ghost use Rattle.std.specs.List.{list_any};
 ghost use Rattle.std.specs.Str.{bytes_eq};
 ghost use Rattle.bs_bits.specs.Lines.{number_in};
-ghost use Rattle.bs_inspect_usages.specs.Usages.{bad_text, bad_word_text, bound_text, bounds_in, bounds_of, bounds_or, bounds_piece, first_bad, gives, is_bad, is_between, is_misplaced, is_outside, lack_if, lack_of, number_text, option_name, reason_for, reason_of, stand_of, value_of};
+ghost use Rattle.bs_inspect_usages.specs.Usages.{bad_text, bad_word_text, bound_text, bounds_in, bounds_of, bounds_or, bounds_piece, first_bad, gives, is_bad, is_between, is_ill, is_misplaced, is_outside, lack_if, lack_of, number_text, once_of, option_name, reason_for, reason_of, stand_of};
+ghost use Rattle.bs_inspect_usages.specs.Usages.{value_of, value_text};
 
 use crate::foreign::{foreign_sentence, is_foreign};
 use crate::numbers::{MAX_DEPTH, MAX_DRAWN, MAX_LINES};
 use crate::positions::placed_sentence;
+use crate::twice::{again_sentence, first_again};
 use crate::usage::option_name;
+use crate::valued::{has_needless, is_worded, lack_sentence, lacks_value, needless_sentence};
 use bs_bits::{NoMemory, push_number, push_piece, read_number};
 use bs_inspect_notes::push_word;
 use bs_net_names::first_split;
@@ -225,14 +228,24 @@ fn is_outside(command: &[u8], word: &[u8], next: &[u8]) -> bool
     }
 }
 
-/// Whether a word behind a command gives an option of another one, or an option another value than a number in its bounds.
+/// Whether a word behind a command gives its option no value that it takes.
+fn is_ill(command: &[u8], word: &[u8], next: &[u8]) -> bool
+    ensures { result ≡ is_ill command.now word.now next.now }
+{
+    let outside = is_outside(command, word, next);
+    let lacks = lacks_value(word, next);
+    let needless = has_needless(word);
+    outside || (lacks || needless)
+}
+
+/// Whether a word behind a command gives an option of another one, or no value that its option takes.
 #[tactic(auto, unfolding(crate::specs::Usages::is_bad))]
 fn is_bad(command: &[u8], word: &[u8], next: &[u8]) -> bool
     ensures { result ≡ is_bad command.now word.now next.now }
 {
     let foreign = is_foreign(command, word);
-    let outside = is_outside(command, word, next);
-    foreign || outside
+    let ill = is_ill(command, word, next);
+    foreign || ill
 }
 
 /// The number, from 1, of the first word behind a command that is bad.
@@ -302,15 +315,34 @@ fn outside_sentence(
     Ok(said)
 }
 
+/// What is said of a word with its number by its option's value.
+#[tactic(auto, using(crate::proofs::ReasonLemmas::lack_said, crate::proofs::ReasonLemmas::needless_said, crate::proofs::ReasonLemmas::outside_said))]
+fn value_sentence(
+    alloc: Global,
+    command: &[u8],
+    number: u64,
+    word: &[u8],
+) -> Result<Vec<u8>, NoMemory>
+    ensures { IfOk result (λ said. said.items ≡ value_text command.now number word.now) }
+{
+    if is_worded(word) {
+        return lack_sentence(alloc, number, word);
+    }
+    if has_needless(word) {
+        return needless_sentence(alloc, number, word);
+    }
+    outside_sentence(alloc, command, number, word)
+}
+
 /// What is said of a word with its number that is bad.
-#[tactic(auto, using(crate::proofs::ReasonLemmas::foreign_said, crate::proofs::ReasonLemmas::outside_said))]
+#[tactic(auto, using(crate::proofs::ReasonLemmas::foreign_said, crate::proofs::ReasonLemmas::value_said))]
 fn bad_word(alloc: Global, command: &[u8], number: u64, word: &[u8]) -> Result<Vec<u8>, NoMemory>
     ensures { IfOk result (λ said. said.items ≡ bad_word_text command.now number word.now) }
 {
     if is_foreign(command, word) {
         foreign_sentence(alloc, number, word)
     } else {
-        outside_sentence(alloc, command, number, word)
+        value_sentence(alloc, command, number, word)
     }
 }
 
@@ -342,7 +374,7 @@ fn any_gives(words: &[String], option: &[u8]) -> bool
 
 /// Whether some word gives an option with this name.
 #[tactic(auto, using(crate::proofs::ReasonLemmas::gives_by))]
-fn gives(words: &[String], option: &[u8]) -> bool
+pub fn gives(words: &[String], option: &[u8]) -> bool
     ensures { result ≡ gives option.now (map string_bytes words.now) }
 {
     any_gives(words, option)
@@ -417,13 +449,23 @@ fn stand_sentence(alloc: Global, command: &[u8], words: &[String]) -> Result<Vec
     }
 }
 
+/// What is said by the first word that says what an option before it says, where there is one.
+fn once_sentence(alloc: Global, command: &[u8], words: &[String]) -> Result<Vec<u8>, NoMemory>
+    ensures { IfOk result (λ said. said.items ≡ once_of command.now (map string_bytes words.now)) }
+{
+    match first_again(words) {
+        Some(number) => again_sentence(alloc, words, number),
+        None => stand_sentence(alloc, command, words),
+    }
+}
+
 /// What is said by the first word that is bad, where there is one.
 fn number_sentence(alloc: Global, command: &[u8], words: &[String]) -> Result<Vec<u8>, NoMemory>
     ensures { IfOk result (λ said. said.items ≡ number_text command.now (map string_bytes words.now) (first_bad command.now 2 (drop 1 (map string_bytes words.now)))) }
 {
     match first_bad(command, words) {
         Some(number) => bad_sentence(alloc, command, words, number),
-        None => stand_sentence(alloc, command, words),
+        None => once_sentence(alloc, command, words),
     }
 }
 

@@ -4,8 +4,8 @@ ghost use Rattle.std.specs.List.{flat_map, list_any};
 ghost use Rattle.std.specs.Str.{bytes_eq};
 ghost use Rattle.bs_bits.specs.Lines.{line};
 ghost use Rattle.bs_note_files.specs.Notes.{plain_text};
-ghost use Rattle.bs_inspect_usages.specs.Usages.{behind_text, command_text, commands, first_wrong, hint, is_dashed, is_others, is_wrong, line_among, line_in, option_name, options, others_hint, others_text, reason_of};
-ghost use Rattle.bs_inspect_usages.specs.Usages.{unknown_text, unread_text, usages, word_text, words_text};
+ghost use Rattle.bs_inspect_usages.specs.Usages.{behind_text, budget_text, command_text, commands, first_wrong, hint, is_budget, is_dashed, is_others, is_wrong, line_among, line_in, option_name, options, others_hint, others_text, reason_of};
+ghost use Rattle.bs_inspect_usages.specs.Usages.{unknown_text, unread_text, usages, word_text, words_text, wrong_text};
 
 use crate::reason::{reason_sentence, word_or};
 use bs_bits::{NoMemory, push_line, push_piece};
@@ -155,6 +155,9 @@ const COMMANDS: [&[u8]; 26] = [
     b"version",
 ];
 
+/// The options of the program `backspace`, none of which is one here. `--steps` is taken for a misspelt `--step`.
+const BUDGETS: [&[u8]; 2] = [b"--candidates", b"--conflicts"];
+
 /// The commands of the program `backspace` that are none here.
 const OTHERS: [&[u8]; 4] = [b"run", b"audit", b"reach", b"demo"];
 
@@ -257,18 +260,49 @@ fn word_sentence(
     Ok(said)
 }
 
+/// Whether a word gives an option of the program `backspace`.
+fn is_budget(word: &[u8]) -> bool
+    ensures { result ≡ is_budget word.now }
+{
+    is_one_of(option_name(word), &BUDGETS)
+}
+
+/// What is said of such a word with its number.
+#[tactic(auto, unfolding(crate::specs::Usages::budget_text))]
+fn budget_sentence(alloc: Global, number: u64, word: &[u8]) -> Result<Vec<u8>, NoMemory>
+    ensures { IfOk result (λ said. said.items ≡ budget_text number word.now) }
+{
+    let mut said = Vec::new(alloc);
+    push_word(&mut said, number, word)?;
+    push_piece(&mut said, b", is an option of the program `backspace`")?;
+    Ok(said)
+}
+
+/// What is said of a word with its number that begins as an option and is one of no program.
+fn misspelt_sentence(alloc: Global, number: u64, word: &[u8]) -> Result<Vec<u8>, NoMemory>
+    ensures { IfOk result (λ said. said.items ≡ word_text number word.now (option_name word.now) (codes "option") options) }
+{
+    let said = word_sentence(alloc, number, word, option_name(word), "option", &OPTIONS)?;
+    Ok(said)
+}
+
+/// What is said of a word with its number that begins as an option and is none.
+#[tactic(auto, using(crate::proofs::WordLemmas::budget_said, crate::proofs::WordLemmas::no_budget_said))]
+fn wrong_sentence(alloc: Global, number: u64, word: &[u8]) -> Result<Vec<u8>, NoMemory>
+    ensures { IfOk result (λ said. said.items ≡ wrong_text number word.now) }
+{
+    if is_budget(word) {
+        budget_sentence(alloc, number, word)
+    } else {
+        misspelt_sentence(alloc, number, word)
+    }
+}
+
 /// A note on a word that begins as an option and is none.
 fn option_note(alloc: Global, number: usize, word: &[u8], line: &str) -> Result<Vec<u8>, NoMemory>
-    ensures { IfOk result (λ note. note.items ≡ plain_text (word_text number word.now (option_name word.now) (codes "option") options) ++ plain_text line.now) }
+    ensures { IfOk result (λ note. note.items ≡ plain_text (wrong_text number word.now) ++ plain_text line.now) }
 {
-    let said = word_sentence(
-        alloc,
-        number as u64,
-        word,
-        option_name(word),
-        "option",
-        &OPTIONS,
-    )?;
+    let said = wrong_sentence(alloc, number as u64, word)?;
     pair_note(alloc, &said, line.as_bytes())
 }
 

@@ -13,7 +13,7 @@ use Rattle.bs_net.specs.Netlist.{circuit_of}
 use Rattle.bs_net.specs.Parts.{Parts, key_at}
 use Rattle.bs_vcd.specs.declared.cycles.MarkedStates.{MarkedStates}
 use Rattle.bs_inspect_report.specs.Keys.{flop_keys}
-use Rattle.bs_top_plan.specs.declared.diagnostic.WalkStop.{WalkStop}
+use Rattle.bs_outside.specs.declared.diagnostic.WalkStop.{WalkStop}
 use Rattle.bs_top_files.specs.Refusals.{with_reason}
 use Rattle.bs_inspect_names.specs.declared.fault.MapFault.{MapFault}
 use Rattle.bs_inspect_names.specs.Mapping.{Entry, entries_from, name_of, names_of}

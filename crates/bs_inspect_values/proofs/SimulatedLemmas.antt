@@ -4,10 +4,10 @@ use Rattle.std.specs.List.{list_any}
 use Rattle.bs_outside.specs.Calls.{FetchCall}
 use Rattle.bs_net_names.specs.Keys.{KeyParts, key_parts}
 use Rattle.bs_net_names.specs.Rtl.{same_name}
-use Rattle.bs_top_plan.specs.declared.diagnostic.WalkStop.{WalkStop}
-use Rattle.bs_top_plan.specs.Plan.{Tells, Counts, Plan}
-use Rattle.bs_top_plan.specs.Telling.{WalksDiagnosed}
-use Rattle.bs_top_plan.proofs.TellingLemmas.{diagnosed_stop, diagnosed_then}
+use Rattle.bs_outside.specs.declared.diagnostic.WalkStop.{WalkStop}
+use Rattle.bs_outside.specs.Plan.{Tells, Counts, Plan}
+use Rattle.bs_outside.specs.Telling.{WalksDiagnosed}
+use Rattle.bs_outside.proofs.TellingLemmas.{diagnosed_stop, diagnosed_then}
 use Rattle.bs_top_files.specs.NoteCases.{NoteCase, NoteSays}
 use Rattle.bs_top_files.specs.Refusals.{Case, CheckSays}
 use Rattle.bs_inspect_values.specs.SimulatedRun.{SimulatedRun, is_data}

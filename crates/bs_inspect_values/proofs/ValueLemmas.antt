@@ -12,7 +12,7 @@ use Rattle.bs_note_files.specs.Notes.{Saying, file_text}
 use Rattle.bs_inspect_notes.specs.declared.name.Subject.{Subject}
 use Rattle.bs_inspect_notes.specs.declared.name.Subject.TheVariants.{Inputs, Flops}
 use Rattle.bs_inspect_notes.specs.Simulations.{clock_text, cycles_text, input_text}
-use Rattle.bs_top_plan.specs.Plan.{Reason, exactly, Says}
+use Rattle.bs_outside.specs.Plan.{Reason, exactly, Says}
 use Rattle.bs_top_files.specs.NoteCases.{HasNote, IsNoteAtLine, NoteCase, NoteSays}
 use Rattle.bs_top_files.specs.Noting.{noted_by}
 use Rattle.bs_inspect_values.specs.Saying.{clock_said, declarations, declared_or, few_noted, foreign_or, input_said, lines_noted, states_noted, taken_in, vcd_note_reason}
@@ -23,9 +23,9 @@ use Rattle.bs_vcd.specs.declared.cycles.When.{When}
 use Rattle.bs_vcd.specs.declared.cycles.MarkedStates.{MarkedStates}
 use Rattle.bs_vcd.specs.declared.sampling.SampledLines.{SampledLines}
 use Rattle.bs_vcd.specs.Stimulus.{stimulus_in}
-use Rattle.bs_top_plan.specs.declared.walk.Refusal.{Refusal}
-use Rattle.bs_top_plan.specs.declared.walk.Refusal.TheVariants as Q
-use Rattle.bs_top_plan.specs.Walks.{Reads}
+use Rattle.bs_outside.specs.declared.walk.Refusal.{Refusal}
+use Rattle.bs_outside.specs.declared.walk.Refusal.TheVariants as Q
+use Rattle.bs_outside.specs.Walks.{Reads}
 use Rattle.bs_top_files.specs.Refusals.{Case, CheckSays, HasWords, with_reason}
 use Rattle.bs_inspect_values.specs.Words.{cycles_reason, cycles_words, vcd_reason, vcd_words}
 use Rattle.bs_inspect_values.specs.Dumped.{states_read}

@@ -3,18 +3,18 @@ use Rattle.std.proofs.Common.{◌≡◌, ℕ, List, [], Result, Ok, Err, refl, s
 use Rattle.std.specs.Result.{IfErr, IfOk, OnOk}
 use Rattle.std.specs.declared.alloc.Global.{Global}
 use Rattle.bs_outside.specs.Calls.{FetchCall}
-use Rattle.bs_top_plan.specs.declared.file.File.{File}
-use Rattle.bs_top_plan.specs.declared.walk.JobFault.TheVariants.{NoMemory}
-use Rattle.bs_top_plan.specs.declared.diagnostic.WalkStop.{WalkStop}
-use Rattle.bs_top_plan.specs.declared.diagnostic.WalkStop.TheVariants as K
-use Rattle.bs_top_plan.specs.declared.diagnostic.Unread.{Unread}
-use Rattle.bs_top_plan.specs.declared.diagnostic.Unread.TheVariants as U
-use Rattle.bs_top_plan.specs.Plan.{Tells, Counts, Plan, Reason, ◌>>=◌, end, fetched, read_as}
-use Rattle.bs_top_plan.specs.Telling.{WalksDiagnosed}
-use Rattle.bs_top_plan.specs.Diagnostic.{note_refusal, settled_diagnostic, word_refusal}
-use Rattle.bs_top_plan.specs.Walks.{FetchedTo, Reads}
-use Rattle.bs_top_plan.proofs.AskingLemmas.{along_none}
-use Rattle.bs_top_plan.proofs.TellingLemmas.{diagnosed_end, diagnosed_fetched, diagnosed_read, diagnosed_stop, diagnosed_then}
+use Rattle.bs_outside.specs.declared.file.File.{File}
+use Rattle.bs_outside.specs.declared.walk.JobFault.TheVariants.{NoMemory}
+use Rattle.bs_outside.specs.declared.diagnostic.WalkStop.{WalkStop}
+use Rattle.bs_outside.specs.declared.diagnostic.WalkStop.TheVariants as K
+use Rattle.bs_outside.specs.declared.diagnostic.Unread.{Unread}
+use Rattle.bs_outside.specs.declared.diagnostic.Unread.TheVariants as U
+use Rattle.bs_outside.specs.Plan.{Tells, Counts, Plan, Reason, ◌>>=◌, end, fetched, read_as}
+use Rattle.bs_outside.specs.Telling.{WalksDiagnosed}
+use Rattle.bs_outside.specs.Diagnostic.{note_refusal, settled_diagnostic, word_refusal}
+use Rattle.bs_outside.specs.Walks.{FetchedTo, Reads}
+use Rattle.bs_outside.proofs.AskingLemmas.{along_none}
+use Rattle.bs_outside.proofs.TellingLemmas.{diagnosed_end, diagnosed_fetched, diagnosed_read, diagnosed_stop, diagnosed_then}
 
 -- memory ran out before anything was asked for
 pub diagnosed_want : {S R Q V W U : Type 0} {says : R → List ℕ → Type 0} {notes : Q → List ℕ → Type 0} {held : S → Tells} {faults : S → Counts}

@@ -7,8 +7,8 @@ use Rattle.bs_inspect_notes.specs.declared.name.Subject.TheVariants.{Flops}
 use Rattle.bs_inspect_report.specs.Keys.{flop_keys}
 use Rattle.bs_vcd.specs.declared.cycles.When.{When}
 use Rattle.bs_vcd.specs.declared.cycles.MarkedStates.{MarkedStates}
-use Rattle.bs_top_plan.specs.declared.file.File.TheVariants as files
-use Rattle.bs_top_plan.specs.Plan.{Reason, Plan, ◌>>=◌, end, fetched, read_as}
+use Rattle.bs_outside.specs.declared.file.File.TheVariants as files
+use Rattle.bs_outside.specs.Plan.{Reason, Plan, ◌>>=◌, end, fetched, read_as}
 use Rattle.bs_top_files.specs.Entry.{netlist_of, signature_of}
 use Rattle.bs_top_files.specs.Looking.{netlist_looked, signature_looked}
 use Rattle.bs_top_files.specs.NoteCases.{NoteCase}

@@ -21,7 +21,7 @@ use Rattle.bs_inspect_notes.specs.declared.name.Subject.{Subject}
 use Rattle.bs_inspect_notes.specs.declared.name.Subject.TheVariants.{Inputs, Flops}
 use Rattle.bs_inspect_notes.specs.Names as N
 use Rattle.bs_inspect_notes.specs.Simulations as S
-use Rattle.bs_top_plan.specs.Plan.{Reason, exactly, any_of}
+use Rattle.bs_outside.specs.Plan.{Reason, exactly, any_of}
 use Rattle.bs_top_files.specs.NoteCases.{NoteCase, at_line}
 use Rattle.bs_top_files.specs.Noting.{noted_by}
 use Rattle.bs_inspect_names.specs.declared.fault.MapFault.{MapFault}
@@ -110,9 +110,9 @@ lines_noted path keys names scope clock text =
     few_noted path (noted_by (vcd_note_reason Inputs path text keys names scope clock) (stimulus_in text scope clock names))
 
 abbrev pub whole_states : List (List Bool) → MarkedStates
-whole_states states = record { states = states; marks = [] }
+whole_states states = record { states = states; marks = []; lacks = 0 }
 
--- the states of a cycle and of so many before it: each bit is known, or those that are not are marked in the last
+-- the states of a cycle and of so many before it: each bit is known, or those that are not, and those of no variable, are marked in the last
 abbrev pub taken_in : (partial : Bool) → List ℕ → Option (List ℕ) → List ℕ → List (List ℕ) → When → ℕ → Result MarkedStates VcdFault
 taken_in true text scope clock names at back = marked_in text scope clock names at back
 taken_in false text scope clock names at back = states_in text scope clock names at back >>= λ states. Ok (whole_states states)

@@ -8,8 +8,8 @@ use Rattle.bs_inspect_notes.specs.declared.name.Subject.TheVariants.{Inputs}
 use Rattle.bs_inspect_report.specs.Keys.{input_keys}
 use Rattle.bs_vcd.specs.declared.sampling.SampledLines.{SampledLines}
 use Rattle.bs_vcd.specs.Stimulus.{stimulus_in}
-use Rattle.bs_top_plan.specs.declared.file.File.TheVariants as files
-use Rattle.bs_top_plan.specs.Plan.{Reason, Plan, ◌>>=◌, end, fetched, read_as}
+use Rattle.bs_outside.specs.declared.file.File.TheVariants as files
+use Rattle.bs_outside.specs.Plan.{Reason, Plan, ◌>>=◌, end, fetched, read_as}
 use Rattle.bs_top_files.specs.Entry.{netlist_of}
 use Rattle.bs_top_files.specs.Looking.{netlist_looked}
 use Rattle.bs_top_files.specs.NoteCases.{NoteCase}

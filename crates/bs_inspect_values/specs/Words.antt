@@ -5,7 +5,7 @@ use Rattle.bs_inspect_names.specs.declared.fault.MapFault.{MapFault}
 use Rattle.bs_inspect_names.specs.declared.fault.MapFault.TheVariants as names
 use Rattle.bs_vcd_header.specs.declared.fault.VcdFault.{VcdFault}
 use Rattle.bs_vcd_header.specs.declared.fault.VcdFault.TheVariants as vcd
-use Rattle.bs_top_plan.specs.Plan.{Reason, exactly}
+use Rattle.bs_outside.specs.Plan.{Reason, exactly}
 use Rattle.bs_top_files.specs.Refusals.{Case}
 
 -- a file of names; a line counts from 1

@@ -2,8 +2,8 @@
 ghost use Rattle.std.specs.Prelude.{◌≡◌, ◌≤◌, ◌<◌, length, map, option_map, All, None, Some, IfOk};
 ghost use Rattle.bs_net.specs.Netlist.{circuit};
 ghost use Rattle.bs_scan.specs.Choice.{depth_of};
-ghost use Rattle.bs_top_plan.specs.declared.limits.TheConstants.{MAX_MAP_BYTES};
-ghost use Rattle.bs_top_plan.specs.Telling.{WalksDiagnosed};
+ghost use Rattle.bs_outside.specs.declared.limits.TheConstants.{MAX_MAP_BYTES};
+ghost use Rattle.bs_outside.specs.Telling.{WalksDiagnosed};
 ghost use Rattle.bs_top_files.specs.NoteCases.{NoteSays};
 ghost use Rattle.bs_top_files.specs.Refusals.{CheckSays};
 ghost use Rattle.bs_inspect_report.specs.Keys.{flop_keys};
@@ -18,10 +18,9 @@ use bs_bits::List;
 use bs_inspect_names::slices_of;
 use bs_inspect_notes::Subject;
 use bs_net::{NetId, Netlist};
-use bs_outside::Shelf;
+use bs_outside::{File, JobFault, Shelf, WalkStop, fetch_file, settle_diagnostic};
 use bs_scan::Choice;
 use bs_top_files::{load_netlist, load_signature};
-use bs_top_plan::{File, JobFault, WalkStop, fetch_file, settle_diagnostic};
 use bs_vcd::{MarkedStates, When};
 use std::alloc::Global;
 

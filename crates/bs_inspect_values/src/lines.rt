@@ -1,12 +1,12 @@
 //! A note on a line of a file.
 ghost use Rattle.std.specs.Prelude.{◌≡◌, ◌≤◌, length, max, IfOk};
 ghost use Rattle.bs_note_files.specs.Notes.{said};
-ghost use Rattle.bs_note_places.specs.Spots.{IsLineStart};
+ghost use Rattle.bs_net_names.specs.Spots.{IsLineStart};
 ghost use Rattle.bs_top_files.specs.NoteCases.{IsNoteAtLine};
 
 use bs_bits::NoMemory;
+use bs_net_names::line_start;
 use bs_note_files::{FilePlace, Message, placed_note};
-use bs_note_places::line_start;
 use std::alloc::Global;
 
 /// The place at which the line with a number begins, from 1; the text's length where there is no such line.

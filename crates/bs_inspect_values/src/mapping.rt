@@ -2,10 +2,10 @@
 ghost use Rattle.std.specs.Prelude.{◌≡◌, ◌==◌, map, IfOk};
 ghost use Rattle.std.specs.List.{list_any};
 ghost use Rattle.bs_note_files.specs.Notes.{said};
-ghost use Rattle.bs_top_plan.specs.declared.walk.Refusal.TheVariants.{NoMemory as Want};
-ghost use Rattle.bs_top_plan.specs.Plan.{Says};
-ghost use Rattle.bs_top_plan.specs.Diagnostic.{note_refusal, noted, word_refusal, worded};
-ghost use Rattle.bs_top_plan.specs.Walks.{Reads};
+ghost use Rattle.bs_outside.specs.declared.walk.Refusal.TheVariants.{NoMemory as Want};
+ghost use Rattle.bs_outside.specs.Plan.{Says};
+ghost use Rattle.bs_outside.specs.Diagnostic.{note_refusal, noted, word_refusal, worded};
+ghost use Rattle.bs_outside.specs.Walks.{Reads};
 ghost use Rattle.bs_top_files.specs.NoteCases.{HasNote, IsNoteAtLine, NoteSays};
 ghost use Rattle.bs_top_files.specs.Refusals.{CheckSays, HasWords};
 ghost use Rattle.bs_inspect_notes.specs.Names.{key_saying, numbered, twice_saying};
@@ -22,7 +22,7 @@ use bs_inspect_notes::{
     Subject, first_word, form_saying, key_sentence, keys_label, numbered, twice_saying,
 };
 use bs_note_files::Message;
-use bs_top_plan::{Unread, both};
+use bs_outside::{Unread, both};
 use std::alloc::Global;
 
 /// Whether a line has a carriage return.

@@ -3,10 +3,10 @@ ghost use Rattle.std.specs.Prelude.{◌≡◌, ◌≤◌, ◌++◌, ◌∷◌, [
 ghost use Rattle.std.specs.List.{list_any};
 ghost use Rattle.bs_net_names.specs.Keys.{key_parts, parts_in};
 ghost use Rattle.bs_net_names.specs.Rtl.{same_name};
-ghost use Rattle.bs_top_plan.specs.declared.limits.TheConstants.{MAX_MAP_BYTES};
-ghost use Rattle.bs_top_plan.specs.declared.diagnostic.WalkStop.TheVariants.{Plain};
-ghost use Rattle.bs_top_plan.specs.declared.walk.JobFault.TheVariants.{NoMemory as NoRoom};
-ghost use Rattle.bs_top_plan.specs.Telling.{WalksDiagnosed};
+ghost use Rattle.bs_outside.specs.declared.limits.TheConstants.{MAX_MAP_BYTES};
+ghost use Rattle.bs_outside.specs.declared.diagnostic.WalkStop.TheVariants.{Plain};
+ghost use Rattle.bs_outside.specs.declared.walk.JobFault.TheVariants.{NoMemory as NoRoom};
+ghost use Rattle.bs_outside.specs.Telling.{WalksDiagnosed};
 ghost use Rattle.bs_top_files.specs.NoteCases.{NoteSays};
 ghost use Rattle.bs_top_files.specs.Refusals.{CheckSays};
 ghost use Rattle.bs_inspect_report.specs.Keys.{input_keys};
@@ -23,9 +23,8 @@ use bs_inspect_names::slices_of;
 use bs_inspect_notes::Subject;
 use bs_net::Netlist;
 use bs_net_names::{KeyParts, key_parts, same_name};
-use bs_outside::Shelf;
+use bs_outside::{File, JobFault, Shelf, WalkStop, fetch_file, settle_diagnostic};
 use bs_top_files::load_netlist;
-use bs_top_plan::{File, JobFault, WalkStop, fetch_file, settle_diagnostic};
 use bs_vcd::SampledLines;
 use std::alloc::Global;
 

@@ -6,11 +6,11 @@ ghost use Rattle.bs_vcd_header.specs.Header.{declared_in};
 ghost use Rattle.bs_vcd.specs.Stimulus.{stimulus_in};
 ghost use Rattle.bs_inspect_notes.specs.Simulations.{cycles_text, off_saying, unknown_text, word_saying};
 ghost use Rattle.bs_note_files.specs.Notes.{said};
-ghost use Rattle.bs_top_plan.specs.declared.limits.TheConstants.{MAX_VCD_BYTES};
-ghost use Rattle.bs_top_plan.specs.declared.walk.Refusal.TheVariants.{NoMemory as Want};
-ghost use Rattle.bs_top_plan.specs.Plan.{exactly, Says};
-ghost use Rattle.bs_top_plan.specs.Diagnostic.{note_refusal, noted, word_refusal, worded};
-ghost use Rattle.bs_top_plan.specs.Walks.{Reads};
+ghost use Rattle.bs_outside.specs.declared.limits.TheConstants.{MAX_VCD_BYTES};
+ghost use Rattle.bs_outside.specs.declared.walk.Refusal.TheVariants.{NoMemory as Want};
+ghost use Rattle.bs_outside.specs.Plan.{exactly, Says};
+ghost use Rattle.bs_outside.specs.Diagnostic.{note_refusal, noted, word_refusal, worded};
+ghost use Rattle.bs_outside.specs.Walks.{Reads};
 ghost use Rattle.bs_top_files.specs.NoteCases.{HasNote, IsNoteAtLine, NoteSays};
 ghost use Rattle.bs_top_files.specs.Refusals.{CheckSays, HasWords};
 ghost use Rattle.bs_inspect_values.specs.Saying.{clock_said, declarations, fault_reason, few_noted, input_said, lines_noted, states_noted, taken_in, vcd_note_reason, whole_states};
@@ -28,8 +28,8 @@ use bs_inspect_notes::{
 };
 use bs_net_names::key_parts;
 use bs_note_files::{Message, file_note};
+use bs_outside::{Unread, both};
 use bs_stim::MAX_CYCLES;
-use bs_top_plan::{Unread, both};
 use bs_vcd::{MarkedStates, SampledLines, When, marked_states, states, stimulus};
 use bs_vcd_header::{HeaderDeclarations, VcdFault, declared, names_of, scope_of, scopes_of};
 use std::alloc::Global;
@@ -329,6 +329,7 @@ fn whole_states(alloc: Global, states: List<Bits>) -> MarkedStates
     MarkedStates {
         states,
         marks: Bits::new(alloc),
+        lacks: 0,
     }
 }
 

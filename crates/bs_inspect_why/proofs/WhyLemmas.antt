@@ -12,10 +12,10 @@ use Rattle.bs_net_facts.specs.declared.fact.Fact.{Fact}
 use Rattle.bs_net_facts.specs.Facts.{IsReal, IsWayOf}
 use Rattle.bs_net_facts.specs.Seen.{Seen}
 use Rattle.bs_report.specs.declared.report.Report.{Report}
-use Rattle.bs_inspect_causes.specs.Accounts.{Explain, IsBreak, LeadsOn, has_net}
+use Rattle.bs_inspect_causes.specs.Accounts.{Explain, LeadsOn, has_net}
 use Rattle.bs_inspect_causes.specs.declared.account.Account.{Account}
 use Rattle.bs_inspect_why.specs.declared.denial.Denial.{Denial}
-use Rattle.bs_inspect_why.specs.declared.denial.Denial.TheVariants.{Input, Trace, Open}
+use Rattle.bs_inspect_why.specs.declared.denial.Denial.TheVariants.{Input, Open}
 use Rattle.bs_inspect_why.specs.declared.denial.Why.{Why}
 use Rattle.bs_inspect_why.specs.declared.denial.Why.TheVariants.{Text, Denied}
 use Rattle.bs_inspect_why.specs.Question.{AreAsked, Question, asked_nets, moment_in}
@@ -111,10 +111,6 @@ pub text_answers : (net : Checked) (r : Report) (q : Question) (nets : List NetI
     IfOk result (AnswersOn net r q nets at) → IfOk result (Answers net.raw r q)
 text_answers net r q nets at result moment there are h =
     IfOk-weaker result (AnswersOn net r q nets at) (Answers net.raw r q) (λ why told. answers_by net r q nets at why moment there are told) h
-
-pub break_answers : (net : Checked) (r : Report) (q : Question) (t : ℕ) → IsBreak (circuit net) r.states r.inputs t →
-    Answers net.raw r q (Denied (Trace t))
-break_answers net r q t is = is
 
 -- the bits at a moment are open
 pub open_told : (inputs : List (List Bool)) (at : ℕ) → length inputs ≤ at → (Open ≡ Open) × (length inputs ≤ at)

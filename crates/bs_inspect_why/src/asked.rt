@@ -27,21 +27,39 @@ fn named<'a>(alloc: Global, net: &'a Netlist, name: &str) -> Result<Vec<Member<'
 fn has_net(nets: &[NetId], net: NetId) -> bool
     ensures { result ≡ has_net nets.now net }
 {
-    nets.iter().any(|other| other.0 == net.0)
+    'nets: for other in nets {
+        let same = other.0 == net.0;
+        if same {
+            return true;
+        }
+    }
+    false
 }
 
 /// Whether a flip-flop drives a net.
 fn flop_drives(flops: &[Flop], net: NetId) -> bool
     ensures { result ≡ list_any (λ f. f.q.0 == net.0) flops.now }
 {
-    flops.iter().any(|flop| flop.q.0 == net.0)
+    'flops: for flop in flops {
+        let same = flop.q.0 == net.0;
+        if same {
+            return true;
+        }
+    }
+    false
 }
 
 /// Whether a constant drives a net.
 fn constant_drives(constants: &[Const], net: NetId) -> bool
     ensures { result ≡ list_any (λ k. k.net.0 == net.0) constants.now }
 {
-    constants.iter().any(|constant| constant.net.0 == net.0)
+    'constants: for constant in constants {
+        let same = constant.net.0 == net.0;
+        if same {
+            return true;
+        }
+    }
+    false
 }
 
 /// Whether a gate drives a net.

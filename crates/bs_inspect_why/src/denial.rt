@@ -2,7 +2,7 @@
 ghost use Rattle.std.specs.Prelude.{◌≡◌, ◌++◌, IfOk, OnOk};
 ghost use Rattle.bs_inspect_why.specs.Denials.{denial_text, denial_words};
 
-use bs_bits::{NoMemory, end_line, push_number, push_piece};
+use bs_bits::{NoMemory, end_line, push_piece};
 use std::alloc::Global;
 
 /// Why there is no account of what is asked.
@@ -12,8 +12,6 @@ pub enum Denial {
     Moment,
     /// The name is that of data inputs and of nets without a driver alone, which nothing forces.
     Input,
-    /// The state with this number does not lead to the next one.
-    Trace(usize),
     /// At the last moment, which has no input, a bit is open.
     Open,
 }
@@ -32,10 +30,6 @@ fn push_words(text: &mut Vec<u8>, denial: Denial) -> Result<(), NoMemory>
     match denial {
         Denial::Moment => push_piece(text, b"moment"),
         Denial::Input => push_piece(text, b"input"),
-        Denial::Trace(number) => {
-            push_piece(text, b"trace ")?;
-            push_number(text, number as u64)
-        }
         Denial::Open => push_piece(text, b"open"),
     }
 }

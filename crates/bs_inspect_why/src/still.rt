@@ -127,7 +127,12 @@ fn covers(fact: Fact, still: Fact) -> bool
 fn is_covered(stills: &[Fact], fact: Fact) -> bool
     ensures { result ≡ is_covered stills.now fact }
 {
-    stills.iter().any(|still| covers(fact, *still))
+    'stills: for still in stills {
+        if covers(fact, *still) {
+            return true;
+        }
+    }
+    false
 }
 
 /// Puts a fact at the end where it is wanted.
@@ -156,12 +161,13 @@ pub(crate) fn shown(alloc: Global, stills: &[Fact], facts: &[Fact]) -> Result<Li
 fn is_given_in(still: Fact, account: &Account) -> bool
     ensures { result ≡ is_given_in still account.now }
 {
-    account
-        .block
-        .given
-        .slice()
-        .iter()
-        .any(|fact| covers(*fact, still))
+    let given = account.block.given.slice();
+    'given: for fact in given {
+        if covers(*fact, still) {
+            return true;
+        }
+    }
+    false
 }
 
 /// Whether a fact that stands still stands for a given fact of some account.

@@ -12,7 +12,7 @@ use crate::question::{Asked, Question};
 use crate::setting::{groups, stops};
 use crate::telling::accounts_text;
 use bs_bits::{List, NoMemory};
-use bs_inspect_causes::{Account, accounts_of, first_break};
+use bs_inspect_causes::{Account, accounts_of};
 use bs_inspect_holds::Scene;
 use bs_net::Netlist;
 use bs_net_facts::{Fact, Moments};
@@ -135,10 +135,11 @@ fn answer_on(net: &Netlist, asked: &Asked<'_>) -> Result<Why, NoMemory>
     Ok(why)
 }
 
-/// The answer of a report's trace, if there are nets and it leads on.
-#[tactic(auto, using(crate::proofs::WhyLemmas::none_asked, crate::proofs::WhyLemmas::some_asked, crate::proofs::WhyLemmas::text_answers, crate::proofs::WhyLemmas::break_answers))]
+/// The answer of a report's trace, if there are nets.
+#[tactic(auto, using(crate::proofs::WhyLemmas::none_asked, crate::proofs::WhyLemmas::some_asked, crate::proofs::WhyLemmas::text_answers))]
 fn answer_of(net: &Netlist, asked: &Asked<'_>) -> Result<Why, NoMemory>
     requires way { IsWayOf (circuit net.now) asked.now.report.now.states asked.now.report.now.inputs }
+    requires leads { LeadsOn (circuit net.now) asked.now.report.now.states asked.now.report.now.inputs }
     requires at { asked.now.at ≡ moment_in (length asked.now.report.now.states) asked.now.question.now.at }
     requires there { asked.now.at < length asked.now.report.now.states }
     requires nets { asked.now.nets.now ≡ nets_asked net.now.raw asked.now.question.now.name.now }
@@ -150,11 +151,7 @@ fn answer_of(net: &Netlist, asked: &Asked<'_>) -> Result<Why, NoMemory>
     if asked.nets.is_empty() {
         return Ok(Why::Denied(Denial::Input));
     }
-    let report = asked.report;
-    match first_break(asked.alloc, net, &report.states, &report.inputs)? {
-        Some(number) => Ok(Why::Denied(Denial::Trace(number))),
-        None => answer_on(net, asked),
-    }
+    answer_on(net, asked)
 }
 
 /// The moment that is asked for, if it is one of the trace's. More than can be numbered are answered as out of memory.
@@ -187,6 +184,7 @@ fn answer_then(
     at: u32,
 ) -> Result<Why, NoMemory>
     requires way { IsWayOf (circuit net.now) report.now.states report.now.inputs }
+    requires leads { LeadsOn (circuit net.now) report.now.states report.now.inputs }
     requires at { at ≡ moment_in (length report.now.states) question.now.at }
     requires there { at < length report.now.states }
     requires some_layer { 1 ≤ question.now.depth }
@@ -204,9 +202,9 @@ fn answer_then(
     Ok(why)
 }
 
-/// What forces the bits of a name at a moment of a report's trace: accounts, layer by layer back to the cause, as a text or as a table; or
-/// why there is none. It takes one pass over the gates for each moment and a byte for each net and moment, and each account a few passes
-/// over the gates below its bits.
+/// What forces the bits of a name at a moment of the trace of a report that fits: accounts, layer by layer back to the cause, as a text
+/// or as a table; or why there is none. It takes one pass over the gates for each moment and a byte for each net and moment, and each
+/// account a few passes over the gates below its bits.
 #[tactic(auto, using(crate::proofs::WhyLemmas::some_states, crate::proofs::WhyLemmas::moment_at, crate::proofs::WhyLemmas::moment_there))]
 pub fn why_text(
     alloc: Global,
@@ -215,6 +213,7 @@ pub fn why_text(
     question: &Question<'_>,
 ) -> Result<Why, NoMemory>
     requires way { IsWayOf (circuit net.now) report.now.states report.now.inputs }
+    requires leads { LeadsOn (circuit net.now) report.now.states report.now.inputs }
     requires some_layer { 1 ≤ question.now.depth }
     ensures { IfOk result (Answers net.now.raw report.now (question_in question.now)) }
 {

@@ -27,8 +27,8 @@ use Rattle.bs_net.proofs.NetlistLemmas.{run-append}
 use Rattle.bs_net.proofs.LawLemmas.{gates_move}
 use Rattle.bs_net.proofs.NextLemmas.{next_from_fits}
 use Rattle.bs_stim.specs.Packing.{bit_in}
-use Rattle.bs_lanes_planes.specs.Planes.{bit_place, lane, IsWidened}
-use Rattle.bs_lanes_planes.proofs.PlaneLemmas.{bit_from, lane_at, lane_zeros, length_lane}
+use Rattle.bs_lanes.specs.Planes.{bit_place, lane, IsWidened}
+use Rattle.bs_lanes.proofs.PlaneLemmas.{bit_from, lane_at, lane_zeros, length_lane}
 use Rattle.bs_lanes.specs.declared.layout.Layout.{Layout}
 use Rattle.bs_lanes.specs.Layout.{place_of, placed_net, placed_gate, placed_const, placed_mode, placed_flop, unplaced, words_by_net, layout_steps}
 use Rattle.bs_lanes.specs.Layout.{AreInside, IsPlacing, IsLayout, IsGateOf, SettlesAll, HasLayout}

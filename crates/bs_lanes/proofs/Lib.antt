@@ -4,3 +4,4 @@ pub mod PairLemmas
 pub mod ProgramLemmas
 pub mod SettlingLemmas
 pub mod LoadLemmas
+pub mod PlaneLemmas

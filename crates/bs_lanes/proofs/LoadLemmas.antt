@@ -11,8 +11,8 @@ use Rattle.bs_net.specs.declared.net.Mode.TheVariants.{Plain, Enable, Clear}
 use Rattle.bs_net.specs.Circuit.{bit_at, mode_loads}
 use Rattle.bs_net.specs.Parts.{mode_nets}
 use Rattle.bs_stim.specs.Packing.{bit_in}
-use Rattle.bs_lanes_planes.specs.Planes.{lane, IsPlane}
-use Rattle.bs_lanes_planes.proofs.PlaneLemmas.{lane_at, and_is_plane, or_is_plane, same_plane}
+use Rattle.bs_lanes.specs.Planes.{lane, IsPlane}
+use Rattle.bs_lanes.proofs.PlaneLemmas.{lane_at, and_is_plane, or_is_plane, same_plane}
 use Rattle.bs_lanes.specs.Settling.{net_bit, HasPlane, HasFlop, lane_loads}
 
 -- ---- planes of a choice and of a clear

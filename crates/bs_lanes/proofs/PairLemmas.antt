@@ -15,8 +15,8 @@ use Rattle.bs_net.specs.Gate.{gate_value}
 use Rattle.bs_net.specs.Gate.{takes}
 use Rattle.bs_net.specs.Steps.{Step, gate_write, run}
 use Rattle.bs_stim.specs.Packing.{bit_in}
-use Rattle.bs_lanes_planes.specs.Planes.{IsPlane, bit_place, lane}
-use Rattle.bs_lanes_planes.proofs.PlaneLemmas.{and_is_plane, xor_is_plane, lane_at}
+use Rattle.bs_lanes.specs.Planes.{IsPlane, bit_place, lane}
+use Rattle.bs_lanes.proofs.PlaneLemmas.{and_is_plane, xor_is_plane, lane_at}
 use Rattle.bs_lanes.specs.declared.pairs.Pair.{Pair}
 use Rattle.bs_lanes.specs.declared.pairs.Table.{Table}
 use Rattle.bs_lanes.specs.Settling.{HasPlane, RunsTo, RunsAll}

@@ -9,7 +9,7 @@ use Rattle.bs_net.specs.declared.gate.Kind.{Kind}
 use Rattle.bs_net.specs.Steps.{Step, run, gate_write}
 use Rattle.bs_net.proofs.NetlistLemmas.{run-append}
 use Rattle.bs_net.specs.Order.{no_gate, gates_in}
-use Rattle.bs_lanes_planes.specs.Planes.{lane}
+use Rattle.bs_lanes.specs.Planes.{lane}
 use Rattle.bs_lanes.specs.declared.pairs.Pair.{Pair}
 use Rattle.bs_lanes.specs.declared.program.Stretch.{Stretch}
 use Rattle.bs_lanes.specs.declared.program.Stretch.TheVariants.{Pairs, Others}

@@ -26,8 +26,8 @@ use Rattle.bs_net.specs.Circuit.{shown}
 use Rattle.bs_net.specs.Gate.{is_odd, is_one, gate_value}
 use Rattle.bs_net.specs.Steps.{Step, run, put, puts, gate_write, constant_step}
 use Rattle.bs_stim.specs.Packing.{bit_in}
-use Rattle.bs_lanes_planes.specs.Planes.{bit_place, lane, IsPlane}
-use Rattle.bs_lanes_planes.proofs.PlaneLemmas.{lane_put, lane_at, length_lane, and_is_plane, or_is_plane, xor_is_plane, inverse_is_plane, same_plane}
+use Rattle.bs_lanes.specs.Planes.{bit_place, lane, IsPlane}
+use Rattle.bs_lanes.proofs.PlaneLemmas.{lane_put, lane_at, length_lane, and_is_plane, or_is_plane, xor_is_plane, inverse_is_plane, same_plane}
 use Rattle.bs_lanes.specs.Settling.{net_bit, HasPlane, RunsTo, lane_loads}
 
 -- ---- where planes lie

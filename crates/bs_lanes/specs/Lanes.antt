@@ -2,7 +2,7 @@
 use Rattle.std.specs.Prelude.{◌≡◌, ℕ, ◌<◌, ◌*◌, ◌==◌, Bool, false, ◌||◌, List, length, replicate, IsTrue}
 use Rattle.bs_net.specs.Circuit.{Fits, IsZeroed, next, reset_state}
 use Rattle.bs_net.specs.Netlist.{Checked, circuit}
-use Rattle.bs_lanes_planes.specs.Planes.{lane}
+use Rattle.bs_lanes.specs.Planes.{lane}
 
 -- a netlist, how many words a plane has, the planes of the flip-flops, and the planes of the nets, each plane one behind another
 pub record LaneTable : Type 0 where

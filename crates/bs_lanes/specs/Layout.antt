@@ -12,7 +12,7 @@ use Rattle.bs_net.specs.Order.{gates_in, IsChecked, IsOrder}
 use Rattle.bs_net.specs.Parts.{ArePlaced, IsFlopPlaced}
 use Rattle.bs_net.specs.Gate.{takes}
 use Rattle.bs_net.specs.Steps.{Step, puts, constant_step, gate_write}
-use Rattle.bs_lanes_planes.specs.Planes.{lane}
+use Rattle.bs_lanes.specs.Planes.{lane}
 use Rattle.bs_lanes.specs.Settling.{HasPlane, HasFlop, RunsAll}
 use Rattle.bs_lanes.specs.Program.{program_gates, HasGate}
 use Rattle.bs_lanes.specs.declared.layout.Layout.{Layout}

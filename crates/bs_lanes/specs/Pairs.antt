@@ -5,7 +5,7 @@ use Rattle.bs_net.specs.declared.gate.Kind.{Kind}
 use Rattle.bs_net.specs.Gate.{gate_value}
 use Rattle.bs_lanes.specs.declared.pairs.Table.{Table}
 use Rattle.bs_stim.specs.Packing.{bit_in}
-use Rattle.bs_lanes_planes.specs.Planes.{IsPlane}
+use Rattle.bs_lanes.specs.Planes.{IsPlane}
 
 -- one bit or the other, and not both
 abbrev pub differ : Bool → Bool → Bool

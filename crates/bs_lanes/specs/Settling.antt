@@ -6,7 +6,7 @@ use Rattle.bs_net.specs.Circuit.{loaded}
 use Rattle.bs_net.specs.Parts.{mode_nets}
 use Rattle.bs_net.specs.Steps.{Step, run}
 use Rattle.bs_stim.specs.Packing.{bit_in}
-use Rattle.bs_lanes_planes.specs.Planes.{bit_place, lane}
+use Rattle.bs_lanes.specs.Planes.{bit_place, lane}
 
 -- the bit of a net in a lane
 abbrev pub net_bit : ℕ → List ℕ → ℕ → NetId → Bool

@@ -3,10 +3,10 @@ ghost use Rattle.std.specs.Prelude.{◌≡◌, ◌≤◌, ◌+◌, ◌*◌, not,
 ghost use Rattle.std.specs.List.{list_all, list_any};
 ghost use Rattle.bs_net.specs.Gate.{gate_value, is_odd};
 ghost use Rattle.bs_net.specs.Gate.{takes};
-ghost use Rattle.bs_lanes_planes.specs.Planes.{IsPlane};
+ghost use Rattle.bs_lanes.specs.Planes.{IsPlane};
 ghost use Rattle.bs_lanes.specs.Settling.{net_bit, HasPlane};
 
-use bs_lanes_planes::{inverse, plane_at};
+use crate::plane::{inverse, plane_at};
 use bs_net::{Gate, Kind, NetId};
 use std::simd::Simd;
 
@@ -19,7 +19,7 @@ pub(crate) fn net_plane<const N: usize>(nets: &[u64], net: NetId) -> Simd<u64, N
 }
 
 /// A plane that has one bit in each lane.
-#[tactic(auto, using(bs_lanes_planes::proofs::PlaneLemmas::ones_is_plane, bs_lanes_planes::proofs::PlaneLemmas::zeros_is_plane))]
+#[tactic(auto, using(crate::proofs::PlaneLemmas::ones_is_plane, crate::proofs::PlaneLemmas::zeros_is_plane))]
 pub(crate) fn splat_of<const N: usize>(bit: bool) -> Simd<u64, N>
     ensures { IsPlane N result (λ r. bit) }
 {

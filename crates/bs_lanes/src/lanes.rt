@@ -2,15 +2,16 @@
 ghost use Rattle.std.specs.Prelude.{◌≡◌, ◌<◌, ◌≤◌, ◌-◌, ◌*◌, length, replicate, IsTrue, IfOk};
 ghost use Rattle.bs_net.specs.Netlist.{circuit};
 ghost use Rattle.bs_stim.specs.Packing.{bit_in};
-ghost use Rattle.bs_lanes_planes.specs.Planes.{bit_place, lane, IsWidened};
+ghost use Rattle.bs_lanes.specs.Planes.{bit_place, lane, IsWidened};
 ghost use Rattle.bs_lanes.specs.Lanes.{is_wide, state_in, IsSameTable, AreReset, AreStepped};
 ghost use Rattle.bs_lanes.specs.Layout.{HasLayout, IsLayout, SettlesAll};
 ghost use Rattle.bs_lanes.specs.Settling.{LoadsAll, ResetsAll};
 
 use crate::layout::{Layout, layout_of};
+use crate::plane::{lane_bit, widened};
+use crate::planes::Plane;
 use crate::widths::{reset, step};
 use bs_bits::{Bits, NoMemory};
-use bs_lanes_planes::{Plane, lane_bit, widened};
 use bs_net::{Flop, NetId, Netlist};
 use std::alloc::Global;
 use std::marker::Model;

@@ -1,11 +1,11 @@
 //! What flip-flops load at a clock edge, in all lanes.
 ghost use Rattle.std.specs.Prelude.{◌≡◌, ◌≤◌, ◌+◌, ◌*◌, not, ◌&&◌, length, All, if◌then◌else◌};
 ghost use Rattle.bs_stim.specs.Packing.{bit_in};
-ghost use Rattle.bs_lanes_planes.specs.Planes.{IsPlane};
+ghost use Rattle.bs_lanes.specs.Planes.{IsPlane};
 ghost use Rattle.bs_lanes.specs.Settling.{HasFlop, LoadsAll, lane_loads};
 
 use crate::gates::net_plane;
-use bs_lanes_planes::{inverse, put_plane};
+use crate::plane::{inverse, put_plane};
 use bs_net::{Flop, Mode};
 use std::simd::Simd;
 

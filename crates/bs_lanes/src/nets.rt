@@ -1,7 +1,7 @@
 //! The planes of a netlist's nets: shown sources, and gates settled in order; then the flip-flops load.
 ghost use Rattle.std.specs.Prelude.{◌≡◌, ◌<◌, ◌≤◌, ◌+◌, ◌*◌, length, map, All};
 ghost use Rattle.bs_net.specs.Steps.{puts, constant_step, gate_write};
-ghost use Rattle.bs_lanes_planes.specs.Planes.{lane};
+ghost use Rattle.bs_lanes.specs.Planes.{lane};
 ghost use Rattle.bs_lanes.specs.Program.{stretch_gates, program_gates, HasGate};
 ghost use Rattle.bs_lanes.specs.Layout.{HasLayout, SettlesAll};
 ghost use Rattle.bs_lanes.specs.Settling.{HasPlane, RunsAll, LoadsAll, ResetsAll};
@@ -10,8 +10,8 @@ use crate::gates::{gate_plane, splat_of};
 use crate::layout::Layout;
 use crate::loads::load;
 use crate::pairs::settle_pairs;
+use crate::plane::{plane_at, put_plane};
 use crate::program::Stretch;
-use bs_lanes_planes::{plane_at, put_plane};
 use bs_net::{Const, Flop, Gate, NetId};
 
 /// Shows some planes on some nets.

@@ -3,13 +3,13 @@ ghost use Rattle.std.specs.Prelude.{◌≡◌, ◌<◌, ◌≤◌, ◌+◌, ◌*
 ghost use Rattle.bs_net.specs.Gate.{gate_value};
 ghost use Rattle.bs_net.specs.Steps.{gate_write};
 ghost use Rattle.bs_stim.specs.Packing.{bit_in};
-ghost use Rattle.bs_lanes_planes.specs.Planes.{bit_place, IsPlane};
+ghost use Rattle.bs_lanes.specs.Planes.{bit_place, IsPlane};
 ghost use Rattle.bs_lanes.specs.Settling.{RunsAll};
 ghost use Rattle.bs_lanes.specs.Program.{pair_gates, HasGate};
 ghost use Rattle.bs_lanes.specs.Pairs.{IsMixed, IsTable};
 
 use crate::gates::splat_of;
-use bs_lanes_planes::{plane_at, put_plane};
+use crate::plane::{plane_at, put_plane};
 use bs_net::Kind;
 use std::simd::Simd;
 

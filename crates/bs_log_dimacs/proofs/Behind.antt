@@ -8,7 +8,7 @@ use Rattle.bs_clause.specs.Literal.{Clause}
 use Rattle.bs_log.specs.History.{Problem, History}
 use Rattle.bs_log.specs.Refusal.{assumptions_of}
 use Rattle.bs_log.specs.Refutation.{blocks_of}
-use Rattle.bs_log_words.specs.Clauses.{clause_text, closed_from}
+use Rattle.bs_log_dimacs.specs.Clauses.{clause_text, closed_from}
 use Rattle.bs_log_dimacs.specs.Cnf.{units, behind, closed, others}
 
 -- the parts one behind another

@@ -15,8 +15,8 @@ use Rattle.bs_log.proofs.Histories.{in_range}
 use Rattle.bs_log.proofs.Laws.{NoneRefused-tail, step_of-positive}
 use Rattle.bs_log.proofs.Tests.{right_from_none}
 use Rattle.bs_log_dimacs.specs.declared.asked.TheConstants.{FEW}
-use Rattle.bs_log_words.specs.declared.frame.Frame.{Frame}
-use Rattle.bs_log_words.specs.Lines.{IdFits}
+use Rattle.bs_log_dimacs.specs.declared.frame.Frame.{Frame}
+use Rattle.bs_log_dimacs.specs.Lines.{IdFits}
 use Rattle.bs_log_dimacs.specs.Walk.{LineFits}
 use Rattle.bs_log_dimacs.proofs.Rooms.{front_of, last_few, line_fits}
 use Rattle.bs_log_dimacs.proofs.Walking.{history_more}

@@ -17,9 +17,9 @@ use Rattle.bs_log.specs.Refutation.{blocks_of}
 use Rattle.bs_log.proofs.Finishes.{finish_is_inside}
 use Rattle.bs_log.proofs.Laws.{finished_steps_are_refuted, front_is_right, step_of-positive}
 use Rattle.bs_log.proofs.Tests.{IsRight, right_from_none}
-use Rattle.bs_log_words.specs.declared.frame.Frame.{Frame}
+use Rattle.bs_log_dimacs.specs.declared.frame.Frame.{Frame}
 use Rattle.bs_log_dimacs.specs.Cnf.{units, others, behind, closed, cnf_of}
-use Rattle.bs_log_words.specs.Lines.{raised}
+use Rattle.bs_log_dimacs.specs.Lines.{raised}
 use Rattle.bs_log_dimacs.specs.Proof.{IsProofLine, IsRefutation, alone, shown, frame_of, lemma_in, ending, proof_of}
 use Rattle.bs_log_dimacs.specs.Law.{BlocksOther, UnlistedMeets, FinishedIsUnmet, ProofsAreRight}
 use Rattle.bs_log_dimacs.proofs.Found.{found_filter}

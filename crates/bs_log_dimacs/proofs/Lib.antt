@@ -21,3 +21,4 @@ pub mod Unlisted
 pub mod Bounds
 pub mod WholeTexts
 pub mod WholeExamples
+pub mod ClosedLemmas

@@ -18,9 +18,9 @@ use Rattle.bs_log.specs.Refutation.{blocks_of}
 use Rattle.bs_log.proofs.Tests.{IsRight, right_from_none}
 use Rattle.bs_log.proofs.Histories.{next_given}
 use Rattle.bs_log.proofs.Laws.{step_of-positive}
-use Rattle.bs_log_words.specs.declared.frame.Frame.{Frame}
+use Rattle.bs_log_dimacs.specs.declared.frame.Frame.{Frame}
 use Rattle.bs_log_dimacs.specs.Cnf.{units, others, behind, cnf_of, closed}
-use Rattle.bs_log_words.specs.Lines.{raised}
+use Rattle.bs_log_dimacs.specs.Lines.{raised}
 use Rattle.bs_log_dimacs.specs.Proof.{IsProofLine, IsProof, alone, shown, frame_of, block_hint, unit_id}
 use Rattle.bs_log_dimacs.proofs.Found.{axiom_at, get_behind, get_front}
 use Rattle.bs_log_dimacs.proofs.Raising.{raised_high}

@@ -2,8 +2,8 @@
 use Rattle.std.proofs.Common.{◌≡◌, ◌≢◌, ℕ, ◌+◌, ◌<◌, ◌≤◌, arith, Bool, true, false, ◌||◌, cond, eqb, leb, List, [], ◌∷◌, map, refl, sym, ap, ◌∙◌, inl, inr, ◌⊎◌}
 use Rattle.std.specs.List.{list_any}
 use Rattle.std.proofs.lemmas.Bool.{eq-eqb, ne_eqb, cases_eq, leb-true, leb-false, le-leb, lt-leb}
-use Rattle.bs_log_words.specs.Lines.{raised}
-use Rattle.bs_log_words.specs.declared.frame.Frame.{Frame}
+use Rattle.bs_log_dimacs.specs.Lines.{raised}
+use Rattle.bs_log_dimacs.specs.declared.frame.Frame.{Frame}
 
 pub raised_low : (f : Frame) (id : ℕ) → id ≤ f.front → raised f id ≡ id
 raised_low f id low = ap (λ b. cond b id (id + f.by)) (le-leb id f.front low)

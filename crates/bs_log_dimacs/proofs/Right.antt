@@ -17,9 +17,9 @@ use Rattle.bs_log.specs.Refusal.{NoneRefused, IsAccepted, entry_of, clauses_of, 
 use Rattle.bs_log.proofs.Tests.{IsRight, right_from_none}
 use Rattle.bs_log.proofs.Histories.{next_given, in_range}
 use Rattle.bs_log.proofs.Laws.{step_of-positive}
-use Rattle.bs_log_words.specs.declared.frame.Frame.{Frame}
+use Rattle.bs_log_dimacs.specs.declared.frame.Frame.{Frame}
 use Rattle.bs_log_dimacs.specs.Cnf.{closed}
-use Rattle.bs_log_words.specs.Lines.{raised}
+use Rattle.bs_log_dimacs.specs.Lines.{raised}
 use Rattle.bs_log_dimacs.specs.Proof.{IsProofLine, IsProof, IsRefutation, alone, lemma_in, unit_id}
 use Rattle.bs_log_dimacs.proofs.Found.{axiom_at, get_behind, get_front, found_filter}
 use Rattle.bs_log_dimacs.proofs.Lemmas.{IsLemmaOf, lemma_found}

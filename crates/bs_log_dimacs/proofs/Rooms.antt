@@ -16,12 +16,12 @@ use Rattle.bs_log.proofs.Elements.{AllByRecursion-filter}
 use Rattle.bs_log.proofs.Tests.{right_from_none}
 use Rattle.bs_log.proofs.Histories.{next_given, added_ids, deleted_given}
 use Rattle.bs_log.proofs.Laws.{NoneRefused-tail, step_of-positive}
-use Rattle.bs_log_words.specs.declared.frame.Frame.{Frame}
+use Rattle.bs_log_dimacs.specs.declared.frame.Frame.{Frame}
 use Rattle.bs_log_dimacs.specs.declared.asked.Refuted.{Refuted}
 use Rattle.bs_log_dimacs.specs.declared.walk.At.{At}
 use Rattle.bs_log_dimacs.specs.Cnf.{behind}
 use Rattle.bs_log_dimacs.specs.Proof.{frame_of, shown}
-use Rattle.bs_log_words.specs.Lines.{IdFits}
+use Rattle.bs_log_dimacs.specs.Lines.{IdFits}
 use Rattle.bs_log_dimacs.specs.Walk.{problem_in, clauses_in, IsAsked, IsProvable, LineFits, HasRoom, IsAt}
 use Rattle.bs_log_dimacs.proofs.Found.{found_above}
 use Rattle.bs_log_dimacs.proofs.Standing.{new_last}

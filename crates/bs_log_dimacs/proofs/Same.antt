@@ -6,9 +6,9 @@ use Rattle.bs_log.specs.declared.line.Line.TheVariants.{Solve, Lemma, Block, Fin
 use Rattle.bs_log.specs.declared.origin.Origin.TheVariants.{Learnt}
 use Rattle.bs_log.specs.History.{Problem, History, Entry, axioms_from, step_of, added, live, is_deleted, last_id}
 use Rattle.bs_log.specs.Refusal.{NoneRefused, entry_of, clauses_of, passes, is_lemma_or_block}
-use Rattle.bs_log_words.specs.declared.frame.Frame.{Frame}
+use Rattle.bs_log_dimacs.specs.declared.frame.Frame.{Frame}
 use Rattle.bs_log_dimacs.specs.Cnf.{closed}
-use Rattle.bs_log_words.specs.Lines.{raised}
+use Rattle.bs_log_dimacs.specs.Lines.{raised}
 use Rattle.bs_log_dimacs.specs.Proof.{shown}
 use Rattle.bs_log_dimacs.proofs.Standing.{Fits, new_entry, named, kept, same_hints, hints_stand, deleted_stand, new_last}
 use Rattle.bs_log_dimacs.specs.WholeProof.{whole_shown}

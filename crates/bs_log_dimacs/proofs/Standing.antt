@@ -14,9 +14,9 @@ use Rattle.bs_log.specs.History.{Problem, History, Entry, axioms_from, step_of, 
 use Rattle.bs_log.specs.Refusal.{NoneRefused, entry_of, clauses_of, passes, is_lemma_or_block, in_solve, is_between_steps}
 use Rattle.bs_log.proofs.Tests.{right_from_none}
 use Rattle.bs_log.proofs.Histories.{next_given}
-use Rattle.bs_log_words.specs.declared.frame.Frame.{Frame}
+use Rattle.bs_log_dimacs.specs.declared.frame.Frame.{Frame}
 use Rattle.bs_log_dimacs.specs.Cnf.{closed}
-use Rattle.bs_log_words.specs.Lines.{raised}
+use Rattle.bs_log_dimacs.specs.Lines.{raised}
 use Rattle.bs_log_dimacs.specs.Proof.{shown}
 use Rattle.bs_log_dimacs.proofs.Found.{found_filter, found_append, found_other, or_none, axiom_low, axiom_high, axioms_append}
 use Rattle.bs_log_dimacs.proofs.Raising.{raised_low, raised_high, same_raised, raised_apart, same_names, no_names}

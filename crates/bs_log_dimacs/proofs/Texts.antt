@@ -5,12 +5,12 @@ use Rattle.bs_log.specs.declared.line.Line.{Line}
 use Rattle.bs_log.specs.declared.line.Line.TheVariants.{Solve, Lemma, Block, Finish, Retire, Delete}
 use Rattle.bs_log.specs.History.{Problem, History, step_of, last_id}
 use Rattle.bs_log.specs.Refutation.{blocks_of}
-use Rattle.bs_log_words.specs.declared.frame.Frame.{Frame}
+use Rattle.bs_log_dimacs.specs.declared.frame.Frame.{Frame}
 use Rattle.bs_log_dimacs.specs.declared.walk.At.{At}
 use Rattle.bs_log_dimacs.specs.Cnf.{closed}
-use Rattle.bs_log_words.specs.Lines.{raised}
+use Rattle.bs_log_dimacs.specs.Lines.{raised}
 use Rattle.bs_log_dimacs.specs.Proof.{shown, shown_line, block_hint, proof_text}
-use Rattle.bs_log_words.specs.Clauses.{block_at}
+use Rattle.bs_log_dimacs.specs.Clauses.{block_at}
 use Rattle.bs_log_dimacs.specs.Walk.{step_behind, at_behind, block_hint_at, shown_at, lines_text, last_behind, IsAt}
 use Rattle.bs_log_dimacs.proofs.Walking.{step_next, blocks_next}
 

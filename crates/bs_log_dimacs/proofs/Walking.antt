@@ -13,7 +13,7 @@ use Rattle.bs_log.specs.declared.line.Line.TheVariants.{Solve, Lemma, Block, Fin
 use Rattle.bs_log.specs.History.{History, step_of}
 use Rattle.bs_log.specs.Refusal.{history_of}
 use Rattle.bs_log.specs.Refutation.{blocks_of}
-use Rattle.bs_log_words.specs.Clauses.{clause_text, block_at}
+use Rattle.bs_log_dimacs.specs.Clauses.{clause_text, block_at}
 use Rattle.bs_log_dimacs.specs.Law.{IsFinishAt, HasNoFinish}
 use Rattle.bs_log_dimacs.specs.Proof.{lemma_in}
 use Rattle.bs_log_dimacs.specs.Walk.{step_behind, finish_in, lemma_named, named_finish}

@@ -11,8 +11,8 @@ use Rattle.bs_log.specs.declared.line.Line.TheVariants.{Solve, Lemma, Block, Fin
 use Rattle.bs_log.specs.LineText.{id_text, literal_text}
 use Rattle.bs_log.specs.History.{Problem, History, activation_of, last_id}
 use Rattle.bs_log.specs.Refusal.{history_of, IsAccepted}
-use Rattle.bs_log_words.specs.declared.frame.Frame.{Frame}
-use Rattle.bs_log_words.specs.Clauses.{clause_text}
+use Rattle.bs_log_dimacs.specs.declared.frame.Frame.{Frame}
+use Rattle.bs_log_dimacs.specs.Clauses.{clause_text}
 use Rattle.bs_log_dimacs.specs.Proof.{lemma_in, proof_text, unit_id}
 use Rattle.bs_log_dimacs.specs.Walk.{lines_text, last_behind}
 use Rattle.bs_log_dimacs.proofs.Walking.{history_more}

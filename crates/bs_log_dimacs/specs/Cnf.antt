@@ -6,7 +6,7 @@ use Rattle.bs_clause.specs.Literal.{Clause, negation}
 use Rattle.bs_log.specs.History.{Problem, History, activation_of}
 use Rattle.bs_log.specs.Refusal.{assumptions_of}
 use Rattle.bs_log.specs.Refutation.{blocks_of}
-use Rattle.bs_log_words.specs.Clauses.{clause_text}
+use Rattle.bs_log_dimacs.specs.Clauses.{clause_text}
 
 -- each literal as a clause of its own
 abbrev pub units : Clause → List Clause

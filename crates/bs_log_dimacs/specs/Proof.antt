@@ -7,8 +7,8 @@ use Rattle.bs_log.specs.declared.line.Line.TheVariants.{Lemma, Block, Retire, De
 use Rattle.bs_log.specs.History.{Problem, History, step_of, last_id, state_of}
 use Rattle.bs_log.specs.Refusal.{assumptions_of, names_stand, lemma_is_unit, lemma_is_false}
 use Rattle.bs_log.specs.Refutation.{blocks_of}
-use Rattle.bs_log_words.specs.Lines.{proof_line, raised}
-use Rattle.bs_log_words.specs.declared.frame.Frame.{Frame}
+use Rattle.bs_log_dimacs.specs.Lines.{proof_line, raised}
+use Rattle.bs_log_dimacs.specs.declared.frame.Frame.{Frame}
 use Rattle.bs_log_dimacs.specs.Cnf.{behind, closed, cnf_of}
 
 -- ---- what a proof is

@@ -7,9 +7,9 @@ use Rattle.bs_log.specs.declared.line.Line.TheVariants.{Lemma, Block, Finish, Re
 use Rattle.bs_log.specs.History.{Problem, History, step_of, last_id}
 use Rattle.bs_log.specs.Refusal.{NoneRefused, assumptions_of, history_of}
 use Rattle.bs_log.specs.Refutation.{blocks_of}
-use Rattle.bs_log_words.specs.Clauses.{block_at, off}
-use Rattle.bs_log_words.specs.Lines.{proof_line, raised, IdFits}
-use Rattle.bs_log_words.specs.declared.frame.Frame.{Frame}
+use Rattle.bs_log_dimacs.specs.Clauses.{block_at, off}
+use Rattle.bs_log_dimacs.specs.Lines.{proof_line, raised, IdFits}
+use Rattle.bs_log_dimacs.specs.declared.frame.Frame.{Frame}
 use Rattle.bs_log_dimacs.specs.Cnf.{cnf_of}
 use Rattle.bs_log_dimacs.specs.Proof.{alone, shown}
 use Rattle.bs_log_dimacs.specs.declared.asked.TheConstants.{FEW}

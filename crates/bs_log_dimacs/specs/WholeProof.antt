@@ -7,9 +7,9 @@ use Rattle.bs_log.specs.declared.line.Line.TheVariants.{Lemma, Block, Retire, De
 use Rattle.bs_log.specs.History.{Problem, History, step_of, last_id}
 use Rattle.bs_log.specs.Refutation.{blocks_of}
 use Rattle.bs_log_dimacs.specs.Cnf.{closed}
-use Rattle.bs_log_words.specs.Lines.{raised}
+use Rattle.bs_log_dimacs.specs.Lines.{raised}
 use Rattle.bs_log_dimacs.specs.Proof.{alone, unit_id, lemma_in, proof_text}
-use Rattle.bs_log_words.specs.declared.frame.Frame.{Frame}
+use Rattle.bs_log_dimacs.specs.declared.frame.Frame.{Frame}
 use Rattle.bs_log_dimacs.specs.WholeCnf.{finish_of, rest_of, part_of, whole_behind, whole_cnf_of}
 use Rattle.bs_log_dimacs.specs.declared.whole_walk.Under.{Under}
 

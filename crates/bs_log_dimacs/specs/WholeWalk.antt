@@ -8,9 +8,9 @@ use Rattle.bs_log.specs.declared.line.Line.TheVariants.{Block, Finish, Retire}
 use Rattle.bs_log.specs.History.{Problem, History, last_id}
 use Rattle.bs_log.specs.Refusal.{IsAccepted, history_of}
 use Rattle.bs_log_dimacs.specs.declared.asked.TheConstants.{FEW}
-use Rattle.bs_log_words.specs.declared.frame.Frame.{Frame}
+use Rattle.bs_log_dimacs.specs.declared.frame.Frame.{Frame}
 use Rattle.bs_log_dimacs.specs.Proof.{alone}
-use Rattle.bs_log_words.specs.Lines.{IdFits}
+use Rattle.bs_log_dimacs.specs.Lines.{IdFits}
 use Rattle.bs_log_dimacs.specs.WholeCnf.{rest_of, said_of, whole_cnf_of}
 use Rattle.bs_log_dimacs.specs.WholeProof.{under_of, place_of, whole_shown}
 use Rattle.bs_log_dimacs.specs.declared.whole.WholeLog.{WholeLog}

@@ -5,16 +5,17 @@ ghost use Rattle.bs_clause.specs.declared.literal.TheConstants.{VARIABLE_LIMIT};
 ghost use Rattle.bs_log.specs.History.{step_of};
 ghost use Rattle.bs_log.specs.Refusal.{assumptions_of, history_of};
 ghost use Rattle.bs_log.specs.Refutation.{blocks_of};
-ghost use Rattle.bs_log_words.specs.Clauses.{block_at, clause_text};
+ghost use Rattle.bs_log_dimacs.specs.Clauses.{block_at, clause_text};
 ghost use Rattle.bs_log_dimacs.specs.Cnf.{behind, cnf_text, header_text, units};
 ghost use Rattle.bs_log_dimacs.specs.Walk.{problem_in, IsAsked, IsOneOf};
 
 use crate::asked::Refuted;
+use crate::clauses::{push_block, push_closed};
 use crate::finish::step_behind;
+use crate::words::{push_clause, push_unit};
 use bs_bits::{NoMemory, end_line, push_number, push_piece};
 use bs_clause::{Lit, Lits};
 use bs_log::Line;
-use bs_log_words::{push_block, push_clause, push_closed, push_unit};
 
 /// What a step assumes.
 pub fn assumptions_at<'a>(asked: &Refuted<'a>) -> &'a [Lit]

@@ -5,7 +5,7 @@ ghost use Rattle.bs_clause.specs.declared.literal.TheConstants.{VARIABLE_LIMIT};
 ghost use Rattle.bs_clause.specs.Literal.{negation, same_literal};
 ghost use Rattle.bs_log.specs.LineText.{id_text};
 ghost use Rattle.bs_log.specs.Refusal.{assumptions_of, history_of};
-ghost use Rattle.bs_log_words.specs.Lines.{proof_line, IdFits};
+ghost use Rattle.bs_log_dimacs.specs.Lines.{proof_line, IdFits};
 ghost use Rattle.bs_log_dimacs.specs.Proof.{ending, frame_of, lemma_in, lrat_text, proof_text, shown, unit_id};
 ghost use Rattle.bs_log.specs.History.{last_id};
 ghost use Rattle.bs_log_dimacs.specs.Walk.{clauses_in, problem_in, IsOneOf, IsProvable};
@@ -13,12 +13,14 @@ ghost use Rattle.bs_log_dimacs.specs.Walk.{clauses_in, problem_in, IsOneOf, IsPr
 use crate::asked::Refuted;
 use crate::cnf::{assumptions_at, count_behind, count_blocks};
 use crate::finish::lemma_of;
+use crate::frame::Frame;
+use crate::proof_lines::raised;
 use crate::steps::{at_behind, push_shown};
 use crate::walk::At;
+use crate::words::push_id;
 use bs_bits::{NoMemory, push_line, push_piece};
 use bs_clause::{Lit, is_same};
 use bs_log::Line;
-use bs_log_words::{Frame, push_id, raised};
 
 /// The place of the literal that denies another, counted from 0.
 fn failed_assumption_place(assumptions: &[Lit], l: Lit) -> Option<usize>

@@ -2,17 +2,17 @@
 ghost use Rattle.std.specs.Prelude.{◌≡◌, ◌≤◌, ◌<◌, ◌+◌, ◌^◌, ◌∷◌, [], ◌++◌, drop, length, map, OnOk};
 ghost use Rattle.std.specs.List.{flat_map};
 ghost use Rattle.bs_clause.specs.Literal.{IsVariable};
-ghost use Rattle.bs_log_words.specs.Clauses.{clause_text};
+ghost use Rattle.bs_log_dimacs.specs.Clauses.{clause_text};
 ghost use Rattle.bs_log_dimacs.specs.WholeCnf.{rest_of, said_of};
 ghost use Rattle.bs_log_dimacs.specs.WholeWalk.{given_at, problem_in, EndFits};
 
 use crate::steps::off;
 use crate::whole::WholeLog;
 use crate::whole_walk::Under;
+use crate::words::{push_clause, push_unit};
 use bs_bits::{List, NoMemory};
 use bs_clause::{Lit, Lits};
 use bs_log::Line;
-use bs_log_words::{push_clause, push_unit};
 
 /// All literals but the first.
 fn tail(literals: &[Lit]) -> &[Lit]

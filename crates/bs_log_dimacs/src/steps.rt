@@ -4,16 +4,18 @@ ghost use Rattle.std.specs.List.{flat_map};
 ghost use Rattle.bs_clause.specs.Literal.{IsVariable};
 ghost use Rattle.bs_log.specs.LineText.{id_text};
 ghost use Rattle.bs_log.specs.declared.line.Line.TheVariants.{Lemma, Delete};
-ghost use Rattle.bs_log_words.specs.Lines.{proof_line, raised, IdFits};
+ghost use Rattle.bs_log_dimacs.specs.Lines.{proof_line, raised, IdFits};
 ghost use Rattle.bs_log_dimacs.specs.Walk.{at_behind, block_hint_at, last_behind, lines_text, shown_at, LineFits, HasRoom};
 
 use crate::cnf::blocks_at;
 use crate::finish::step_behind;
+use crate::frame::Frame;
+use crate::proof_lines::{push_copy, raised};
 use crate::walk::At;
+use crate::words::{push_id, push_literals};
 use bs_bits::{NoMemory, push_line, push_piece};
 use bs_clause::{Lit, Var};
 use bs_log::Line;
-use bs_log_words::{Frame, push_copy, push_id, push_literals, raised};
 
 /// Appends where ids go, each with a space.
 pub fn push_raised(text: &mut Vec<u8>, f: &Frame, ids: &[u64]) -> Result<(), NoMemory>

@@ -5,7 +5,7 @@ ghost use Rattle.bs_clause.specs.declared.literal.TheConstants.{VARIABLE_LIMIT};
 ghost use Rattle.bs_clause.specs.Literal.{IsVariable};
 ghost use Rattle.bs_log.specs.History.{activation_of};
 ghost use Rattle.bs_log.specs.LineText.{literal_text};
-ghost use Rattle.bs_log_words.specs.Clauses.{clause_text};
+ghost use Rattle.bs_log_dimacs.specs.Clauses.{clause_text};
 ghost use Rattle.bs_log_dimacs.specs.WholeCnf.{finished, one_of, whole_behind, whole_cnf_text};
 ghost use Rattle.bs_log_dimacs.specs.WholeProof.{ended, ended_at, so_far};
 ghost use Rattle.bs_log_dimacs.specs.WholeWalk.{history_in, problem_in, EndFits, IsWritable};
@@ -14,10 +14,10 @@ use crate::cnf::{push_clauses, push_header};
 use crate::parts::{count_given, push_given};
 use crate::whole::WholeLog;
 use crate::whole_walk::{Under, start, under_behind};
+use crate::words::push_literal;
 use bs_bits::{NoMemory, push_line};
 use bs_clause::{Lit, Var};
 use bs_log::Line;
-use bs_log_words::push_literal;
 
 /// How many clauses the lines give.
 fn count_so_far(asked: &WholeLog<'_>) -> u64

@@ -5,22 +5,24 @@ ghost use Rattle.bs_clause.specs.Literal.{IsVariable};
 ghost use Rattle.bs_log.specs.declared.line.Line.TheVariants.{Lemma, Retire};
 ghost use Rattle.bs_log.specs.LineText.{id_text};
 ghost use Rattle.bs_log.specs.Refusal.{history_of};
-ghost use Rattle.bs_log_words.specs.Lines.{proof_line, IdFits};
+ghost use Rattle.bs_log_dimacs.specs.Lines.{proof_line, IdFits};
 ghost use Rattle.bs_log_dimacs.specs.Proof.{lemma_in, unit_id};
 ghost use Rattle.bs_log_dimacs.specs.Walk.{lines_text, LineFits};
 ghost use Rattle.bs_log_dimacs.specs.WholeProof.{besides, line_at};
 ghost use Rattle.bs_log_dimacs.specs.WholeWalk.{problem_in, EndFits, HasRoom};
 
 use crate::finish::lemma_of;
+use crate::frame::Frame;
 use crate::lrat::unit_id;
 use crate::parts::rest_at;
+use crate::proof_lines::{push_copy, raised};
 use crate::steps::{off, push_deletion, push_lemma};
 use crate::whole::WholeLog;
 use crate::whole_walk::At;
+use crate::words::{push_id, push_literals};
 use bs_bits::{NoMemory, push_line, push_piece};
 use bs_clause::Lit;
 use bs_log::Line;
-use bs_log_words::{Frame, push_copy, push_id, push_literals, raised};
 
 /// Appends the id of what is assumed against a literal, where it is not over this variable.
 fn push_besides_id(

@@ -3,21 +3,23 @@ ghost use Rattle.std.specs.Prelude.{◌≡◌, ◌≤◌, ◌<◌, ◌+◌, ◌^
 ghost use Rattle.std.specs.List.{flat_map};
 ghost use Rattle.bs_log.specs.History.{last_id};
 ghost use Rattle.bs_log.specs.LineText.{id_text};
-ghost use Rattle.bs_log_words.specs.Lines.{proof_line, raised};
+ghost use Rattle.bs_log_dimacs.specs.Lines.{proof_line, raised};
 ghost use Rattle.bs_log_dimacs.specs.Proof.{proof_text};
 ghost use Rattle.bs_log_dimacs.specs.Walk.{last_behind, LineFits};
 ghost use Rattle.bs_log_dimacs.specs.WholeProof.{ended, ended_at, under_of, whole_ending, whole_frame, whole_lrat_text, whole_shown};
 ghost use Rattle.bs_log_dimacs.specs.WholeWalk.{clauses_in, given_at, history_in, problem_in, under_behind, IsWritable};
 
+use crate::frame::Frame;
 use crate::parts::count_given;
+use crate::proof_lines::raised;
 use crate::steps::last_behind;
 use crate::whole::WholeLog;
 use crate::whole_cnf::count_behind;
 use crate::whole_lines::push_shown;
 use crate::whole_walk::{At, Under, start, under_behind};
+use crate::words::push_id;
 use bs_bits::{NoMemory, push_line, push_piece};
 use bs_log::Line;
-use bs_log_words::{Frame, push_id, raised};
 
 /// How far ids go up.
 fn frame(asked: &WholeLog<'_>) -> Frame

@@ -8,9 +8,9 @@ use Rattle.std.proofs.lemmas.List.{length-map, nil_from_length}
 use Rattle.std.proofs.lemmas.List.Elements.{All-from_recursion, recursion_from_All}
 use Rattle.std.proofs.lemmas.Option.{get_or_from_slice_get, slice_get_within}
 use Rattle.bs_bits.specs.Bits.{bits_eq}
-use Rattle.bs_seen.specs.declared.seen.Seen.{Seen}
-use Rattle.bs_seen.specs.Seen.{is_shown, whole, Shows}
-use Rattle.bs_seen.proofs.SeenLemmas.{shown_where, shows_where}
+use Rattle.bs_scan.specs.declared.seen.Seen.{Seen}
+use Rattle.bs_scan.specs.Seen.{is_shown, whole, Shows}
+use Rattle.bs_scan.proofs.SeenLemmas.{shown_where, shows_where}
 use Rattle.bs_clause.specs.Literal.{Literal, Clause, negation}
 use Rattle.bs_log.specs.declared.line.Line.{Line}
 use Rattle.bs_net.specs.Circuit.{Circuit, next}

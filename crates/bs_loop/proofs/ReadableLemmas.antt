@@ -11,8 +11,8 @@ use Rattle.bs_log.specs.declared.line.Line.{Line}
 use Rattle.bs_log.specs.declared.line.Line.TheVariants.{Solve, Lemma, Block, Finish, Retire, Delete}
 use Rattle.bs_log.specs.LineForms.{IsId, HasText}
 use Rattle.bs_log.specs.Steps.{onto_step, steps_of, finish_of_line}
-use Rattle.bs_seen.specs.declared.seen.Seen.{Seen}
-use Rattle.bs_seen.specs.Seen.{IsSeen}
+use Rattle.bs_scan.specs.declared.seen.Seen.{Seen}
+use Rattle.bs_scan.specs.Seen.{IsSeen}
 use Rattle.bs_net.specs.Circuit.{Circuit}
 use Rattle.bs_scan.specs.Choice.{Chosen, depth_of, IsDepth}
 use Rattle.bs_scan.specs.Crash.{Recording, IsRecording, Crash, crash_of}

@@ -5,8 +5,8 @@ use Rattle.std.specs.Prelude.{IfSome, ◌==◌, ◌||◌, ◌&&◌, if◌then◌
 use Rattle.std.specs.Option.{option_to_list}
 use Rattle.std.proofs.lemmas.Bool.{or_right, eq-eqb, ne_eqb}
 use Rattle.bs_bits.specs.Bits.{bits_eq}
-use Rattle.bs_seen.specs.declared.seen.Seen.{Seen}
-use Rattle.bs_seen.specs.Seen.{whole}
+use Rattle.bs_scan.specs.declared.seen.Seen.{Seen}
+use Rattle.bs_scan.specs.Seen.{whole}
 use Rattle.bs_net.specs.Circuit.{Circuit, Leads, next, reset_state}
 use Rattle.bs_net.proofs.NextLemmas.{next_is_led}
 use Rattle.bs_scan.specs.declared.dump.Dump.{Dump}

@@ -1,8 +1,8 @@
 -- The input recorded at a hit, where the present is known in part.
 use Rattle.std.specs.Prelude.{◌≡◌, ℕ, ◌+◌, ◌==◌, nat_lt, ◌&&◌, Bool, List, [], length, map, slice_get, All, Option, Some, None, if◌then◌else◌}
 use Rattle.bs_bits.specs.Bits.{bits_eq}
-use Rattle.bs_seen.specs.declared.seen.Seen.{Seen}
-use Rattle.bs_seen.specs.Seen.{is_shown, whole, Shows}
+use Rattle.bs_scan.specs.declared.seen.Seen.{Seen}
+use Rattle.bs_scan.specs.Seen.{is_shown, whole, Shows}
 use Rattle.bs_net.specs.Circuit.{Circuit, next}
 use Rattle.bs_scan.specs.Crash.{Crash, Recording}
 use Rattle.bs_scan.specs.Moments.{Run, run_of, state_at}

@@ -1,6 +1,6 @@
 -- What is known of the states before a present.
 use Rattle.std.specs.Prelude.{◌≡◌, ◌≢◌, ◌⊎◌, ℕ, ◌-◌, ◌==◌, ◌<◌, ◌≤◌, Bool, if◌then◌else◌, List, Option, Some, None, IfSome, MatchOption}
-use Rattle.bs_seen.specs.declared.seen.Seen.{Seen}
+use Rattle.bs_scan.specs.declared.seen.Seen.{Seen}
 use Rattle.bs_scan.specs.declared.dump.Dump.{Dump}
 use Rattle.bs_scan.specs.Crash.{Recording}
 use Rattle.bs_scan.specs.Moments.{Moment, moment, IsMoment, state_of, first_moment}

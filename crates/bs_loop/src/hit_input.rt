@@ -2,7 +2,7 @@
 //! trace then goes on as the run did.
 ghost use Rattle.std.specs.Prelude.{◌≡◌, ◌+◌, ◌≤◌, length, map, if◌then◌else◌, IfOk, IfSome};
 ghost use Rattle.bs_bits.specs.Bits.{bits_eq};
-ghost use Rattle.bs_seen.specs.Seen.{is_shown};
+ghost use Rattle.bs_scan.specs.Seen.{is_shown};
 ghost use Rattle.bs_scan.specs.Moments.{IsMoment, moment, run_of, state_at};
 ghost use Rattle.bs_loop.specs.HitInput.{goes_to, own_at, own_input, put_input, put_own};
 
@@ -11,7 +11,7 @@ use bs_bits::{Bits, List, NoMemory};
 use bs_chip::{Chip, Hit};
 use bs_preimage::Listing;
 use bs_report::{Before, Cand};
-use bs_seen::Seen;
+use bs_scan::Seen;
 use std::alloc::Global;
 
 /// The number of cycles of a run.

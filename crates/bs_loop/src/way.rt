@@ -33,8 +33,7 @@ use bs_preimage::Preimage;
 use bs_preimage_recorded::Finder;
 use bs_report::{Budgets, Report, Step, Stop};
 use bs_report_good::end_of;
-use bs_scan::Dump;
-use bs_seen::Seen;
+use bs_scan::{Dump, Seen};
 use std::alloc::Global;
 
 /// The steps made, and why no more are made.

@@ -10,10 +10,10 @@ use Rattle.bs_net.specs.declared.net.Gate.{Gate}
 use Rattle.bs_net.specs.declared.net.Flop.{Flop}
 use Rattle.bs_net.specs.Circuit.{Circuit, IsSettled, bit_at, shown, next_state, loaded}
 use Rattle.bs_net.specs.Gate.{gate_value, takes}
-use Rattle.bs_net_marks.specs.declared.mark.Mark.{Mark}
-use Rattle.bs_net_marks.specs.declared.mark.Mark.TheVariants.{Low, High, Still, Moved}
-use Rattle.bs_net_marks.specs.Marks.{Holds, Hold, mark_at, fixed, gate_mark, flop_mark}
-use Rattle.bs_net_marks.proofs.MarkLemmas.{holds_of, fixed_holds, gate_holds, flop_holds}
+use Rattle.bs_net_facts.specs.declared.mark.Mark.{Mark}
+use Rattle.bs_net_facts.specs.declared.mark.Mark.TheVariants.{Low, High, Still, Moved}
+use Rattle.bs_net_facts.specs.Marks.{Holds, Hold, mark_at, fixed, gate_mark, flop_mark}
+use Rattle.bs_net_facts.proofs.MarkLemmas.{holds_of, fixed_holds, gate_holds, flop_holds}
 use Rattle.bs_net.specs.Netlist.{Checked, circuit}
 use Rattle.bs_net.specs.Parts.{Parts, PartsArePlaced}
 use Rattle.bs_net_facts.specs.declared.fact.Fact.{Fact}

@@ -5,8 +5,8 @@ use Rattle.std.proofs.lemmas.Bool.{cases_lt}
 use Rattle.std.proofs.lemmas.List.Elements.{All-append, All-map, All-weaker, All-from_recursion, recursion_from_All}
 use Rattle.bs_net.specs.Circuit.{Circuit, bit_at}
 use Rattle.bs_net.specs.Netlist.{Checked, circuit}
-use Rattle.bs_net_marks.specs.declared.mark.Mark.{Mark}
-use Rattle.bs_net_marks.specs.Marks.{Holds, Hold}
+use Rattle.bs_net_facts.specs.declared.mark.Mark.{Mark}
+use Rattle.bs_net_facts.specs.Marks.{Holds, Hold}
 use Rattle.bs_net_facts.specs.declared.fact.Fact.{Fact}
 use Rattle.bs_net_facts.specs.declared.block.Block.{Block}
 use Rattle.bs_net_facts.specs.declared.carried.Kept.{Kept}

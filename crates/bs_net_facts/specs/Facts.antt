@@ -1,7 +1,12 @@
 -- Facts of a trace, and what they force (docs/DEFINITIONS.md, "Fact").
-use Rattle.std.specs.Prelude.{◌≡◌, ℕ, ◌+◌, ◌<◌, Bool, List, [], ◌++◌, length, All, slice_index_or}
+use Rattle.std.specs.Prelude.{◌≡◌, ℕ, ◌+◌, ◌<◌, ◌==◌, ◌&&◌, Bool, List, [], ◌++◌, length, All, slice_index_or}
+use Rattle.std.specs.Bool.{beq}
 use Rattle.bs_net.specs.Circuit.{Circuit, Fits, bit_at, shown, state_nets, next_state}
 use Rattle.bs_net_facts.specs.declared.fact.Fact.{Fact}
+
+-- whether a fact is the same as another one, of the same net and with the same bit, a cycle later
+abbrev pub is_again : Fact → Fact → Bool
+is_again f g = (g.net.0 == f.net.0) && (beq g.bit f.bit && (g.cycle == f.cycle + 1))
 
 -- ---- valuations of cycles that follow each other
 

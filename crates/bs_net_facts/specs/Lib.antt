@@ -3,5 +3,7 @@ pub mod Facts
 pub mod Blocks
 pub mod Sources
 pub mod Seen
+-- what contracts rest on
+pub mod Marks
 -- what inner functions promise each other
 pub mod Marked

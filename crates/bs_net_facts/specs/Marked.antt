@@ -3,9 +3,9 @@ use Rattle.std.specs.Prelude.{◌≡◌, ◌≢◌, ℕ, ◌<◌, ◌⊎◌, ◌
 use Rattle.std.specs.List.{list_all}
 use Rattle.bs_net.specs.Circuit.{Circuit, IsSettled, bit_at, shown, state_nets, next_state}
 use Rattle.bs_net.specs.Netlist.{Checked, circuit}
-use Rattle.bs_net_marks.specs.declared.mark.Mark.{Mark}
-use Rattle.bs_net_marks.specs.declared.mark.Mark.TheVariants.{Low, High, Still, Moved}
-use Rattle.bs_net_marks.specs.Marks.{Holds, Hold, mark_at}
+use Rattle.bs_net_facts.specs.declared.mark.Mark.{Mark}
+use Rattle.bs_net_facts.specs.declared.mark.Mark.TheVariants.{Low, High, Still, Moved}
+use Rattle.bs_net_facts.specs.Marks.{Holds, Hold, mark_at}
 use Rattle.bs_net_facts.specs.declared.fact.Fact.{Fact}
 use Rattle.bs_net_facts.specs.declared.block.Block.{Block}
 use Rattle.bs_net_facts.specs.declared.carried.Kept.{Kept}

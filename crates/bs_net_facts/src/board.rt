@@ -3,9 +3,11 @@ ghost use Rattle.std.specs.Prelude.{◌≡◌, ◌<◌, length, All, IfOk, OnOk}
 ghost use Rattle.bs_net.specs.Netlist.{circuit};
 ghost use Rattle.bs_net_facts.specs.Marked.{Marks, Unmarks, Blank};
 
+use crate::flops::is_known;
+use crate::gates::{mark_constants, unmarked};
+use crate::mark::Mark;
 use bs_bits::NoMemory;
 use bs_net::{NetId, Netlist};
-use bs_net_marks::{Mark, is_known, mark_constants, unmarked};
 use std::alloc::Global;
 use std::marker::Model;
 

@@ -3,9 +3,10 @@ ghost use Rattle.std.specs.Prelude.{◌≡◌, [], ◌∷◌, ◌++◌, length, 
 ghost use Rattle.bs_net.specs.Netlist.{circuit};
 ghost use Rattle.bs_net_facts.specs.Marked.{Carry, CarryOn};
 
+use crate::flops::flop_mark;
+use crate::mark::Mark;
 use bs_bits::NoMemory;
 use bs_net::{NetId, Netlist};
-use bs_net_marks::{Mark, flop_mark};
 
 /// What is known of a net before the gates of its cycle are marked.
 #[derive(Clone, Copy)]

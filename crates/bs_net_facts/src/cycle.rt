@@ -2,16 +2,17 @@
 ghost use Rattle.std.specs.Prelude.{◌≡◌, ◌<◌, length, All, IsTrue, OnOk};
 ghost use Rattle.bs_net.specs.Gate.{takes};
 ghost use Rattle.bs_net.specs.Netlist.{circuit};
-ghost use Rattle.bs_net_marks.specs.Marks.{gate_mark, mark_at};
+ghost use Rattle.bs_net_facts.specs.Marks.{gate_mark, mark_at};
 ghost use Rattle.bs_net_facts.specs.Marked.{Marks, Stays, ShowAt, ShowBits, ShowKept, ShowBegun, AllSettled, IsGivenAt, has_bit, tell_bits};
 
 use crate::block::{Block, Cone};
 use crate::board::Board;
 use crate::carried::Kept;
 use crate::fact::Fact;
+use crate::gates::gate_mark;
+use crate::mark::{Mark, fixed};
 use bs_bits::NoMemory;
 use bs_net::Gate;
-use bs_net_marks::{Mark, fixed, gate_mark};
 
 /// Marks the facts of a cycle, from a place on, and gives the place of the first fact behind them.
 #[tactic(auto, using(crate::proofs::CycleLemmas::stays_same, crate::proofs::CycleLemmas::stays_fact))]

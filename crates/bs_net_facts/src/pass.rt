@@ -7,9 +7,9 @@ use crate::block::{Block, Cone};
 use crate::board::Board;
 use crate::carried::{Kept, carry};
 use crate::cycle::{mark_cycle, tell_bits};
+use crate::mark::Mark;
 use bs_bits::NoMemory;
 use bs_net::Netlist;
-use bs_net_marks::Mark;
 use std::alloc::Global;
 
 /// Whether marks tell a block's bits, from its first cycle on.

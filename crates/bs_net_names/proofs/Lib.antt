@@ -4,3 +4,4 @@ pub mod HexLemmas
 pub mod RtlLemmas
 pub mod SpaceLemmas
 pub mod NamingLemmas
+mod NearestLemmas

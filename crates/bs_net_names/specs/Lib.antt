@@ -5,3 +5,6 @@ pub mod Naming
 pub mod Signals
 pub mod Rtl
 pub mod Values
+pub mod Spots
+pub mod Quotes
+pub mod Nearest

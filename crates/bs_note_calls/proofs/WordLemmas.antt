@@ -1,8 +1,8 @@
 -- The words for files are short.
 use Rattle.std.proofs.Common.{◌≡◌, ◌≤◌, ℕ, List, length, subst, sym, ap, arith}
-use Rattle.bs_top_plan.specs.declared.file.File.{File}
-use Rattle.bs_top_plan.specs.declared.file.File.TheVariants as files
-use Rattle.bs_top_plan.specs.Files.{file_word}
+use Rattle.bs_outside.specs.declared.file.File.{File}
+use Rattle.bs_outside.specs.declared.file.File.TheVariants as files
+use Rattle.bs_outside.specs.PlanFiles.{file_word}
 
 short : (file : File) → length (file_word file) ≤ 16
 short files.Netlist = omega arith

@@ -3,8 +3,8 @@ use Rattle.std.specs.Prelude.{◌≡◌, ℕ, List, [], ◌++◌, codes, decimal
 use Rattle.std.specs.declared.io.ErrorKind.{ErrorKind}
 use Rattle.std.specs.declared.io.ErrorKind.TheVariants.{BrokenPipe}
 use Rattle.bs_stim.specs.Runs.{Stimulus, run_at}
-use Rattle.bs_top_plan.specs.declared.file.File.{File}
-use Rattle.bs_top_plan.specs.Files.{file_word, limit_of}
+use Rattle.bs_outside.specs.declared.file.File.{File}
+use Rattle.bs_outside.specs.PlanFiles.{file_word, limit_of}
 use Rattle.bs_note_files.specs.Notes.{file_text, pair_text, plain_text}
 use Rattle.bs_note_calls.specs.Reasons.{output_reason, unread_reason}
 
@@ -19,7 +19,8 @@ pub record IsUnreadNote (path note : List ℕ) : Type 0 where
 
 -- a file that is longer than its limit
 abbrev pub long_sentence : File → List ℕ
-long_sentence file = codes "the file has more bytes than a " ++ (file_word file ++ (codes " may have: " ++ decimal (limit_of file)))
+long_sentence file =
+    codes "the file has more bytes than a " ++ (file_word file ++ (codes " may have: " ++ (decimal (limit_of file) ++ codes "; is it another file, which stands in the wrong place?")))
 
 abbrev pub long_text : File → List ℕ → List ℕ
 long_text file path = file_text path (long_sentence file)

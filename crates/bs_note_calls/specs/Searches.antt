@@ -1,6 +1,6 @@
 -- Notes on searches for a state.
 use Rattle.std.specs.Prelude.{ℕ, List, ◌++◌, length, codes, decimal}
-use Rattle.bs_note_places.specs.Quotes.{shown_line}
+use Rattle.bs_net_names.specs.Quotes.{shown_line}
 use Rattle.bs_note_files.specs.Notes.{pair_text}
 use Rattle.bs_note_files.specs.Sayings.{width_text}
 use Rattle.bs_note_calls.specs.declared.miss.Miss.{Miss}

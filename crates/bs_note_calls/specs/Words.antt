@@ -1,13 +1,15 @@
 -- Notes on words that are no job.
-use Rattle.std.specs.Prelude.{◌≡◌, ℕ, ◌+◌, Bool, List, [], ◌∷◌, ◌++◌, codes, decimal, slice_index_or, if◌then◌else◌}
+use Rattle.std.specs.Prelude.{◌≡◌, ℕ, ◌+◌, Bool, List, [], ◌∷◌, ◌++◌, codes, decimal, slice_index_or, Option, Some, None, if◌then◌else◌}
 use Rattle.std.specs.List.{flat_map, list_any}
 use Rattle.std.specs.Str.{bytes_eq}
 use Rattle.std.specs.Borrow.{Bor}
 use Rattle.bs_bits.specs.Lines.{line}
-use Rattle.bs_note_places.specs.Quotes.{shown_line}
+use Rattle.bs_net_names.specs.Quotes.{shown_line}
+use Rattle.bs_net_names.specs.Splits.{Halves, first_split}
 use Rattle.bs_top_words.specs.declared.fault.WordFault.{WordFault}
 use Rattle.bs_top_words.specs.declared.fault.WordFault.TheVariants as W
 use Rattle.bs_top_words.specs.Faults.{command_of, IsWordFault}
+use Rattle.bs_top_words.specs.declared.limits.TheConstants.{VERSION}
 use Rattle.bs_note_files.specs.Notes.{pair_text, plain_text}
 
 -- a word with its number from 1, and what is said of it
@@ -65,21 +67,36 @@ is_companions command = list_any (λ o. bytes_eq o command) companions
 abbrev pub command_sentence : List ℕ → List ℕ
 command_sentence command = if is_companions command then codes "is a command of the program `backspace_inspect`" else codes "is no command"
 
+-- the options of the program `backspace_inspect`, none of which is one here; `--step` is taken for a misspelt `--steps`
+abbrev pub companion_options : List (List ℕ)
+companion_options =
+    codes "--all" ∷ codes "--only" ∷ codes "--clock" ∷ codes "--scope" ∷ codes "--map" ∷ codes "--bits" ∷ codes "--csv" ∷ codes "--from" ∷ codes "--to" ∷ codes "--last" ∷ codes "--cycle" ∷ codes "--time" ∷ codes "--signature" ∷ codes "--most" ∷ codes "--at" ∷ codes "--depth" ∷ codes "--flops" ∷ codes "--partial" ∷ codes "--length" ∷ []
+
+abbrev pub before_sign : List ℕ → Option Halves → List ℕ
+before_sign word None = word
+before_sign word (Some h) = h.before
+
+-- a word gives one of them: it is its name, or begins with that and `=`
+abbrev pub is_companions_option : List ℕ → Bool
+is_companions_option word = list_any (λ o. bytes_eq o (before_sign word (first_split 61 word))) companion_options
+
+-- what is said of a word that begins as an option, and is none of the command
+abbrev pub option_sentence : List ℕ → List ℕ
+option_sentence word =
+    if is_companions_option word then codes "is an option of the program `backspace_inspect`" else codes "is no option of this command"
+
 -- ---- help and the version
 
--- the words that ask for help
+-- the words that ask for help or for the version
 abbrev pub helps : List (List ℕ)
-helps = codes "help" ∷ codes "-h" ∷ codes "--help" ∷ []
-
--- and for the version
-abbrev pub versions : List (List ℕ)
-versions = codes "version" ∷ codes "-V" ∷ codes "--version" ∷ []
+helps = codes "help" ∷ codes "-h" ∷ codes "--help" ∷ codes "version" ∷ codes "-V" ∷ codes "--version" ∷ []
 
 abbrev pub is_help : List ℕ → Bool
 is_help command = list_any (λ o. bytes_eq o command) helps
 
-abbrev pub is_version : List ℕ → Bool
-is_version command = list_any (λ o. bytes_eq o command) versions
+-- the name of the program and its version
+abbrev pub version_sentence : List ℕ
+version_sentence = codes "backspace " ++ decimal VERSION
 
 -- a command, and what it writes
 pub record Purpose : Type 0 where
@@ -101,29 +118,31 @@ purposes =
     ∷ []
 
 -- how each command is used, and what it writes
-abbrev pub help_text : List ℕ
-help_text =
+abbrev pub usages_text : List ℕ
+usages_text =
     plain_text (codes "the commands of `backspace`; options stand anywhere behind a command")
     ++ (flat_map (λ p. line (usage p.command) ++ line (codes "writes " ++ p.writes)) purposes
     ++ plain_text (codes "`backspace_inspect help` tells how the commands are used that make and show its files"))
 
--- the version of the program
-abbrev pub version_text : List ℕ
-version_text = plain_text (codes "backspace 1")
+-- the version, and how each command is used
+abbrev pub help_text : List ℕ
+help_text = plain_text version_sentence ++ usages_text
 
 -- the note on a first word that is no command
 abbrev pub command_text : List ℕ → List ℕ
-command_text command =
-    if is_help command then help_text
-    else (if is_version command then version_text else named_text 0 command (command_sentence command) (usage command))
+command_text command = if is_help command then help_text else named_text 0 command (command_sentence command) (usage command)
 
 -- ---- the note
+
+-- the note on a word that begins as an option, and is none of the command
+abbrev pub option_text : ℕ → List ℕ → List ℕ → List ℕ
+option_text at word usage = named_text at word (option_sentence word) usage
 
 -- the note on what is wrong with words
 abbrev pub fault_text : List (List ℕ) → WordFault → List ℕ
 fault_text words W.Absent = pair_text (codes "there are no words") (usage (command_of words))
 fault_text words W.Command = command_text (command_of words)
-fault_text words (W.Option at) = named_text at (slice_index_or words at []) (codes "is no option of this command") (usage (command_of words))
+fault_text words (W.Option at) = option_text at (slice_index_or words at []) (usage (command_of words))
 fault_text words (W.Value at) =
     named_text at (slice_index_or words at [])
     (codes "wants a number in digits: --steps and --candidates 1 to 65536, --conflicts 1 to 2^40") (usage (command_of words))

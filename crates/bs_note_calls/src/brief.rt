@@ -1,12 +1,12 @@
 //! A note that takes no memory: its bytes lie in the value itself.
 ghost use Rattle.std.specs.Prelude.{◌≡◌, ◌<◌, ◌≤◌, ◌+◌, ◌++◌, codes, decimal, length, take};
-ghost use Rattle.bs_note_places.specs.Quotes.{digit, is_printable, shown_byte, shown_line};
-ghost use Rattle.bs_note_places.specs.declared.quoted_line.TheConstants.{SHOWN};
+ghost use Rattle.bs_net_names.specs.Quotes.{digit, is_printable, shown_byte, shown_line};
+ghost use Rattle.bs_net_names.specs.declared.quoted_line.TheConstants.{SHOWN};
 ghost use Rattle.bs_note_files.specs.Notes.{file_text, pair_text, plain_text};
 ghost use Rattle.bs_note_calls.specs.declared.brief.TheConstants.{ROOM};
 
 use arrayvec::ArrayVec;
-use bs_note_places::SHOWN;
+use bs_net_names::SHOWN;
 use itoa::Buffer;
 use std::marker::Model;
 

@@ -1,7 +1,7 @@
 //! Notes on files that do not read, on an output that does not take the answer, on a report that is not valid, and on a moment that no
 //! run has.
 ghost use Rattle.std.specs.Prelude.{◌≡◌, ◌≤◌, ◌++◌, codes, decimal, length, IfOk, OnOk};
-ghost use Rattle.bs_top_plan.specs.Files.{file_word};
+ghost use Rattle.bs_outside.specs.PlanFiles.{file_word};
 ghost use Rattle.bs_note_calls.specs.Faults.{closed_sentence, cycles_of, cycles_text, IsOutputNote, kind_text, large_text, long_sentence, long_text};
 ghost use Rattle.bs_note_calls.specs.Faults.{output_sentence, output_text, partial_text, range_text, rejected_text, unread_text};
 
@@ -9,8 +9,8 @@ use crate::brief::{Brief, brief_on_file, brief_pair, brief_plain};
 use crate::reason::{output_reason, unread_reason};
 use bs_bits::{NoMemory, push_number, push_piece};
 use bs_note_files::{file_note, pair_note};
+use bs_outside::File;
 use bs_stim::Runs;
-use bs_top_plan::File;
 use std::alloc::Global;
 use std::io::ErrorKind;
 
@@ -23,20 +23,21 @@ pub fn unread_note(kind: Option<ErrorKind>, path: &str) -> Brief
 
 /// The end of what is said of a file that is longer than its limit.
 fn limit_words(limit: u64) -> Brief
-    ensures text { result ≡ codes " may have: " ++ decimal limit }
-    ensures short { length result ≤ 31 }
+    ensures text { result ≡ codes " may have: " ++ (decimal limit ++ codes "; is it another file, which stands in the wrong place?") }
+    ensures short { length result ≤ 96 }
 {
     let mut said = Brief::of(b" may have: ");
     said.push_number(limit);
+    said.push(b"; is it another file, which stands in the wrong place?");
     said
 }
 
 /// What is said of a file of this kind, with such an end.
 fn limit_sentence(word: &[u8], end: &[u8]) -> Brief
     requires word { length word.now ≤ 16 }
-    requires end { length end.now ≤ 31 }
+    requires end { length end.now ≤ 96 }
     ensures text { result ≡ codes "the file has more bytes than a " ++ (word.now ++ end.now) }
-    ensures short { length result ≤ 100 }
+    ensures short { length result ≤ 160 }
 {
     let mut said = Brief::of(b"the file has more bytes than a ");
     said.push(word);
@@ -56,7 +57,7 @@ fn word_of(file: File) -> &'static str
 /// What is said of a file that is longer than its limit.
 fn long_sentence(file: File) -> Brief
     ensures text { result ≡ long_sentence file }
-    ensures short { length result ≤ 100 }
+    ensures short { length result ≤ 160 }
 {
     let end = limit_words(file.limit());
     limit_sentence(word_of(file).as_bytes(), end.bytes())

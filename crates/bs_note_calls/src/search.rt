@@ -5,8 +5,8 @@ ghost use Rattle.bs_note_calls.specs.Searches.{miss_text, room_sentence, room_te
 use crate::brief::{Brief, brief_pair};
 use crate::miss::Miss;
 use bs_bits::{NoMemory, push_number, push_piece};
+use bs_net_names::push_quoted;
 use bs_note_files::{pair_note, width_sentence};
-use bs_note_places::push_quoted;
 use std::alloc::Global;
 
 /// A note on a search that has no execution.

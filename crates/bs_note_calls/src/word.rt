@@ -1,13 +1,14 @@
 //! Words that are no job: what is wrong, at which word, and how the command is used. A request for help or for the version is none.
 ghost use Rattle.std.specs.Prelude.{◌≡◌, ◌<◌, ◌≤◌, ◌^◌, [], length, map, slice_index_or, string_bytes};
 ghost use Rattle.std.specs.Str.{bytes_eq};
+ghost use Rattle.bs_net_names.specs.Splits.{first_split};
 ghost use Rattle.bs_top_words.specs.Faults.{command_of, IsWordFault};
-ghost use Rattle.bs_note_calls.specs.Words.{command_sentence, command_text, counted_sentence, counted_text, fault_text, help_text, is_companions, is_help, is_version, IsWordsNote, listed_in, named_sentence, named_text};
-ghost use Rattle.bs_note_calls.specs.Words.{rest_sentence, unread_text, usage, version_text};
-ghost use Rattle.bs_note_calls.specs.declared.brief.TheConstants.{ROOM};
+ghost use Rattle.bs_note_calls.specs.Words.{before_sign, command_sentence, command_text, counted_sentence, counted_text, fault_text, help_text, is_companions, is_companions_option, is_help, IsWordsNote, listed_in, named_sentence, named_text, option_sentence, option_text};
+ghost use Rattle.bs_note_calls.specs.Words.{rest_sentence, unread_text, usage, usages_text, version_sentence};
 
-use crate::brief::{Brief, ROOM, brief_pair, brief_plain};
-use bs_top_words::{WordFault, word_fault};
+use crate::brief::{Brief, brief_pair, brief_plain};
+use bs_net_names::first_split;
+use bs_top_words::{VERSION, WordFault, word_fault};
 
 /// The commands of the program `backspace_inspect` that are none here.
 const COMPANIONS: [&str; 22] = [
@@ -35,13 +36,33 @@ const COMPANIONS: [&str; 22] = [
     "why",
 ];
 
-/// The words that ask for help.
-const HELPS: [&str; 3] = ["help", "-h", "--help"];
+/// The options of the program `backspace_inspect`, none of which is one here. `--step` is taken for a misspelt `--steps`.
+const COMPANION_OPTIONS: [&str; 19] = [
+    "--all",
+    "--only",
+    "--clock",
+    "--scope",
+    "--map",
+    "--bits",
+    "--csv",
+    "--from",
+    "--to",
+    "--last",
+    "--cycle",
+    "--time",
+    "--signature",
+    "--most",
+    "--at",
+    "--depth",
+    "--flops",
+    "--partial",
+    "--length",
+];
 
-/// The words that ask for the version.
-const VERSIONS: [&str; 3] = ["version", "-V", "--version"];
+/// The words that ask for help or for the version.
+const HELPS: [&str; 6] = ["help", "-h", "--help", "version", "-V", "--version"];
 
-/// What is said where help is asked for.
+/// What is said behind the version where one of them is given.
 const HELP: &str = "note: the commands of `backspace`; options stand anywhere behind a command\n\
     usage: backspace run NETLIST SIGNATURE STIMULUS DUMP [--steps L] [--candidates K] [--conflicts B]\n\
     writes the report of the way back from the dump, state by state\n\
@@ -133,6 +154,49 @@ fn command_sentence(command: &str) -> &'static str
     }
 }
 
+/// Whether a name stands in a table.
+fn named_in(name: &[u8], table: &[&str]) -> bool
+    ensures { result ≡ listed_in name.now table.now }
+{
+    table.iter().any(|other| is_text(*other, name))
+}
+
+/// Whether a text has these bytes.
+fn is_text(text: &str, bytes: &[u8]) -> bool
+    ensures { result ≡ bytes_eq text.now bytes.now }
+{
+    text.as_bytes() == bytes
+}
+
+/// The name of the option that a word gives: what stands before its first `=`.
+fn option_name(word: &[u8]) -> &[u8]
+    ensures { result.now ≡ before_sign word.now (first_split 61 word.now) }
+{
+    match first_split(b'=', word) {
+        Some((name, _)) => name,
+        None => word,
+    }
+}
+
+/// Whether a word gives an option of the program `backspace_inspect`.
+fn is_companions_option(word: &str) -> bool
+    ensures { result ≡ is_companions_option word.now }
+{
+    named_in(option_name(word.as_bytes()), &COMPANION_OPTIONS)
+}
+
+/// What is said of a word that begins as an option, and is none of the command.
+fn option_sentence(word: &str) -> &'static str
+    ensures text { result.now ≡ option_sentence word.now }
+    ensures short { length result.now ≤ 96 }
+{
+    if is_companions_option(word) {
+        "is an option of the program `backspace_inspect`"
+    } else {
+        "is no option of this command"
+    }
+}
+
 /// What is said of a word: its number from 1, the word, and a sentence.
 fn named_sentence(at: usize, word: &str, sentence: &str) -> Brief
     requires at { at < 2 ^ 63 }
@@ -160,40 +224,48 @@ fn named_note(at: usize, word: &str, sentence: &str, usage: &str) -> Brief
     brief_pair(said.bytes(), usage.as_bytes())
 }
 
+/// A note on a word that begins as an option, and is none of the command.
+fn option_note(at: usize, word: &str, usage: &str) -> Brief
+    requires at { at < 2 ^ 63 }
+    requires usage { length usage.now ≤ 256 }
+    ensures { result ≡ option_text at word.now usage.now }
+{
+    named_note(at, word, option_sentence(word), usage)
+}
+
+/// The name of the program and its version.
+fn version_sentence() -> Brief
+    ensures text { result ≡ version_sentence }
+    ensures short { length result ≤ 64 }
+{
+    let mut said = Brief::of(b"backspace ");
+    said.push_number(VERSION);
+    said
+}
+
 /// How each command is used, and what it writes.
-fn help_words() -> &'static str
-    ensures text { result.now ≡ help_text }
-    ensures short { length result.now ≤ ROOM }
+fn usage_words() -> &'static str
+    ensures text { result.now ≡ usages_text }
+    ensures short { length result.now ≤ 1152 }
 {
     HELP
 }
 
-/// A note on how each command is used.
+/// A note on the version, and on how each command is used.
 fn help_note() -> Brief
     ensures { result ≡ help_text }
 {
-    Brief::of(help_words().as_bytes())
+    let said = version_sentence();
+    let mut note = brief_plain(said.bytes());
+    note.push(usage_words().as_bytes());
+    note
 }
 
-/// A note on the version of the program.
-fn version_note() -> Brief
-    ensures { result ≡ version_text }
-{
-    brief_plain(b"backspace 1")
-}
-
-/// Whether a word asks for help.
+/// Whether a word asks for help or for the version.
 fn is_help(command: &str) -> bool
     ensures { result ≡ is_help command.now }
 {
     listed_in(command, &HELPS)
-}
-
-/// Whether a word asks for the version.
-fn is_version(command: &str) -> bool
-    ensures { result ≡ is_version command.now }
-{
-    listed_in(command, &VERSIONS)
 }
 
 /// A note on a first word that is no command: what is asked for, where it asks for help or the version.
@@ -202,9 +274,6 @@ fn command_note(command: &str) -> Brief
 {
     if is_help(command) {
         return help_note();
-    }
-    if is_version(command) {
-        return version_note();
     }
     named_note(0, command, command_sentence(command), usage(command))
 }
@@ -258,12 +327,7 @@ fn fault_note(words: &[String], fault: WordFault) -> Brief
     match fault {
         WordFault::Absent => brief_pair(b"there are no words", usage.as_bytes()),
         WordFault::Command => command_note(command),
-        WordFault::Option(at) => named_note(
-            at,
-            word_at(words, at),
-            "is no option of this command",
-            usage,
-        ),
+        WordFault::Option(at) => option_note(at, word_at(words, at), usage),
         WordFault::Value(at) => named_note(
             at,
             word_at(words, at),

@@ -1,2 +1,4 @@
 pub mod NoteLemmas
 pub mod SignatureLemmas
+pub mod BeforeLemmas
+pub mod KindLemmas

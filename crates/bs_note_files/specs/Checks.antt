@@ -10,8 +10,8 @@ use Rattle.bs_net.specs.declared.fault.Count.{Count}
 use Rattle.bs_net.specs.declared.fault.Count.TheVariants.{Flops, Inputs, Terminals}
 use Rattle.bs_net.specs.declared.fault.NetFault.{NetFault}
 use Rattle.bs_net.specs.declared.fault.NetFault.TheVariants as net
-use Rattle.bs_note_places.specs.Nearest.{net_key}
-use Rattle.bs_note_places.specs.Quotes.{shown_line}
+use Rattle.bs_net_names.specs.Nearest.{net_key}
+use Rattle.bs_net_names.specs.Quotes.{shown_line}
 use Rattle.bs_note_files.specs.declared.check.TheConstants.{RING}
 use Rattle.bs_note_files.specs.Notes.{saying, file_text, IsNoteOn}
 use Rattle.bs_note_files.specs.Parts.{before, behind, IsFirstPlace, NoneOf}

@@ -3,7 +3,7 @@ use Rattle.std.specs.Prelude.{◌≡◌, ℕ, List, [], ◌++◌, codes, decimal
 use Rattle.std.specs.List.{flat_map}
 use Rattle.bs_flat_meaning.specs.declared.fault.FlatFault.{FlatFault}
 use Rattle.bs_flat_meaning.specs.declared.fault.FlatFault.TheVariants as flat
-use Rattle.bs_note_places.specs.Quotes.{shown_line}
+use Rattle.bs_net_names.specs.Quotes.{shown_line}
 use Rattle.bs_note_files.specs.declared.check.TheConstants.{RING}
 use Rattle.bs_note_files.specs.Checks.{IsKeyNote}
 use Rattle.bs_note_files.specs.Netlists.{IsNetlistNote}

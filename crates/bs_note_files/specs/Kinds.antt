@@ -1,11 +1,22 @@
--- Which file of a job a text seems to be, by its first word.
-use Rattle.std.specs.Prelude.{ℕ, ◌==◌, List, ◌++◌, codes, nat_eq, Option, Some, None, if◌then◌else◌}
-use Rattle.std.specs.List.{starts_with}
+-- Which file of a job a text seems to be, by its first word, or by a line that begins a module.
+use Rattle.std.specs.Prelude.{ℕ, ◌==◌, Bool, List, ◌++◌, codes, nat_eq, Option, Some, None, if◌then◌else◌}
+use Rattle.std.specs.List.{list_any, starts_with}
 use Rattle.std.specs.Option.{option_and_then}
-use Rattle.bs_top_plan.specs.declared.file.File.{File}
-use Rattle.bs_top_plan.specs.declared.file.File.TheVariants.{Netlist, Signature, Stimulus, Dump, Report, State, Vcd, Map, Name}
-use Rattle.bs_top_plan.specs.Files.{file_word}
+use Rattle.bs_bits.specs.Lines.{lines_of}
+use Rattle.bs_outside.specs.declared.file.File.{File}
+use Rattle.bs_outside.specs.declared.file.File.TheVariants.{Netlist, Signature, Stimulus, Dump, Report, State, Vcd, Map, Name}
+use Rattle.bs_outside.specs.PlanFiles.{file_word}
 use Rattle.bs_note_files.specs.Notes.{file_text}
+
+abbrev pub begins_module : List ℕ → Bool
+begins_module line = starts_with nat_eq line (codes "module ")
+
+-- some line begins a module, as behind a comment
+abbrev pub has_module : List ℕ → Bool
+has_module text = list_any begins_module (lines_of text)
+
+abbrev pub kind_of_lines : List ℕ → Option File
+kind_of_lines text = if has_module text then Some Netlist else None
 
 abbrev pub kind_of : List ℕ → Option File
 kind_of text =
@@ -17,7 +28,7 @@ kind_of text =
     else (if starts_with nat_eq text (codes "state ") then Some Dump
     else (if starts_with nat_eq text (codes "backspace ") then Some Report
     else (if starts_with nat_eq text (codes "$") then Some Vcd
-    else None)))))))
+    else kind_of_lines text)))))))
 
 -- the place of a file among the names of a job
 abbrev pub rank : File → ℕ
@@ -38,16 +49,22 @@ other_than file kind = if rank kind == rank file then None else Some kind
 abbrev pub mistaken : File → List ℕ → Option File
 mistaken file text = option_and_then (λ (kind : File). other_than file kind) (kind_of text)
 
+-- what to do with value changes that are given as this file
+abbrev pub vcd_advice : File → List ℕ
+vcd_advice file =
+    if rank file == rank Dump then codes " of a simulator; `backspace_inspect dump NETLIST VCD --cycle N` makes a dump of one"
+    else codes " of a simulator; `backspace_inspect stimulus NETLIST VCD --clock NAME` makes a stimulus of one"
+
 -- what to do with it
-abbrev pub mistaken_advice : File → List ℕ
-mistaken_advice kind =
-    if rank kind == rank Vcd then codes " of a simulator; `backspace_inspect stimulus NETLIST VCD --clock NAME` makes a stimulus of one"
+abbrev pub mistaken_advice : File → File → List ℕ
+mistaken_advice file kind =
+    if rank kind == rank Vcd then vcd_advice file
     else codes "; the files stand in the order NETLIST SIGNATURE STIMULUS DUMP REPORT"
 
 -- what is said of a file that seems to be another one
 abbrev pub mistaken_sentence : File → File → List ℕ
 mistaken_sentence file kind =
-    codes "given as the " ++ (file_word file ++ (codes ", this file begins like a " ++ (file_word kind ++ mistaken_advice kind)))
+    codes "given as the " ++ (file_word file ++ (codes ", this file begins like a " ++ (file_word kind ++ mistaken_advice file kind)))
 
 abbrev pub mistaken_text : File → File → List ℕ → List ℕ
 mistaken_text file kind path = file_text path (mistaken_sentence file kind)

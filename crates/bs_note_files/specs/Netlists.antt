@@ -1,5 +1,5 @@
 -- Notes on a text of one module that is no netlist.
-use Rattle.std.specs.Prelude.{ℕ, List, slice_get}
+use Rattle.std.specs.Prelude.{ℕ, List}
 use Rattle.bs_verilog_syntax.specs.declared.fault.VerilogFault.{VerilogFault}
 use Rattle.bs_verilog_syntax.specs.declared.fault.VerilogFault.TheVariants as verilog
 use Rattle.bs_note_files.specs.Notes.{Saying, IsNoteOn}
@@ -18,7 +18,7 @@ place_of verilog.NoMemory = 0
 
 -- what is said of it
 abbrev pub fault_saying : List ℕ → VerilogFault → Saying
-fault_saying text (verilog.Syntax at) = syntax_saying (slice_get text at)
+fault_saying text (verilog.Syntax at) = syntax_saying text at
 fault_saying text (verilog.Unsupported at what) = what_saying text at what
 fault_saying text (verilog.Port at) = port_saying
 fault_saying text (verilog.Redeclared at) = redeclared_saying

@@ -1,8 +1,8 @@
 -- The forms of a note: each of its lines ends with a line feed.
 use Rattle.std.specs.Prelude.{◌≡◌, ℕ, ◌-◌, List, ◌++◌, length, min, take, drop, codes, decimal}
-use Rattle.bs_note_places.specs.declared.spot.Spot.{Spot}
-use Rattle.bs_note_places.specs.Spots.{IsSpot}
-use Rattle.bs_note_places.specs.Quotes.{caret, shown_line}
+use Rattle.bs_net_names.specs.declared.spot.Spot.{Spot}
+use Rattle.bs_net_names.specs.Spots.{IsSpot}
+use Rattle.bs_net_names.specs.Quotes.{caret, shown_line}
 use Rattle.bs_note_files.specs.declared.form.Message.{Message}
 
 -- what is said of a place: a sentence, and a few words behind the caret

@@ -2,8 +2,8 @@
 use Rattle.std.specs.Prelude.{◌≡◌, ◌<◌, ◌+◌, ◌==◌, ℕ, List, take, drop, Bool, true, false, Option}
 use Rattle.std.specs.List.{position}
 use Rattle.std.specs.Option.{option_map_or}
-use Rattle.bs_note_places.specs.declared.spot.Spot.{Spot}
-use Rattle.bs_note_places.specs.Spots.{IsLineStart, IsSpot}
+use Rattle.bs_net_names.specs.declared.spot.Spot.{Spot}
+use Rattle.bs_net_names.specs.Spots.{IsLineStart, IsSpot}
 use Rattle.bs_note_files.specs.Notes.{line_at}
 
 -- the place of the first byte that is this one

@@ -4,7 +4,7 @@ use Rattle.std.specs.List.{list_all, starts_with}
 use Rattle.std.specs.Str.{bytes_eq}
 use Rattle.bs_verilog_syntax.specs.declared.fault.What.{What}
 use Rattle.bs_verilog_syntax.specs.declared.fault.What.TheVariants as what
-use Rattle.bs_note_files.specs.Checks.{stands_at}
+use Rattle.bs_note_files.specs.Before.{declares_near, is_own, is_word}
 use Rattle.bs_note_files.specs.Notes.{Saying, saying}
 
 -- ---- a line at sight
@@ -34,10 +34,6 @@ abbrev pub is_escaped : Option ℕ → Bool
 is_escaped None = false
 is_escaped (Some b) = b == 92
 
--- the word stands at a place of a text
-abbrev pub is_word : List ℕ → ℕ → List ℕ → Bool
-is_word text at word = nat_lt at (length text) && stands_at text word at
-
 -- a word with which SystemVerilog declares
 abbrev pub declares : List ℕ → ℕ → Bool
 declares text at = is_word text at (codes "logic") || (is_word text at (codes "typedef") || is_word text at (codes "enum"))
@@ -55,15 +51,19 @@ abbrev pub behaviour_saying : Saying
 behaviour_saying =
     saying (codes "behavioural Verilog is left out") (codes "synthesize it, and map it to gates and flip-flops, as examples/yosys/synth.sh does both")
 
--- a name at a place of a text that is no gate and no cell: an escaped one, a word of RTL, or another one
+abbrev pub own_saying : Saying
+own_saying = saying (codes "the module instances itself: a ring of one module") (codes "no module may stand in itself")
+
+-- a name at a place of a text that is no gate and no cell: an escaped one, that of the module itself, a word of RTL, or another one
 abbrev pub cell_saying : List ℕ → ℕ → Saying
 cell_saying text at =
     if is_escaped (slice_get text at) then saying (codes "an escaped name is no gate and no cell: `\\not` is another name than `not`")
     (codes "map cells to gates and take the `\\` out of their names: examples/yosys/synth.sh does both")
+    else (if is_own text at then own_saying
     else (if declares text at then rtl_saying
     else (if begins_block text at then behaviour_saying
     else saying (codes "no cell of this name is known")
-    (codes "cells are dff and dffs (CK, Q, D), dffe (E too), dffr (R too), gates and nand or nor xor xnor buf not: flatten and map to these (docs/FORMATS.md)")))
+    (codes "cells are dff and dffs (CK, Q, D), dffe (E too), dffr (R too), gates and nand or nor xor xnor buf not: flatten and map to these (docs/FORMATS.md)"))))
 
 -- a part of the language that is left out, at a place of a text
 abbrev pub what_saying : List ℕ → ℕ → What → Saying
@@ -89,11 +89,11 @@ abbrev pub is_binary : ℕ → Bool
 is_binary b = (nat_lt b 32 && not (nat_lt 8 b && nat_lt b 14)) || nat_lt 126 b
 
 -- a byte that cannot go on, or the text's end
-abbrev pub syntax_saying : Option ℕ → Saying
-syntax_saying None =
+abbrev pub place_saying : Option ℕ → Saying
+place_saying None =
     saying (codes "the text ends before its module does")
     (codes "is the netlist cut short, or `endmodule` missing? is it empty, as by a shell's `> FILE` of the file that is read?")
-syntax_saying (Some b) =
+place_saying (Some b) =
     if b == 239 then mark_saying
     else (if b == 36 then saying (codes "no cell of this name is known")
     (codes "cells are dff and dffs (CK, Q, D), dffe (E too), dffr (R too): flatten and map to these (docs/FORMATS.md, Netlists)")
@@ -103,6 +103,15 @@ syntax_saying (Some b) =
     else (if is_binary b then saying (codes "a byte that no text has: is this file packed or binary?") (codes "give the text of a structural netlist")
     else saying (codes "what begins here cannot stand here")
     (codes "is a `;` missing before it? is this RTL or SystemVerilog? synthesize it, as by examples/yosys/synth.sh (docs/FORMATS.md, Netlists)")))))
+
+abbrev pub header_saying : Saying
+header_saying =
+    saying (codes "this word, or the one before it, is one of SystemVerilog or RTL, as logic, bit, var, int, signed, reg or integer")
+    (codes "synthesize and map it, as examples/yosys/synth.sh does; in a netlist write wire or nothing in its place")
+
+-- a place of a text that cannot go on
+abbrev pub syntax_saying : List ℕ → ℕ → Saying
+syntax_saying text at = if declares_near text at then header_saying else place_saying (slice_get text at)
 
 abbrev pub port_saying : Saying
 port_saying =
@@ -222,6 +231,13 @@ abbrev pub report_saying : Saying
 report_saying =
     saying (codes "this line is not of a form that its place in a report allows")
     (codes "a report is what `run` writes, unchanged (docs/FORMATS.md, Report)")
+
+abbrev pub answer_saying : Saying
+answer_saying = saying (codes "this is an answer of `reach`, and no report") (codes "`backspace_inspect trace NETLIST REPORT` shows it")
+
+-- the form of a line
+abbrev pub report_form : List ℕ → Saying
+report_form line = if starts_with nat_eq line (codes "reach ") then answer_saying else report_saying
 
 abbrev pub short_saying : Saying
 short_saying = saying (codes "the text ends before the line `end` of a report is whole") (codes "was the report cut short, as by a full disk?")

@@ -1,32 +1,28 @@
 -- Notes on a text that is no signature.
-use Rattle.std.specs.Prelude.{◌≡◌, ◌≢◌, ◌⊎◌, ◌≤◌, ◌<◌, ◌+◌, ◌-◌, ◌==◌, ◌||◌, ℕ, List, ◌++◌, codes, length, max, take, drop, slice_index, nat_eq, true, false, if◌then◌else◌}
+use Rattle.std.specs.Prelude.{◌≡◌, ◌⊎◌, ◌≤◌, ◌<◌, ◌+◌, ◌-◌, ◌==◌, ◌||◌, ◌&&◌, ℕ, Bool, List, ◌++◌, is_none, codes, length, max, take, drop, slice_index, nat_eq, true, false, if◌then◌else◌}
 use Rattle.std.specs.List.{flat_map, starts_with}
+use Rattle.bs_bits.specs.Lines.{is_name}
 use Rattle.bs_net.specs.Parts.{Parts}
+use Rattle.bs_scan.specs.ChoiceText.{flop_named}
 use Rattle.bs_scan.specs.declared.fault.ChoiceFault.{ChoiceFault}
 use Rattle.bs_scan.specs.declared.fault.ChoiceFault.TheVariants as choice
 use Rattle.bs_net_names.specs.Rtl.{rtl_name}
-use Rattle.bs_note_places.specs.Nearest.{AreNearest, key_at}
-use Rattle.bs_note_places.specs.Quotes.{shown_line}
+use Rattle.bs_net_names.specs.Nearest.{AreNearest, key_at}
+use Rattle.bs_net_names.specs.Quotes.{shown_line}
 use Rattle.bs_note_files.specs.Notes.{Saying, saying, file_text, IsNoteOn}
 use Rattle.bs_note_files.specs.Flaws.{IsLineNote, IsStartNote}
 use Rattle.bs_note_files.specs.Parts.{IsNumbered}
 use Rattle.bs_note_files.specs.Sayings.{choice_saying, comment_saying, item_saying, line_saying, items_saying}
 
--- no flip-flop has this key
-pub record IsNoKey (r : Parts) (name : List ℕ) : Type 0 where
-  pub none : (flop : ℕ) → flop < length r.flops → key_at r flop ≢ name
-
--- a flip-flop has this key
-pub record IsKey (r : Parts) (name : List ℕ) : Type 0 where
-  pub flop : ℕ
-  pub there : flop < length r.flops
-  pub is : key_at r flop ≡ name
+-- whether a word is a name that no flip-flop has (docs/FORMATS.md, "Signature")
+abbrev pub is_unknown : Parts → List ℕ → Bool
+is_unknown r word = is_name word && is_none (flop_named r word)
 
 -- the key of a flip-flop, as it is named
 abbrev pub key_piece : Parts → ℕ → List ℕ
 key_piece r flop = codes " " ++ shown_line (key_at r flop)
 
--- what is said of a name that is no key
+-- what is said of a name that no flip-flop has
 abbrev pub unknown_sentence : List ℕ → List ℕ
 unknown_sentence name = codes "no flip-flop has the key `" ++ (shown_line name ++ codes "`, the name of its output net")
 
@@ -47,17 +43,17 @@ pub record IsWord (line : List ℕ) (word : ℕ × ℕ) : Type 0 where
   pub inside : (k : ℕ) → word.0 ≤ k → k < word.1 → (slice_index line k == 32) ≡ false
   pub ends : (word.1 ≡ length line) ⊎ ((slice_index line word.1 == 32) ≡ true)
 
--- a word of the line that no flip-flop has as its key, and each word before it but the line's first is one's key
+-- a word of the line that is a name and no flip-flop's, and no word before it but the line's first is one
 pub record IsUnknownWord (r : Parts) (line : List ℕ) (word : ℕ × ℕ) : Type 0 where
   pub is : IsWord line word
-  pub unknown : IsNoKey r (word_in line word)
-  pub first : (other : ℕ × ℕ) → IsWord line other → other.0 < word.0 → IsKey r (word_in line other)
+  pub unknown : is_unknown r (word_in line word) ≡ true
+  pub first : (other : ℕ × ℕ) → IsWord line other → other.0 < word.0 → is_unknown r (word_in line other) ≡ false
 
--- each word of the line but its first is the key of a flip-flop
-pub record AreKeys (r : Parts) (line : List ℕ) : Type 0 where
-  pub each : (word : ℕ × ℕ) → IsWord line word → IsKey r (word_in line word)
+-- no word of the line but its first is a name and no flip-flop's
+pub record AreKnown (r : Parts) (line : List ℕ) : Type 0 where
+  pub each : (word : ℕ × ℕ) → IsWord line word → is_unknown r (word_in line word) ≡ false
 
--- the note names this name as no key, and the netlist's keys that are nearest to it, as RTL writes both
+-- the note names this name as no flip-flop's, and the netlist's keys that are nearest to it, as RTL writes both
 pub record SaysUnknown (r : Parts) (path text : List ℕ) (at : ℕ) (name note : List ℕ) : Type 0 where
   pub flops : List ℕ
   pub nearest : AreNearest r (rtl_name name) flops
@@ -69,19 +65,19 @@ pub record IsUnknownOn (r : Parts) (path text : List ℕ) (start : ℕ) (line no
   pub is : IsUnknownWord r line word
   pub named : SaysUnknown r path text (start + word.0) (word_in line word) note
 
--- a note on the line with a number, in which a name is no key
+-- a note on the line with a number, in which a name is no flip-flop's
 pub record IsUnknownIn (r : Parts) (path text : List ℕ) (number : ℕ) (note : List ℕ) : Type 0 where
   pub start : ℕ
   pub line : List ℕ
   pub numbered : IsNumbered text (max number 1) start line
   pub named : IsUnknownOn r path text start line note
 
--- a note on the file, where each word of the line with that number but its first is a key
+-- a note on the file, where each name behind the first word of the line with that number is a flip-flop's
 pub record IsKnownIn (r : Parts) (path text : List ℕ) (number : ℕ) (note : List ℕ) : Type 0 where
   pub start : ℕ
   pub line : List ℕ
   pub numbered : IsNumbered text (max number 1) start line
-  pub keys : AreKeys r line
+  pub known : AreKnown r line
   pub written : note ≡ file_text path (codes "a name is no flip-flop's key")
 
 abbrev pub IsUnknownNote : Parts → List ℕ → List ℕ → ℕ → List ℕ → Type 0

@@ -11,7 +11,7 @@ use Rattle.bs_note_files.specs.Notes.{Saying, saying, file_text, IsNoteOn}
 use Rattle.bs_note_files.specs.Flaws.{IsLineNote, IsStartNote}
 use Rattle.bs_note_files.specs.Parts.{behind}
 use Rattle.bs_note_files.specs.Sayings.{run_form, inputs_saying, count_saying, runs_saying, cycles_saying, bits_in, width_text, dump_form}
-use Rattle.bs_note_files.specs.Sayings.{reset_saying, report_saying, short_saying}
+use Rattle.bs_note_files.specs.Sayings.{reset_saying, report_form, short_saying}
 
 abbrev pub IsStimNote : List ℕ → List ℕ → ℕ → StimFault → List ℕ → Type 0
 IsStimNote path text width stimulus.NoRun note = note ≡ file_text path (codes "the file has no run")
@@ -44,7 +44,7 @@ IsDumpNote path text widths dump.NotReset note = IsNoteOn path text 0 reset_sayi
 IsDumpNote path text widths dump.NoMemory note = note ≡ file_text path (codes "memory ran out")
 
 abbrev pub IsReportNote : List ℕ → List ℕ → ReportFault → List ℕ → Type 0
-IsReportNote path text (report.Line number) note = IsLineNote path text number (λ line. report_saying) note
+IsReportNote path text (report.Line number) note = IsLineNote path text number report_form note
 IsReportNote path text report.Short note = IsNoteOn path text (length text) short_saying note
 IsReportNote path text report.Extra note =
     note ≡ file_text path (codes "bytes follow the line `end` of the report: a file holds one report and nothing else")

@@ -1,8 +1,8 @@
 //! Notes on a netlist that its check refuses.
 ghost use Rattle.std.specs.Prelude.{◌≡◌, ◌≤◌, ◌++◌, codes, decimal, length, take, slice_get, IfOk, IfNone, IfSome, OnOk};
 ghost use Rattle.bs_net.specs.Netlist.{parts_of};
-ghost use Rattle.bs_note_places.specs.Nearest.{net_key};
-ghost use Rattle.bs_note_places.specs.Quotes.{shown_line};
+ghost use Rattle.bs_net_names.specs.Nearest.{net_key};
+ghost use Rattle.bs_net_names.specs.Quotes.{shown_line};
 ghost use Rattle.bs_note_files.specs.Checks.{base_of, count_sentence, first_key, is_joined, is_of_name, IsCheckNote, IsKeyNote, IsNamePlace, IsNetNote, IsRingNote};
 ghost use Rattle.bs_note_files.specs.Checks.{joins_before, keyed_text, output_of, ring_piece, ring_text, stands_at};
 ghost use Rattle.bs_note_files.specs.Notes.{file_text};
@@ -12,7 +12,7 @@ use crate::form::{Message, file_note, name_sentence, note_on};
 use crate::part::{before, behind};
 use bs_bits::{NoMemory, push_number, push_piece};
 use bs_net::{Count, NetFault, NetId, Raw};
-use bs_note_places::push_quoted;
+use bs_net_names::push_quoted;
 use std::alloc::Global;
 
 /// How many nets of a ring are named at most. A note is to be read at a glance, and a part of the ring leads to the rest.
@@ -43,7 +43,7 @@ fn base_of(key: &[u8]) -> &[u8]
 }
 
 /// Whether a byte may stand in a name.
-fn is_of_name(byte: u8) -> bool
+pub(crate) fn is_of_name(byte: u8) -> bool
     ensures { result ≡ is_of_name byte }
 {
     b'0' <= byte && byte <= b'9'

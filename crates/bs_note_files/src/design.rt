@@ -9,7 +9,7 @@ use crate::form::{file_note, name_sentence, note_on, say};
 use crate::netlist::netlist_note;
 use bs_bits::{List, NoMemory, push_piece};
 use bs_flat_meaning::FlatFault;
-use bs_note_places::push_quoted;
+use bs_net_names::push_quoted;
 use std::alloc::Global;
 
 /// The first names of a ring of modules.

@@ -1,6 +1,6 @@
 //! Notes on a line of a text: on what is wrong at sight, a byte that is no character of it or a space too many, or else on its form.
 ghost use Rattle.std.specs.Prelude.{◌≡◌, ◌≤◌, ◌<◌, ℕ, length, false, IfNone, IfOk, IfSome};
-ghost use Rattle.bs_note_files.specs.Flaws.{FlawIs, is_stray, IsFlawNote, IsLineNote, IsStartNote, loose_at, stray_at};
+ghost use Rattle.bs_note_files.specs.Flaws.{FlawIs, is_stray, IsFlawNote, IsStartNote, loose_at, stray_at};
 ghost use Rattle.bs_note_files.specs.Notes.{said};
 ghost use Rattle.bs_note_files.specs.Parts.{IsFirstPlace, NoneOf};
 ghost use Rattle.bs_note_files.specs.Sayings.{packed_saying, stray_saying};
@@ -125,21 +125,6 @@ pub fn flaw_note(
         Some((k, message)) => note_on(alloc, path, text, start + k, message),
         None => note_on(alloc, path, text, start, form),
     }
-}
-
-/// A note on the line with a number, from 1, that is not of its form.
-pub fn line_note(
-    alloc: Global,
-    path: &str,
-    text: &[u8],
-    number: u64,
-    form: Message<'_>,
-) -> Result<Vec<u8>, NoMemory>
-    ensures { IfOk result (λ note. IsLineNote path.now text.now number (λ _. said form.entry) note.items) }
-{
-    let (start, line) = numbered_line(text, number);
-    let note = flaw_note(alloc, path, text, start, line, form)?;
-    Ok(note)
 }
 
 /// A note on the front of the line with a number, from 1.

@@ -1,11 +1,11 @@
 //! The forms of a note.
 ghost use Rattle.std.specs.Prelude.{◌≡◌, ◌<◌, ◌≤◌, ◌++◌, length, OnOk, IfOk};
-ghost use Rattle.bs_note_places.specs.Quotes.{shown_line};
-ghost use Rattle.bs_note_places.specs.Spots.{IsSpot};
+ghost use Rattle.bs_net_names.specs.Quotes.{shown_line};
+ghost use Rattle.bs_net_names.specs.Spots.{IsSpot};
 ghost use Rattle.bs_note_files.specs.Notes.{file_text, head_text, IsNoteOn, IsPlacedNote, line_at, pair_text, placed_text, plain_text, said, saying, shown_text};
 
 use bs_bits::{NoMemory, push_number, push_piece};
-use bs_note_places::{Spot, push_caret, push_quoted, spot_of};
+use bs_net_names::{Spot, push_caret, push_quoted, spot_of};
 use std::alloc::Global;
 
 /// What is said of a place: a sentence, and a few words behind the caret.

@@ -1,11 +1,44 @@
-//! Which file of a job a text seems to be, by its first word.
+//! Which file of a job a text seems to be, by its first word, or by a line that begins a module.
 ghost use Rattle.std.specs.Prelude.{◌≡◌, IfOk};
-ghost use Rattle.bs_note_files.specs.Kinds.{kind_of, mistaken, mistaken_advice, mistaken_sentence, mistaken_text, other_than, rank};
+ghost use Rattle.bs_note_files.specs.Kinds.{begins_module, has_module, kind_of, kind_of_lines, mistaken, mistaken_advice, mistaken_sentence, mistaken_text, other_than, rank, vcd_advice};
 
 use crate::form::file_note;
-use bs_bits::{NoMemory, push_piece};
-use bs_top_plan::File;
+use bs_bits::{NoMemory, next_line, push_piece};
+use bs_outside::File;
 use std::alloc::Global;
+
+/// Whether a line begins a module.
+fn begins_module(line: &[u8]) -> bool
+    ensures { result ≡ begins_module line.now }
+{
+    line.starts_with(b"module ".as_slice())
+}
+
+/// Whether some line of a text begins a module.
+#[tactic(auto, using(crate::proofs::KindLemmas::module_found, crate::proofs::KindLemmas::module_next, crate::proofs::KindLemmas::module_none))]
+fn has_module(text: &[u8]) -> bool
+    ensures { result ≡ has_module text.now }
+{
+    let mut rest = text;
+    'lines: while let Some((line, behind)) = next_line(rest) {
+        if begins_module(line) {
+            return true;
+        }
+        rest = behind;
+    }
+    false
+}
+
+/// A netlist, where some line of the text begins a module.
+fn kind_of_lines(text: &[u8]) -> Option<File>
+    ensures { result ≡ kind_of_lines text.now }
+{
+    if has_module(text) {
+        Some(File::Netlist)
+    } else {
+        None
+    }
+}
 
 /// The file that a text seems to be.
 fn kind_of_text(text: &[u8]) -> Option<File>
@@ -35,7 +68,7 @@ fn kind_of_text(text: &[u8]) -> Option<File>
     if text.starts_with(b"$".as_slice()) {
         return Some(File::Vcd);
     }
-    None
+    kind_of_lines(text)
 }
 
 /// The place of a file among the names of a job.
@@ -71,12 +104,23 @@ pub fn mistaken(file: File, text: &[u8]) -> Option<File>
     }
 }
 
-/// What to do with a file that seems to be another one.
-fn mistaken_advice(kind: File) -> &'static str
-    ensures { result.now ≡ mistaken_advice kind }
+/// What to do with value changes that are given as this file.
+fn vcd_advice(file: File) -> &'static str
+    ensures { result.now ≡ vcd_advice file }
+{
+    if rank(file) == rank(File::Dump) {
+        " of a simulator; `backspace_inspect dump NETLIST VCD --cycle N` makes a dump of one"
+    } else {
+        " of a simulator; `backspace_inspect stimulus NETLIST VCD --clock NAME` makes a stimulus of one"
+    }
+}
+
+/// What to do with a file that is given as this one, and seems to be another one.
+fn mistaken_advice(file: File, kind: File) -> &'static str
+    ensures { result.now ≡ mistaken_advice file kind }
 {
     if rank(kind) == rank(File::Vcd) {
-        " of a simulator; `backspace_inspect stimulus NETLIST VCD --clock NAME` makes a stimulus of one"
+        vcd_advice(file)
     } else {
         "; the files stand in the order NETLIST SIGNATURE STIMULUS DUMP REPORT"
     }
@@ -90,7 +134,7 @@ fn mistaken_sentence(alloc: Global, file: File, kind: File) -> Result<Vec<u8>, N
     push_piece(&mut said, file.word().as_bytes())?;
     push_piece(&mut said, b", this file begins like a ")?;
     push_piece(&mut said, kind.word().as_bytes())?;
-    push_piece(&mut said, mistaken_advice(kind).as_bytes())?;
+    push_piece(&mut said, mistaken_advice(file, kind).as_bytes())?;
     Ok(said)
 }
 

@@ -1,10 +1,11 @@
 //! Notes on a text of one module that is no netlist.
 ghost use Rattle.std.specs.Prelude.{◌≡◌, slice_get, IfOk, Some};
+ghost use Rattle.bs_note_files.specs.Before.{declares_near, is_own, is_word};
 ghost use Rattle.bs_note_files.specs.Netlists.{fault_saying, IsNetlistNote, place_of};
 ghost use Rattle.bs_note_files.specs.Notes.{said};
-ghost use Rattle.bs_note_files.specs.Sayings.{begins_block, behaviour_saying, cell_saying, declares, is_binary, is_escaped, is_word, syntax_saying, what_saying};
+ghost use Rattle.bs_note_files.specs.Sayings.{begins_block, behaviour_saying, cell_saying, declares, is_binary, is_escaped, place_saying, syntax_saying, what_saying};
 
-use crate::check::stands_at;
+use crate::before::{declares_near, is_own, is_word};
 use crate::flaw::packed_message;
 use crate::form::{Message, note_on, say};
 use bs_bits::NoMemory;
@@ -19,13 +20,6 @@ fn is_escaped(text: &[u8], at: usize) -> bool
         Some(byte) => *byte == b'\\',
         None => false,
     }
-}
-
-/// Whether a word stands at a place of a text.
-fn is_word(text: &[u8], at: usize, word: &[u8]) -> bool
-    ensures { result ≡ is_word text.now at word.now }
-{
-    at < text.len() && stands_at(text, at, word)
 }
 
 /// Whether a word stands there with which SystemVerilog declares.
@@ -66,6 +60,12 @@ fn cell_message(text: &[u8], at: usize) -> Message<'static>
         return say(
             "an escaped name is no gate and no cell: `\\not` is another name than `not`",
             "map cells to gates and take the `\\` out of their names: examples/yosys/synth.sh does both",
+        );
+    }
+    if is_own(text, at) {
+        return say(
+            "the module instances itself: a ring of one module",
+            "no module may stand in itself",
         );
     }
     if declares(text, at) {
@@ -133,7 +133,7 @@ fn is_binary(byte: u8) -> bool
 
 /// What is said of a byte that cannot go on.
 fn byte_message(byte: u8) -> Message<'static>
-    ensures { said result ≡ syntax_saying (Some byte) }
+    ensures { said result ≡ place_saying (Some byte) }
 {
     if byte == 0xEF {
         return say(
@@ -168,9 +168,9 @@ fn byte_message(byte: u8) -> Message<'static>
     )
 }
 
-/// What is said of a place that cannot go on.
-fn syntax_message(text: &[u8], at: usize) -> Message<'static>
-    ensures { said result ≡ syntax_saying (slice_get text.now at) }
+/// What is said of a place that cannot go on, by what stands there.
+fn place_message(text: &[u8], at: usize) -> Message<'static>
+    ensures { said result ≡ place_saying (slice_get text.now at) }
 {
     match text.get(at) {
         None => say(
@@ -179,6 +179,19 @@ fn syntax_message(text: &[u8], at: usize) -> Message<'static>
         ),
         Some(byte) => byte_message(*byte),
     }
+}
+
+/// What is said of a place that cannot go on.
+fn syntax_message(text: &[u8], at: usize) -> Message<'static>
+    ensures { said result ≡ syntax_saying text.now at }
+{
+    if declares_near(text, at) {
+        return say(
+            "this word, or the one before it, is one of SystemVerilog or RTL, as logic, bit, var, int, signed, reg or integer",
+            "synthesize and map it, as examples/yosys/synth.sh does; in a netlist write wire or nothing in its place",
+        );
+    }
+    place_message(text, at)
 }
 
 /// What is said of a text that is no netlist.

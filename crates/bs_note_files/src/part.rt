@@ -3,7 +3,7 @@ ghost use Rattle.std.specs.Prelude.{◌≡◌, ◌≤◌, ◌<◌, length, max, 
 ghost use Rattle.bs_note_files.specs.Parts.{before, behind, IsNumbered, place_of};
 
 use crate::form::line_at;
-use bs_note_places::{line_start, spot_of};
+use bs_net_names::{line_start, spot_of};
 
 /// The place of the first byte that is this one.
 fn place_of(line: &[u8], byte: u8) -> Option<usize>

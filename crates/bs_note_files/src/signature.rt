@@ -1,34 +1,32 @@
 //! Notes on a text that is no signature.
 ghost use Rattle.std.specs.Prelude.{◌≡◌, ◌≤◌, ◌<◌, ◌-◌, ◌++◌, ◌==◌, ◌⊎◌, ◌||◌, nat_eq, ℕ, All, codes, length, take, drop, slice_index, true, false, IfNone, IfOk, IfSome, OnOk};
-ghost use Rattle.std.specs.Bool.{MatchBool};
 ghost use Rattle.std.specs.List.{flat_map, starts_with};
 ghost use Rattle.bs_net.specs.Netlist.{parts_of};
 ghost use Rattle.bs_net_names.specs.Rtl.{rtl_name};
-ghost use Rattle.bs_note_places.specs.Nearest.{AreNearest, IsNearest};
-ghost use Rattle.bs_note_places.specs.Quotes.{shown_line};
+ghost use Rattle.bs_net_names.specs.Nearest.{AreNearest, IsNearest};
+ghost use Rattle.bs_net_names.specs.Quotes.{shown_line};
 ghost use Rattle.bs_note_files.specs.Flaws.{IsLineNote};
 ghost use Rattle.bs_note_files.specs.Notes.{said};
-ghost use Rattle.bs_note_files.specs.Signatures.{AreKeys, form_saying, IsKey, IsNoKey, IsSignatureNote, IsUnknownNote, IsUnknownOn, IsUnknownWord, key_piece, SaysUnknown, unknown_label, unknown_sentence};
+ghost use Rattle.bs_note_files.specs.Signatures.{AreKnown, form_saying, is_unknown, IsSignatureNote, IsUnknownNote, IsUnknownOn, IsUnknownWord, key_piece, SaysUnknown, unknown_label, unknown_sentence};
 
 use crate::flaw::{flaw_note, start_note};
 use crate::form::{Message, file_note, name_sentence, note_on, say};
 use crate::part::numbered_line;
-use bs_bits::{NoMemory, push_piece};
+use bs_bits::{NoMemory, is_name, push_piece};
 use bs_net::{Netlist, Raw};
-use bs_note_places::{flop_key, nearest_flops, push_quoted};
-use bs_scan::ChoiceFault;
+use bs_net_names::{flop_key, nearest_flops, push_quoted};
+use bs_scan::{ChoiceFault, FlopNames};
 use std::alloc::Global;
 
-/// Whether no flip-flop has this key.
-fn is_unknown(raw: &Raw, name: &[u8]) -> bool
-    ensures { MatchBool result (IsNoKey (parts_of raw.now) name.now) (IsKey (parts_of raw.now) name.now) }
+/// Whether a word is a name that no flip-flop has.
+fn is_unknown(flops: &FlopNames<'_>, word: &[u8]) -> bool
+    ensures { result ≡ is_unknown flops.now word.now }
 {
-    'flops: for flop in 0..raw.flops.len() {
-        if flop_key(raw, flop) == name {
-            return false;
-        }
+    if is_name(word) {
+        flops.number(word).is_none()
+    } else {
+        false
     }
-    true
 }
 
 /// The end of the word that begins at a place: the next space, or the line's end.
@@ -46,21 +44,31 @@ fn word_end(line: &[u8], from: usize) -> usize
     end
 }
 
-/// The first word behind the first of a line that is no flip-flop's key, from its place up to its end.
-#[tactic(auto, using(crate::proofs::SignatureLemmas::keys_start, crate::proofs::SignatureLemmas::all_keys))]
-fn unknown_name(raw: &Raw, line: &[u8]) -> Option<(usize, usize)>
-    ensures some { IfSome result (IsUnknownWord (parts_of raw.now) line.now) }
-    ensures none { IfNone result (AreKeys (parts_of raw.now) line.now) }
+/// The first word behind the first of a line that is a name, and no flip-flop's, from its place up to its end.
+#[tactic(auto, using(crate::proofs::SignatureLemmas::known_start, crate::proofs::SignatureLemmas::all_known))]
+fn unknown_name(flops: &FlopNames<'_>, line: &[u8]) -> Option<(usize, usize)>
+    ensures some { IfSome result (IsUnknownWord flops.now line.now) }
+    ensures none { IfNone result (AreKnown flops.now line.now) }
 {
     let mut end = word_end(line, 0);
     'words: while end < line.len() {
         let at = end + 1;
         end = word_end(line, at);
-        if is_unknown(raw, &line[at..end]) {
+        if is_unknown(flops, &line[at..end]) {
             return Some((at, end));
         }
     }
     None
+}
+
+/// The same word of a line, by the names of a netlist's flip-flops.
+fn unknown_in(alloc: Global, net: &Netlist, line: &[u8]) -> Result<Option<(usize, usize)>, NoMemory>
+    ensures some { IfOk result (λ word. IfSome word (IsUnknownWord net.now.raw line.now)) }
+    ensures none { IfOk result (λ word. IfNone word (AreKnown net.now.raw line.now)) }
+{
+    let flops = FlopNames::new(alloc, net)?;
+    let word = unknown_name(&flops, line);
+    Ok(word)
 }
 
 /// Appends a space and the key of a flip-flop.
@@ -85,8 +93,8 @@ fn label_of(alloc: Global, raw: &Raw, name: &[u8], flops: &[usize]) -> Result<Ve
     Ok(label)
 }
 
-/// A note on a name that is no flip-flop's key, on its place.
-fn name_note(
+/// A note on a name that no flip-flop has, on its place, by the parts of a netlist.
+fn key_note(
     alloc: Global,
     path: &str,
     text: &[u8],
@@ -112,39 +120,54 @@ fn name_note(
     Ok(note)
 }
 
-/// A note on the word of a line, from its place up to its end, that is no flip-flop's key.
+/// A note on a name that no flip-flop has, on its place.
+fn name_note(
+    alloc: Global,
+    path: &str,
+    text: &[u8],
+    net: &Netlist,
+    at: usize,
+    name: &[u8],
+) -> Result<Vec<u8>, NoMemory>
+    ensures { IfOk result (λ note. SaysUnknown net.now.raw path.now text.now at name.now note.items) }
+{
+    key_note(alloc, path, text, net.raw(), at, name)
+}
+
+/// A note on the word of a line, from its place up to its end, that is a name, and no flip-flop's.
 fn word_note(
     alloc: Global,
     path: &str,
     text: &[u8],
-    raw: &Raw,
+    net: &Netlist,
     start: usize,
     line: &[u8],
     word: (usize, usize),
 ) -> Result<Vec<u8>, NoMemory>
     requires start { start ≤ length text.now }
-    requires is { IsUnknownWord (parts_of raw.now) line.now word }
-    ensures { IfOk result (λ note. IsUnknownOn (parts_of raw.now) path.now text.now start line.now note.items) }
+    requires is { IsUnknownWord net.now.raw line.now word }
+    ensures { IfOk result (λ note. IsUnknownOn net.now.raw path.now text.now start line.now note.items) }
 {
     let name = &line[word.0..word.1];
-    let note = name_note(alloc, path, text, raw, start + word.0, name)?;
+    let note = name_note(alloc, path, text, net, start + word.0, name)?;
     Ok(note)
 }
 
-/// A note on the first name of the line with a number that is no flip-flop's key.
+/// A note on the first name of the line with a number that no flip-flop has.
 fn unknown_note(
     alloc: Global,
     path: &str,
     text: &[u8],
-    raw: &Raw,
+    net: &Netlist,
     number: u64,
 ) -> Result<Vec<u8>, NoMemory>
-    ensures { IfOk result (λ note. IsUnknownNote (parts_of raw.now) path.now text.now number note.items) }
+    ensures { IfOk result (λ note. IsUnknownNote net.now.raw path.now text.now number note.items) }
 {
     let (start, line) = numbered_line(text, number);
-    match unknown_name(raw, line) {
+    let word = unknown_in(alloc, net, line)?;
+    match word {
         Some(word) => {
-            let note = word_note(alloc, path, text, raw, start, line, word)?;
+            let note = word_note(alloc, path, text, net, start, line, word)?;
             Ok(note)
         }
         None => file_note(alloc, path, b"a name is no flip-flop's key"),
@@ -207,7 +230,7 @@ pub fn signature_note(
             say("a signature has at most 256 items", "this is the 257th"),
         ),
         ChoiceFault::UnknownFlop(number) => {
-            unknown_note(alloc, path, text, net.raw(), u64::from(number))
+            unknown_note(alloc, path, text, net, u64::from(number))
         }
         ChoiceFault::NoMemory => file_note(alloc, path, b"memory ran out"),
     }

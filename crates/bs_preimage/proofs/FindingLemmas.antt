@@ -20,12 +20,12 @@ use Rattle.bs_net.proofs.NextLemmas.{bits_eq_Decides}
 use Rattle.bs_scan.specs.Moments.{is_listed}
 use Rattle.bs_scan.proofs.SignatureLemmas.{bits_same, bits_same_is}
 use Rattle.bs_scan.proofs.MomentLemmas.{each_append}
-use Rattle.bs_solve_recording.specs.declared.stage.Stage.{Stage}
-use Rattle.bs_solve_recording.specs.declared.stage.Stage.TheVariants.{Begun, Blocked}
-use Rattle.bs_solve_recording.specs.ProofLog.{ProofLog, standing}
-use Rattle.bs_solve_recording.specs.Ending.{is_open_lemma}
-use Rattle.bs_solve_recording.specs.Stages.{is_begun}
-use Rattle.bs_solve_recording.specs.Solver.{SolverState, MaySolve}
+use Rattle.bs_solve_lemmas.specs.declared.stage.Stage.{Stage}
+use Rattle.bs_solve_lemmas.specs.declared.stage.Stage.TheVariants.{Begun, Blocked}
+use Rattle.bs_solve_lemmas.specs.ProofLog.{ProofLog, standing}
+use Rattle.bs_solve_lemmas.specs.Ending.{is_open_lemma}
+use Rattle.bs_solve_lemmas.specs.Stages.{is_begun}
+use Rattle.bs_solve_lemmas.specs.Solver.{SolverState, MaySolve}
 use Rattle.bs_encode.specs.Encoded.{Encoded}
 use Rattle.bs_encode.specs.Assuming.{block_for}
 use Rattle.bs_report.specs.declared.report.Cand.{Cand}
@@ -38,7 +38,7 @@ use Rattle.bs_preimage.specs.declared.turn.TurnEnd.TheVariants.{Listed, Refuted,
 use Rattle.bs_preimage.specs.Asking.{HasAsked, IsTold}
 use Rattle.bs_preimage.specs.Turn.{Extends, Keeps, HasSearched, MayTurn, TurnsTo, HasNext, HasRefutedAll, HasSpent, IsOneOf, block_in, activation_in, steps_after}
 use Rattle.bs_preimage.specs.Finding.{is_inner, HasLogged, IsAgain, IsUnderWay, HasKnown, KeepsLimit, HasEndedSearch, IsSearching, HasComeTo, HasFilled}
-use Rattle.bs_solve_recording.proofs.CallerLemmas.{runs_over}
+use Rattle.bs_solve_lemmas.proofs.CallerLemmas.{runs_over}
 use Rattle.bs_preimage.proofs.TurnLemmas.{extends_then, extends_from, none_is_known, no_known}
 use Rattle.bs_preimage.proofs.InnerLemmas.{lemmas_inner, inner_step}
 

@@ -11,9 +11,9 @@ use Rattle.std.proofs.lemmas.List.{length-append, reverse-reverse}
 use Rattle.std.proofs.lemmas.List.Elements.{All-weaker, All-map, All-from_recursion, recursion_from_All}
 use Rattle.std.proofs.lemmas.List.Sorted.{IsPermutation-map, IsPermutation-sym, length_permutation, list_any-IsPermutation, All-permutation}
 use Rattle.bs_bits.specs.Bits.{bits_eq}
-use Rattle.bs_seen.specs.declared.seen.Seen.{Seen}
-use Rattle.bs_seen.proofs.SeenLemmas.{shows_where}
-use Rattle.bs_seen.specs.Seen.{Shows, is_shown}
+use Rattle.bs_scan.specs.declared.seen.Seen.{Seen}
+use Rattle.bs_scan.proofs.SeenLemmas.{shows_where}
+use Rattle.bs_scan.specs.Seen.{Shows, is_shown}
 use Rattle.bs_clause.specs.Literal.{Literal, Clause, negation, literal_value, Satisfies}
 use Rattle.bs_clause.specs.UnitRun.{IsUnitRun}
 use Rattle.bs_clause.specs.Range.{HasVariables}
@@ -34,8 +34,8 @@ use Rattle.bs_scan.specs.Moments.{is_listed}
 use Rattle.bs_scan.specs.Signature.{agrees, some_input_shows, predecessors}
 use Rattle.bs_scan.proofs.MomentLemmas.{each_member}
 use Rattle.bs_scan.proofs.SignatureLemmas.{bits_same, bits_same_is, is_predecessor}
-use Rattle.bs_solve_recording.specs.ProofLog.{ProofLog, standing, next_id, without}
-use Rattle.bs_solve_recording.specs.Solver.{SolverState, finished, retired, leaving}
+use Rattle.bs_solve_lemmas.specs.ProofLog.{ProofLog, standing, next_id, without}
+use Rattle.bs_solve_lemmas.specs.Solver.{SolverState, finished, retired, leaving}
 use Rattle.bs_encode.specs.Encoded.{Encoded}
 use Rattle.bs_encode.specs.Depth.{encoding_by}
 use Rattle.bs_encode.specs.Assuming.{assumptions_for, block_for, asking, AreWide}
@@ -59,8 +59,8 @@ use Rattle.bs_preimage.specs.Turn.{IsReadable, IsShownIn, IsOneOf, activation_in
 use Rattle.bs_preimage.specs.Finding.{EndedBy}
 use Rattle.bs_preimage.specs.Order.{IsInOrder}
 use Rattle.bs_preimage.specs.Step.{HasSought, HasMadeStep, assumptions_at, ending_of}
-use Rattle.bs_solve_analysis.proofs.Clauses.{contains_first}
-use Rattle.bs_solve_recording.proofs.CallerLemmas.{bound_is, axioms_stand_still, activations_stay_retired}
+use Rattle.bs_solve_lemmas.proofs.Clauses.{contains_first}
+use Rattle.bs_solve_lemmas.proofs.CallerLemmas.{bound_is, axioms_stand_still, activations_stay_retired}
 use Rattle.bs_preimage.proofs.OrderLemmas.{in_order_ascend}
 use Rattle.bs_preimage.proofs.StepLinesLemmas.{is_in_step, finish_lines, in_step, step_kept, step_lines_are, whole_after, get_last, slice_get_last}
 use Rattle.bs_preimage.proofs.StepLinesLemmas.{blocks_are_due, right_blocks, one_finish, finish_is, end_is}

@@ -9,10 +9,10 @@ use Rattle.std.proofs.lemmas.Bool.{true≢false, ne_eqb, eqb-true, false≢true,
 use Rattle.std.proofs.lemmas.List.{length-append, reverse-append, reverse-reverse}
 use Rattle.std.proofs.lemmas.List.Elements.{All-from_recursion, recursion_from_All}
 use Rattle.bs_bits.specs.Bits.{bits_eq}
-use Rattle.bs_seen.specs.declared.seen.Seen.{Seen}
-use Rattle.bs_seen.proofs.KeptLemmas.{kept_each}
-use Rattle.bs_seen.proofs.SeenLemmas.{shows_where}
-use Rattle.bs_seen.specs.Seen.{kept, Shows, is_shown}
+use Rattle.bs_scan.specs.declared.seen.Seen.{Seen}
+use Rattle.bs_scan.proofs.KeptLemmas.{kept_each}
+use Rattle.bs_scan.proofs.SeenLemmas.{shows_where}
+use Rattle.bs_scan.specs.Seen.{kept, Shows, is_shown}
 use Rattle.bs_clause.specs.Literal.{Literal, Clause, negation, literal_value, Satisfies}
 use Rattle.bs_clause.specs.Range.{IsWithin, HasVariables}
 use Rattle.bs_clause.specs.UnitRun.{IsUnitRun}
@@ -32,12 +32,12 @@ use Rattle.bs_scan.specs.Moments.{is_listed}
 use Rattle.bs_scan.specs.Present.{Present}
 use Rattle.bs_scan.specs.Signature.{agrees, some_input_shows, predecessors}
 use Rattle.bs_scan.proofs.SignatureLemmas.{bits_same, bits_same_is, is_predecessor}
-use Rattle.bs_solve_analysis.proofs.Clauses.{contains_first}
-use Rattle.bs_solve_recording.specs.declared.stage.Stage.TheVariants.{Begun, Blocked, Ended}
-use Rattle.bs_solve_recording.specs.ProofLog.{ProofLog, next_id, standing}
-use Rattle.bs_solve_recording.specs.Solver.{SolverState, HasEnded, finished, retired, leaving}
-use Rattle.bs_solve_recording.specs.Stages.{is_begun, is_solved}
-use Rattle.bs_solve_recording.proofs.CallerLemmas.{activations_stay_retired, axioms_stand_still, axioms_stand, bound_is}
+use Rattle.bs_solve_lemmas.proofs.Clauses.{contains_first}
+use Rattle.bs_solve_lemmas.specs.declared.stage.Stage.TheVariants.{Begun, Blocked, Ended}
+use Rattle.bs_solve_lemmas.specs.ProofLog.{ProofLog, next_id, standing}
+use Rattle.bs_solve_lemmas.specs.Solver.{SolverState, HasEnded, finished, retired, leaving}
+use Rattle.bs_solve_lemmas.specs.Stages.{is_begun, is_solved}
+use Rattle.bs_solve_lemmas.proofs.CallerLemmas.{activations_stay_retired, axioms_stand_still, axioms_stand, bound_is}
 use Rattle.bs_encode.specs.Encoded.{Encoded, encoding_of}
 use Rattle.bs_encode.specs.Transition.{first_next, first_item, variables}
 use Rattle.bs_encode.specs.Depth.{encoding_by, linked, link_of}

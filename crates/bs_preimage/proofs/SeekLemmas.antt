@@ -2,16 +2,16 @@
 use Rattle.std.proofs.Common.{◌≡◌, ℕ, ◌+◌, ◌<◌, Bool, true, false, List, [], ◌∷◌, refl, ap, subst, sym, ◌∙◌, ◌⊎◌, inl, inr, arith, Option, Some, None}
 use Rattle.std.specs.Prelude.{Contains}
 use Rattle.std.proofs.lemmas.Bool.{true≢false}
-use Rattle.bs_seen.specs.declared.seen.Seen.{Seen}
+use Rattle.bs_scan.specs.declared.seen.Seen.{Seen}
 use Rattle.bs_clause.specs.Literal.{Literal, Clause}
 use Rattle.bs_clause.specs.Range.{HasVariables}
 use Rattle.bs_log.specs.declared.line.Line.TheVariants.{Finish, Retire, Delete}
 use Rattle.bs_log.specs.History.{activation_of}
-use Rattle.bs_solve_recording.specs.declared.stage.Stage.TheVariants.{Begun, Blocked}
-use Rattle.bs_solve_recording.specs.ProofLog.{ProofLog, next_id, without}
-use Rattle.bs_solve_recording.specs.Solver.{SolverState, HasEnded, finished, retired, leaving}
-use Rattle.bs_solve_recording.specs.Stages.{is_begun}
-use Rattle.bs_solve_analysis.proofs.Clauses.{contains_first}
+use Rattle.bs_solve_lemmas.specs.declared.stage.Stage.TheVariants.{Begun, Blocked}
+use Rattle.bs_solve_lemmas.specs.ProofLog.{ProofLog, next_id, without}
+use Rattle.bs_solve_lemmas.specs.Solver.{SolverState, HasEnded, finished, retired, leaving}
+use Rattle.bs_solve_lemmas.specs.Stages.{is_begun}
+use Rattle.bs_solve_lemmas.proofs.Clauses.{contains_first}
 use Rattle.bs_encode.specs.Encoded.{Encoded}
 use Rattle.bs_encode.specs.Assuming.{assumptions_for, asking}
 use Rattle.bs_preimage.specs.Preimage.{next_activation}

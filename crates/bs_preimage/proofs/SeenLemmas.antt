@@ -1,9 +1,9 @@
 -- A step of the log, as a contract of the lists sees it.
 use Rattle.std.proofs.Common.{◌≡◌, ℕ, Bool, false, List, Option, refl, subst}
-use Rattle.bs_seen.specs.declared.seen.Seen.{Seen}
+use Rattle.bs_scan.specs.declared.seen.Seen.{Seen}
 use Rattle.bs_net.specs.Circuit.{Circuit}
 use Rattle.bs_scan.specs.Choice.{Chosen}
-use Rattle.bs_solve_recording.specs.ProofLog.{ProofLog}
+use Rattle.bs_solve_lemmas.specs.ProofLog.{ProofLog}
 use Rattle.bs_report.specs.declared.report.Cand.{Cand}
 use Rattle.bs_preimage.specs.Preimage.{PreimageState}
 use Rattle.bs_preimage.specs.Listed.{HasListed}

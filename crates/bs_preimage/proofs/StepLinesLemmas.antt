@@ -16,9 +16,9 @@ use Rattle.bs_log.specs.declared.line.Line.{Line}
 use Rattle.bs_log.specs.declared.line.Line.TheVariants.{Solve, Lemma, Block, Finish, Retire, Delete}
 use Rattle.bs_log.specs.History.{History, step_of}
 use Rattle.bs_log.specs.Steps.{steps_of, onto_step, block_of_line, finish_of_line, last_solve, is_spent}
-use Rattle.bs_solve_recording.specs.ProofLog.{ProofLog, without}
-use Rattle.bs_solve_recording.specs.Solver.{SolverState}
-use Rattle.bs_solve_analysis.proofs.Clauses.{contains_cases, contains_first, cons_contains, nothing_in}
+use Rattle.bs_solve_lemmas.specs.ProofLog.{ProofLog, without}
+use Rattle.bs_solve_lemmas.specs.Solver.{SolverState}
+use Rattle.bs_solve_lemmas.proofs.Clauses.{contains_cases, contains_first, cons_contains, nothing_in}
 use Rattle.bs_report.specs.declared.report.Cand.{Cand}
 use Rattle.bs_report.specs.declared.report.ListEnd.{ListEnd}
 use Rattle.bs_report.specs.declared.report.ListEnd.TheVariants.{Finished, Candidates, Conflicts}

@@ -12,15 +12,15 @@ use Rattle.bs_log.specs.declared.line.Line.{Line}
 use Rattle.bs_log.specs.declared.line.Line.TheVariants.{Lemma, Block}
 use Rattle.bs_log.specs.History.{Problem}
 use Rattle.bs_log.specs.Steps.{is_lemma_line}
-use Rattle.bs_solve_recording.specs.declared.answer.Answer.{Answer}
-use Rattle.bs_solve_recording.specs.declared.answer.Answer.TheVariants as answers
-use Rattle.bs_solve_recording.specs.ProofLog.{ProofLog, standing}
-use Rattle.bs_solve_recording.specs.Ending.{is_open_lemma}
-use Rattle.bs_solve_recording.specs.Search.{assumed}
-use Rattle.bs_solve_recording.specs.Stages.{is_begun, begun_proof}
-use Rattle.bs_solve_recording.specs.Solver.{SolverState, HasSolved, HasBlocked, Follows}
-use Rattle.bs_solve_recording.specs.Values.{value_of}
-use Rattle.bs_solve_analysis.proofs.Clauses.{all_from}
+use Rattle.bs_solve_lemmas.specs.declared.answer.Answer.{Answer}
+use Rattle.bs_solve_lemmas.specs.declared.answer.Answer.TheVariants as answers
+use Rattle.bs_solve_lemmas.specs.ProofLog.{ProofLog, standing}
+use Rattle.bs_solve_lemmas.specs.Ending.{is_open_lemma}
+use Rattle.bs_solve_lemmas.specs.Search.{assumed}
+use Rattle.bs_solve_lemmas.specs.Stages.{is_begun, begun_proof}
+use Rattle.bs_solve_lemmas.specs.Solver.{SolverState, HasSolved, HasBlocked, Follows}
+use Rattle.bs_solve_lemmas.specs.Values.{value_of}
+use Rattle.bs_solve_lemmas.proofs.Clauses.{all_from}
 use Rattle.bs_encode.specs.Encoded.{Encoded}
 use Rattle.bs_encode.specs.Assuming.{signed, block_for}
 use Rattle.bs_encode.specs.Cycle.{bits_on}
@@ -33,7 +33,7 @@ use Rattle.bs_preimage.specs.declared.turn.TurnEnd.{TurnEnd}
 use Rattle.bs_preimage.specs.declared.turn.TurnEnd.TheVariants.{Listed, Refuted, Spent}
 use Rattle.bs_preimage.specs.Turn.{Extends, HasSearched, MayTurn, TurnsTo, HasShown, HasShownCand, HasListedOne, block_in, activation_in, steps_after}
 use Rattle.bs_preimage.specs.Turn.{HasBlockedState, HasBlockedKnown, HasTakenKnown, GoesTo}
-use Rattle.bs_solve_recording.proofs.CallerLemmas.{begun_history, begun_vars, begun_clauses, open_are_lemmas, solved_keeps}
+use Rattle.bs_solve_lemmas.proofs.CallerLemmas.{begun_history, begun_vars, begun_clauses, open_are_lemmas, solved_keeps}
 
 -- ---- the proof log as a search begins
 

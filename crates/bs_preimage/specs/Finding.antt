@@ -16,10 +16,10 @@ use Rattle.bs_report.specs.declared.report.ListEnd.{ListEnd}
 use Rattle.bs_report.specs.declared.report.ListEnd.TheVariants.{Finished, Candidates, Conflicts}
 use Rattle.bs_report_good.specs.Step.{listed}
 use Rattle.bs_report_good.specs.Valid.{blocks_due}
-use Rattle.bs_solve_recording.specs.declared.stage.Stage.TheVariants.{Blocked, Ended, Stopped}
-use Rattle.bs_solve_recording.specs.ProofLog.{standing}
-use Rattle.bs_solve_recording.specs.Search.{assumed}
-use Rattle.bs_solve_recording.specs.Solver.{SolverState}
+use Rattle.bs_solve_lemmas.specs.declared.stage.Stage.TheVariants.{Blocked, Ended, Stopped}
+use Rattle.bs_solve_lemmas.specs.ProofLog.{standing}
+use Rattle.bs_solve_lemmas.specs.Search.{assumed}
+use Rattle.bs_solve_lemmas.specs.Solver.{SolverState}
 use Rattle.bs_solve.specs.Budget.{HasFewLemmas}
 use Rattle.bs_preimage.specs.Turn.{IsOneOf, Keeps, HasNext, HasRefutedAll, HasSpent, activation_in, block_in}
 

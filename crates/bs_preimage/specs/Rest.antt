@@ -8,9 +8,9 @@ use Rattle.bs_net.specs.Circuit.{Circuit}
 use Rattle.bs_scan.specs.Choice.{Chosen}
 use Rattle.bs_encode.specs.Encoded.{Encoded}
 use Rattle.bs_encode.specs.Depth.{encoding_by}
-use Rattle.bs_solve_recording.specs.declared.stage.Stage.TheVariants.{Idle}
-use Rattle.bs_solve_recording.specs.ProofLog.{ProofLog, standing}
-use Rattle.bs_solve_recording.specs.Solver.{SolverState}
+use Rattle.bs_solve_lemmas.specs.declared.stage.Stage.TheVariants.{Idle}
+use Rattle.bs_solve_lemmas.specs.ProofLog.{ProofLog, standing}
+use Rattle.bs_solve_lemmas.specs.Solver.{SolverState}
 
 -- each clause that the log is about stands
 abbrev pub AxiomsStand : ProofLog → Type 0

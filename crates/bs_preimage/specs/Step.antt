@@ -1,6 +1,6 @@
 -- A step of the log: the search for its candidates, and its end.
 use Rattle.std.specs.Prelude.{◌≡◌, ℕ, ◌+◌, Bool, false, List, length, Option, Some, None}
-use Rattle.bs_seen.specs.declared.seen.Seen.{Seen}
+use Rattle.bs_scan.specs.declared.seen.Seen.{Seen}
 use Rattle.bs_clause.specs.Literal.{Clause}
 use Rattle.bs_net.specs.Circuit.{Circuit}
 use Rattle.bs_scan.specs.Choice.{Chosen}
@@ -9,9 +9,9 @@ use Rattle.bs_encode.specs.Assuming.{assumptions_for, asking}
 use Rattle.bs_report.specs.declared.report.Cand.{Cand}
 use Rattle.bs_report.specs.declared.report.ListEnd.{ListEnd}
 use Rattle.bs_report.specs.declared.report.ListEnd.TheVariants.{Finished, Candidates, Conflicts}
-use Rattle.bs_solve_recording.specs.declared.stage.Stage.TheVariants.{Begun}
-use Rattle.bs_solve_recording.specs.ProofLog.{ProofLog}
-use Rattle.bs_solve_recording.specs.Solver.{SolverState, HasEnded}
+use Rattle.bs_solve_lemmas.specs.declared.stage.Stage.TheVariants.{Begun}
+use Rattle.bs_solve_lemmas.specs.ProofLog.{ProofLog}
+use Rattle.bs_solve_lemmas.specs.Solver.{SolverState, HasEnded}
 use Rattle.bs_preimage.specs.declared.listing.Listing.{Listing}
 use Rattle.bs_preimage.specs.Preimage.{PreimageState, next_activation}
 use Rattle.bs_preimage.specs.Listed.{HasListed}

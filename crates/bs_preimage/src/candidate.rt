@@ -3,7 +3,7 @@ ghost use Rattle.std.specs.Prelude.{◌≡◌, ◌<◌, ◌≤◌, length, IfOk}
 ghost use Rattle.std.specs.Option.{option_to_list};
 ghost use Rattle.bs_clause.specs.Literal.{literal_value};
 ghost use Rattle.bs_clause.specs.Range.{HasVariables};
-ghost use Rattle.bs_solve_recording.specs.Values.{value_of};
+ghost use Rattle.bs_solve_lemmas.specs.Values.{value_of};
 ghost use Rattle.bs_encode.specs.Cycle.{bits_on};
 ghost use Rattle.bs_encode.specs.Listing.{joins};
 ghost use Rattle.bs_preimage.specs.Turn.{before_on};
@@ -12,7 +12,7 @@ use bs_bits::Bits;
 use bs_clause::{Lit, NoMemory, Var};
 use bs_encode::Encoding;
 use bs_report::{Before, Cand};
-use bs_solve_recording::Solution;
+use bs_solve_lemmas::Solution;
 use std::alloc::Global;
 
 /// The value of a variable, false where it is open.

@@ -1,7 +1,7 @@
 //! The search for the candidates of a step.
 ghost use Rattle.std.specs.Prelude.{◌≡◌, ◌≤◌, ◌∷◌, ◌++◌, [], true, length, IfOk, IfSome};
-ghost use Rattle.bs_solve_recording.specs.Stages.{is_begun};
-ghost use Rattle.bs_solve_recording.specs.declared.stage.Stage.TheVariants.{Begun};
+ghost use Rattle.bs_solve_lemmas.specs.Stages.{is_begun};
+ghost use Rattle.bs_solve_lemmas.specs.declared.stage.Stage.TheVariants.{Begun};
 ghost use Rattle.bs_preimage.specs.Asking.{HasAsked, IsTold, KeepsSource, KnowsRight};
 ghost use Rattle.bs_preimage.specs.Turn.{IsReadable, MayTurn, Extends};
 ghost use Rattle.bs_preimage.specs.Finding.{HasComeTo, HasEndedSearch, HasFilled};

@@ -19,8 +19,7 @@ use bs_encode::{
 };
 use bs_net::Netlist;
 use bs_report::Cand;
-use bs_scan::Choice;
-use bs_seen::Seen;
+use bs_scan::{Choice, Seen};
 use bs_solve::Solver;
 use std::alloc::Global;
 use std::marker::Model;

@@ -19,8 +19,7 @@ use bs_clause::NoMemory;
 use bs_encode::{Encoding, encodings_are_tidy, predecessors_are_shown, solutions_are_predecessors};
 use bs_net::Netlist;
 use bs_report::{Cand, ListEnd};
-use bs_scan::Choice;
-use bs_seen::Seen;
+use bs_scan::{Choice, Seen};
 use bs_solve::Solver;
 use std::alloc::Global;
 

@@ -2,8 +2,8 @@
 ghost use Rattle.std.specs.Prelude.{◌≡◌, ◌≤◌, [], false, length, IfOk, IfSome, Some};
 ghost use Rattle.std.specs.List.{list_any};
 ghost use Rattle.bs_bits.specs.Bits.{bits_eq};
-ghost use Rattle.bs_solve_recording.specs.Stages.{is_begun};
-ghost use Rattle.bs_solve_recording.specs.declared.stage.Stage.TheVariants.{Solved};
+ghost use Rattle.bs_solve_lemmas.specs.Stages.{is_begun};
+ghost use Rattle.bs_solve_lemmas.specs.declared.stage.Stage.TheVariants.{Solved};
 ghost use Rattle.bs_preimage.specs.Turn.{IsReadable, MayTurn, TurnsTo, Extends, HasShown, HasBlockedState, HasBlockedKnown, HasTakenKnown, GoesTo};
 
 use crate::candidate::{candidate, copied};
@@ -12,7 +12,7 @@ use bs_clause::{Lits, NoMemory};
 use bs_encode::Encoding;
 use bs_report::Cand;
 use bs_solve::Solver;
-use bs_solve_recording::{Answer, Solution};
+use bs_solve_lemmas::{Answer, Solution};
 use std::alloc::Global;
 
 /// How a turn of the search ends.

@@ -12,7 +12,7 @@ use bs_bits::{Bits, NoMemory};
 use bs_chip::{Chip, SignatureHashes, hash_of};
 use bs_chip_forward::{Aim, Forward};
 use bs_preimage::{Probe, Probed};
-use bs_seen::Seen;
+use bs_scan::Seen;
 use std::alloc::Global;
 use std::marker::Model;
 

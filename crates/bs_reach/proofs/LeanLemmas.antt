@@ -7,8 +7,8 @@ use Rattle.bs_log.specs.declared.line.Line.TheVariants.{Solve, Lemma, Block, Fin
 use Rattle.bs_log.specs.History.{Problem, History, Entry, axioms_from, live, step_of}
 use Rattle.bs_log.specs.Refusal.{NoneRefused, clauses_of, denies, assumptions_of}
 use Rattle.bs_log.specs.Lean.{IsContained, IsNew, IsResolventOf, LemmasAreLean}
-use Rattle.bs_solve_analysis.proofs.Clauses.{nothing_in, contains_first, cons_contains, contains_cases, all_from, filter_cases, map_cases}
-use Rattle.bs_solve_recording.proofs.Standing.{axioms_stand_still}
+use Rattle.bs_solve_lemmas.proofs.Clauses.{nothing_in, contains_first, cons_contains, contains_cases, all_from, filter_cases, map_cases}
+use Rattle.bs_solve_lemmas.proofs.Standing.{axioms_stand_still}
 use Rattle.bs_reach.specs.declared.shift.Shift.{Shift}
 use Rattle.bs_reach.specs.Renamed.{new_literal, new_clause}
 use Rattle.bs_reach.specs.Widened.{IsNewVariable, IsWidened}

@@ -7,7 +7,7 @@ use Rattle.std.specs.List.{AllByRecursion as Each, range_with_len}
 use Rattle.std.proofs.lemmas.Bool.{false≢true}
 use Rattle.std.proofs.lemmas.List.Elements.{All-contains, All-tail}
 use Rattle.std.proofs.lemmas.List.FromFn.{map-range_with_len_more}
-use Rattle.bs_seen.specs.declared.seen.Seen.{Seen}
+use Rattle.bs_scan.specs.declared.seen.Seen.{Seen}
 use Rattle.bs_bits.proofs.RangeLemmas.{range_more}
 use Rattle.bs_clause.specs.Literal.{Literal, Clause, negation, literal_value, Satisfies}
 use Rattle.bs_clause.specs.UnitRun.{IsUnitRun}
@@ -17,16 +17,16 @@ use Rattle.bs_log.specs.declared.line.Line.TheVariants.{Solve, Lemma, Block, Fin
 use Rattle.bs_log.specs.History.{Problem, History, step_of, activation_of}
 use Rattle.bs_log.specs.Refusal.{NoneRefused}
 use Rattle.bs_log.specs.Steps.{is_lemma_line, HasNoBlock, finished_in}
-use Rattle.bs_solve_recording.specs.declared.answer.Answer.TheVariants as answers
-use Rattle.bs_solve_recording.specs.declared.stage.Stage.TheVariants.{Begun}
-use Rattle.bs_solve_recording.specs.ProofLog.{ProofLog, standing, next_id, without}
-use Rattle.bs_solve_recording.specs.Ending.{is_open_lemma}
-use Rattle.bs_solve_recording.specs.Search.{assumed}
-use Rattle.bs_solve_recording.specs.Stages.{begun_proof}
-use Rattle.bs_solve_recording.specs.Solver.{SolverState, HasSolved, HasEnded, finished, retired, leaving}
-use Rattle.bs_solve_recording.specs.Values.{value_of}
-use Rattle.bs_solve_analysis.proofs.Clauses.{all_from, contains_first}
-use Rattle.bs_solve_recording.proofs.CallerLemmas.{open_are_lemmas, solved_keeps, bound_is, axioms_stand_still, activations_stay_retired}
+use Rattle.bs_solve_lemmas.specs.declared.answer.Answer.TheVariants as answers
+use Rattle.bs_solve_lemmas.specs.declared.stage.Stage.TheVariants.{Begun}
+use Rattle.bs_solve_lemmas.specs.ProofLog.{ProofLog, standing, next_id, without}
+use Rattle.bs_solve_lemmas.specs.Ending.{is_open_lemma}
+use Rattle.bs_solve_lemmas.specs.Search.{assumed}
+use Rattle.bs_solve_lemmas.specs.Stages.{begun_proof}
+use Rattle.bs_solve_lemmas.specs.Solver.{SolverState, HasSolved, HasEnded, finished, retired, leaving}
+use Rattle.bs_solve_lemmas.specs.Values.{value_of}
+use Rattle.bs_solve_lemmas.proofs.Clauses.{all_from, contains_first}
+use Rattle.bs_solve_lemmas.proofs.CallerLemmas.{open_are_lemmas, solved_keeps, bound_is, axioms_stand_still, activations_stay_retired}
 use Rattle.bs_solve.specs.Budget.{HasFewLemmas}
 use Rattle.bs_solve.proofs.BudgetLemmas.{few_lemmas}
 use Rattle.bs_encode.specs.Tables.{lit}

@@ -7,8 +7,8 @@ use Rattle.std.proofs.lemmas.Bool.{cases_eq}
 use Rattle.std.proofs.lemmas.List.{reverse-append, append_assoc}
 use Rattle.std.proofs.lemmas.List.Elements.{All-nil, Contains-push_cases}
 use Rattle.std.proofs.lemmas.List.FromFn.{length-range_with_len, get_or-range_with_len}
-use Rattle.bs_seen.specs.declared.seen.Seen.{Seen}
-use Rattle.bs_seen.specs.Seen.{Shows}
+use Rattle.bs_scan.specs.declared.seen.Seen.{Seen}
+use Rattle.bs_scan.specs.Seen.{Shows}
 use Rattle.bs_clause.specs.Literal.{Literal, Clause, literal_value}
 use Rattle.bs_log.specs.declared.line.Line.{Line}
 use Rattle.bs_log.specs.declared.line.Line.TheVariants.{Solve, Lemma, Block, Finish, Retire, Delete}
@@ -18,9 +18,9 @@ use Rattle.bs_log.specs.Lean.{IsLean}
 use Rattle.bs_log.specs.LineForms.{HasText}
 use Rattle.bs_log.specs.Steps.{HasNoBlock, finished_in}
 use Rattle.bs_net.specs.Circuit.{Circuit, reset_state}
-use Rattle.bs_solve_recording.specs.declared.stage.Stage.TheVariants.{Idle}
-use Rattle.bs_solve_recording.specs.Solver.{SolverState}
-use Rattle.bs_solve_recording.specs.Values.{value_of}
+use Rattle.bs_solve_lemmas.specs.declared.stage.Stage.TheVariants.{Idle}
+use Rattle.bs_solve_lemmas.specs.Solver.{SolverState}
+use Rattle.bs_solve_lemmas.specs.Values.{value_of}
 use Rattle.bs_solve.specs.Budget.{HasFewLemmas}
 use Rattle.bs_encode.specs.Encoded.{Encoded, encoding_of}
 use Rattle.bs_encode.specs.Assuming.{signed_seen}

@@ -6,7 +6,7 @@ use Rattle.std.specs.List.{AllByRecursion, range_with_len, filter, cons_option}
 use Rattle.std.proofs.lemmas.Bool.{or_right, and_from, false≢true, le-leb, le-ltb}
 use Rattle.std.proofs.lemmas.List.{reverse-append, length-map, map-append}
 use Rattle.std.proofs.lemmas.List.Elements.{All-contains, recursion_from_All}
-use Rattle.bs_seen.specs.declared.seen.Seen.{Seen}
+use Rattle.bs_scan.specs.declared.seen.Seen.{Seen}
 use Rattle.bs_bits.proofs.RangeLemmas.{range_more}
 use Rattle.bs_clause.specs.Literal.{Clause, negation}
 use Rattle.bs_clause.specs.Range.{IsWithin, HasVariables}
@@ -19,14 +19,14 @@ use Rattle.bs_log.specs.Kept.{is_kept, is_free_lemma, has_retired_activation, is
 use Rattle.bs_log.specs.Lean.{StepsLeaveKept}
 use Rattle.bs_log.specs.LineForms.{HasVariable}
 use Rattle.bs_log.proofs.Histories.{same_live, with_step}
-use Rattle.bs_solve_reduction.proofs.Deletions.{nothing_leaves_kept}
-use Rattle.bs_solve_analysis.proofs.Clauses.{nothing_in, contains_cases, contains_first, cons_contains, all_from, map_contains}
-use Rattle.bs_solve_recording.specs.ProofLog.{ProofLog, IsRecorded, lemma_ids, with_line, with_lemma}
-use Rattle.bs_solve_recording.proofs.ProofLogs.{recorded_solve, recorded_lemma, recorded_finish, recorded_retire, lemma_stands, retired_stands}
-use Rattle.bs_solve_recording.proofs.Entries.{found_last, found_stands}
-use Rattle.bs_solve_recording.proofs.Leavings.{leaves_begun}
-use Rattle.bs_solve_recording.proofs.Lines.{recorded_member}
-use Rattle.bs_solve_recording.proofs.Standing.{learnt_of_axioms}
+use Rattle.bs_solve_lemmas.proofs.Deletions.{nothing_leaves_kept}
+use Rattle.bs_solve_lemmas.proofs.Clauses.{nothing_in, contains_cases, contains_first, cons_contains, all_from, map_contains}
+use Rattle.bs_solve_lemmas.specs.ProofLog.{ProofLog, IsRecorded, lemma_ids, with_line, with_lemma}
+use Rattle.bs_solve_lemmas.proofs.ProofLogs.{recorded_solve, recorded_lemma, recorded_finish, recorded_retire, lemma_stands, retired_stands}
+use Rattle.bs_solve_lemmas.proofs.Entries.{found_last, found_stands}
+use Rattle.bs_solve_lemmas.proofs.Leavings.{leaves_begun}
+use Rattle.bs_solve_lemmas.proofs.Lines.{recorded_member}
+use Rattle.bs_solve_lemmas.proofs.Standing.{learnt_of_axioms}
 use Rattle.bs_solve.specs.declared.failure.FailedAssumption.{FailedAssumption}
 use Rattle.bs_solve.specs.Failure.{FailsBy}
 use Rattle.bs_solve.proofs.Startings.{axiom_clauses}

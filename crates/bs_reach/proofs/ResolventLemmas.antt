@@ -7,7 +7,7 @@ use Rattle.std.proofs.lemmas.Option.{slice_get-map}
 use Rattle.bs_clause.specs.Literal.{Literal, Clause, negation}
 use Rattle.bs_log.specs.Propagation.{unit_literal, start_of}
 use Rattle.bs_log.specs.Lean.{implied_by, IsContained, IsResolventOf}
-use Rattle.bs_solve_analysis.proofs.Clauses.{all_from, map_cases, map_contains}
+use Rattle.bs_solve_lemmas.proofs.Clauses.{all_from, map_cases, map_contains}
 use Rattle.bs_reach.specs.declared.shift.Shift.{Shift}
 use Rattle.bs_reach.specs.Renamed.{new_variable, new_literal, new_clause}
 use Rattle.bs_reach.proofs.ShiftLemmas.{variable_back, literal_back}

@@ -17,8 +17,8 @@ use Rattle.bs_log.specs.Refusal.{NoneRefused, entry_of, clauses_of, passes, is_l
 use Rattle.bs_log.proofs.Elements.{AllByRecursion-find, AllByRecursion-filter}
 use Rattle.bs_log.proofs.Histories.{added_ids, in_range, next_given, solve_is_inside}
 use Rattle.bs_log.proofs.Tests.{right_from_none}
-use Rattle.bs_solve_analysis.proofs.Clauses.{all_from}
-use Rattle.bs_solve_recording.proofs.Entries.{found_id, some_entry}
+use Rattle.bs_solve_lemmas.proofs.Clauses.{all_from}
+use Rattle.bs_solve_lemmas.proofs.Entries.{found_id, some_entry}
 use Rattle.bs_reach.specs.declared.shift.Shift.{Shift}
 use Rattle.bs_reach.specs.Renamed.{IdFits, LiteralFits, HasRoom}
 use Rattle.bs_reach.specs.Widened.{LogsHaveRoom}

@@ -1,8 +1,8 @@
 -- An execution of a length, and a log that refutes each shorter one, are an answer.
 use Rattle.std.proofs.Common.{◌≡◌, ◌≢◌, ℕ, ◌+◌, ◌-◌, ◌<◌, arith, Bool, List, [], refl, sym, ap, subst, ◌∙◌}
 use Rattle.std.specs.List.{range_with_len}
-use Rattle.bs_seen.specs.declared.seen.Seen.{Seen}
-use Rattle.bs_seen.specs.Seen.{Shows}
+use Rattle.bs_scan.specs.declared.seen.Seen.{Seen}
+use Rattle.bs_scan.specs.Seen.{Shows}
 use Rattle.bs_net.specs.Circuit.{Circuit, reset_state}
 use Rattle.bs_log.specs.declared.line.Line.{Line}
 use Rattle.bs_encode.specs.Encoded.{Encoded, encoding_of}

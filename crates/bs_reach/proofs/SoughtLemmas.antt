@@ -4,17 +4,17 @@ use Rattle.std.specs.Prelude.{All, IfSome, ◌==◌}
 use Rattle.std.specs.List.{range_with_len}
 use Rattle.std.proofs.lemmas.Bool.{and_from, eq-eqb}
 use Rattle.std.proofs.lemmas.List.{length-map}
-use Rattle.bs_seen.specs.declared.seen.Seen.{Seen}
-use Rattle.bs_seen.specs.Seen.{Shows}
+use Rattle.bs_scan.specs.declared.seen.Seen.{Seen}
+use Rattle.bs_scan.specs.Seen.{Shows}
 use Rattle.bs_net.specs.Circuit.{Circuit, reset_state}
 use Rattle.bs_log.specs.declared.line.Line.{Line}
 use Rattle.bs_log.specs.History.{phase_of, step_of}
 use Rattle.bs_log.specs.Refusal.{IsAccepted, is_between_steps}
 use Rattle.bs_log.specs.Lean.{IsLean}
 use Rattle.bs_log.specs.LineForms.{HasText}
-use Rattle.bs_solve_recording.specs.declared.stage.Stage.TheVariants.{Idle}
-use Rattle.bs_solve_recording.specs.Solver.{SolverState}
-use Rattle.bs_solve_recording.proofs.ProofLogs.{texts_in_order}
+use Rattle.bs_solve_lemmas.specs.declared.stage.Stage.TheVariants.{Idle}
+use Rattle.bs_solve_lemmas.specs.Solver.{SolverState}
+use Rattle.bs_solve_lemmas.proofs.ProofLogs.{texts_in_order}
 use Rattle.bs_encode.specs.Encoded.{Encoded, encoding_of}
 use Rattle.bs_reach_unrolled.specs.Unrolled.{unrolled, length_assumes}
 use Rattle.bs_reach_unrolled.specs.Laws.{SolutionsAreExecutions, FinishedIsNotReached}

@@ -7,7 +7,7 @@ use Rattle.std.proofs.lemmas.List.Concat.{flat_map-append}
 use Rattle.std.proofs.lemmas.List.Elements.{recursion_from_All, All-contains, All-from_recursion, All-head, Contains-append_cases, Contains-append_left}
 use Rattle.std.proofs.lemmas.Nat.{mul-le}
 use Rattle.std.proofs.Math.Nat.{suc-mul, add-mul}
-use Rattle.bs_seen.specs.declared.seen.Seen.{Seen}
+use Rattle.bs_scan.specs.declared.seen.Seen.{Seen}
 use Rattle.bs_clause.specs.Literal.{Literal, Clause}
 use Rattle.bs_clause.specs.Range.{IsWithin, HasVariables}
 use Rattle.bs_log.specs.History.{Problem}
@@ -18,7 +18,7 @@ use Rattle.bs_encode.specs.Frame.{raised, raised_all, links}
 use Rattle.bs_encode.proofs.FrameLemmas.{raised_within, length-raised_all}
 use Rattle.bs_encode.proofs.SeenSigns.{seen_all}
 use Rattle.bs_encode.proofs.RangeLemmas.{InRange}
-use Rattle.bs_solve_analysis.proofs.Clauses.{nothing_in, contains_first, cons_contains, contains_cases, all_from, map_cases, map_contains, any_first, any_later}
+use Rattle.bs_solve_lemmas.proofs.Clauses.{nothing_in, contains_first, cons_contains, contains_cases, all_from, map_cases, map_contains, any_first, any_later}
 use Rattle.bs_reach_unrolled.specs.Unrolled.{base_of, frame_of, states_at, next_at, links_of, reset_units, unrolled, length_assumes, reach_problem}
 use Rattle.bs_reach_unrolled.specs.Room.{IsUnrollable}
 use Rattle.bs_reach_unrolled.proofs.UnrollLemmas.{frames_fit}

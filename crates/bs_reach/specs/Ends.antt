@@ -1,9 +1,9 @@
 -- How the search over the lengths ends.
 use Rattle.std.specs.Prelude.{ℕ, ◌<◌, Bool, List}
-use Rattle.bs_seen.specs.declared.seen.Seen.{Seen}
+use Rattle.bs_scan.specs.declared.seen.Seen.{Seen}
 use Rattle.bs_clause.specs.Literal.{Clause}
 use Rattle.bs_encode.specs.Encoded.{Encoded}
-use Rattle.bs_solve_recording.specs.Solver.{SolverState}
+use Rattle.bs_solve_lemmas.specs.Solver.{SolverState}
 use Rattle.bs_reach.specs.declared.search.End.{End}
 use Rattle.bs_reach.specs.declared.search.End.TheVariants.{Reached, Unreached, Unknown}
 use Rattle.bs_reach.specs.Search.{IsBetween, HasShown, HasSpent}

@@ -1,6 +1,6 @@
 -- What the unrolled clauses alone say of the first lengths.
 use Rattle.std.specs.Prelude.{ℕ, ◌+◌, Bool, List, [], ◌∷◌}
-use Rattle.bs_seen.specs.declared.seen.Seen.{Seen}
+use Rattle.bs_scan.specs.declared.seen.Seen.{Seen}
 use Rattle.bs_clause.specs.Literal.{Clause}
 use Rattle.bs_encode.specs.Encoded.{Encoded}
 use Rattle.bs_reach_unrolled.specs.Unrolled.{length_assumes}

@@ -1,7 +1,7 @@
 -- When an answer is right (docs/DEFINITIONS.md, "Bounded reach").
 use Rattle.std.specs.Prelude.{◌≡◌, ℕ, ◌+◌, ◌-◌, ◌*◌, ◌^◌, ◌<◌, ◌≤◌, Bool, true, List, [], ◌∷◌, ◌++◌, length, All}
 use Rattle.std.specs.List.{AllByRecursion, range_with_len}
-use Rattle.bs_seen.specs.declared.seen.Seen.{Seen}
+use Rattle.bs_scan.specs.declared.seen.Seen.{Seen}
 use Rattle.bs_clause.specs.Literal.{Literal}
 use Rattle.bs_clause.specs.UnitRun.{IsUnitRun}
 use Rattle.bs_clause.specs.Range.{HasVariables}
@@ -12,7 +12,7 @@ use Rattle.bs_log.specs.Refusal.{history_of, IsAccepted}
 use Rattle.bs_log.specs.Lean.{IsLean}
 use Rattle.bs_log.specs.LineForms.{HasText}
 use Rattle.bs_log.specs.Steps.{HasNoBlock, finished_in}
-use Rattle.bs_solve_recording.specs.Ending.{is_open_lemma}
+use Rattle.bs_solve_lemmas.specs.Ending.{is_open_lemma}
 use Rattle.bs_solve.specs.Budget.{HasFewLemmas}
 use Rattle.bs_net.specs.Circuit.{Circuit, reset_state}
 use Rattle.bs_encode.specs.Encoded.{encoding_of}

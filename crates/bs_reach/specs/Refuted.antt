@@ -1,7 +1,7 @@
 -- A log of lengths that lemmas refute, one after another, without a solver.
 use Rattle.std.specs.Prelude.{◌≡◌, ℕ, ◌+◌, true, Bool, List, [], ◌∷◌, reverse}
 use Rattle.std.specs.List.{AllByRecursion, range_with_len}
-use Rattle.bs_seen.specs.declared.seen.Seen.{Seen}
+use Rattle.bs_scan.specs.declared.seen.Seen.{Seen}
 use Rattle.bs_log.specs.declared.line.Line.{Line}
 use Rattle.bs_log.specs.declared.line.Line.TheVariants.{Solve, Lemma, Finish, Retire}
 use Rattle.bs_log.specs.History.{Problem, History, Entry, phase_of, step_of, live}
@@ -9,7 +9,7 @@ use Rattle.bs_log.specs.Refusal.{is_between_steps, is_lemma_or_block}
 use Rattle.bs_log.specs.Kept.{is_kept}
 use Rattle.bs_log.specs.Lean.{StepsLeaveKept}
 use Rattle.bs_log.specs.Steps.{HasNoBlock, finished_in}
-use Rattle.bs_solve_recording.specs.ProofLog.{IsRecorded}
+use Rattle.bs_solve_lemmas.specs.ProofLog.{IsRecorded}
 use Rattle.bs_solve.specs.declared.failure.FailedAssumption.{FailedAssumption}
 use Rattle.bs_solve.specs.Budget.{HasFewLemmas}
 use Rattle.bs_encode.specs.Encoded.{Encoded}

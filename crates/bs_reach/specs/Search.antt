@@ -1,7 +1,7 @@
 -- The search for one length after another, and what its log says.
 use Rattle.std.specs.Prelude.{◌≡◌, ℕ, ◌+◌, ◌-◌, ◌*◌, ◌^◌, ◌<◌, ◌≤◌, Bool, true, false, List, [], ◌∷◌, ◌++◌, length, map, Option, All}
 use Rattle.std.specs.List.{AllByRecursion, range_with_len}
-use Rattle.bs_seen.specs.declared.seen.Seen.{Seen}
+use Rattle.bs_scan.specs.declared.seen.Seen.{Seen}
 use Rattle.bs_clause.specs.Literal.{Literal, Clause, literal_value, Satisfies}
 use Rattle.bs_clause.specs.UnitRun.{IsUnitRun}
 use Rattle.bs_clause.specs.Range.{HasVariables}
@@ -9,10 +9,10 @@ use Rattle.bs_log.specs.declared.line.Line.{Line}
 use Rattle.bs_log.specs.declared.line.Line.TheVariants.{Solve, Retire}
 use Rattle.bs_log.specs.History.{Problem, History, step_of}
 use Rattle.bs_log.specs.Steps.{HasNoBlock, finished_in}
-use Rattle.bs_solve_recording.specs.declared.stage.Stage.TheVariants.{Idle}
-use Rattle.bs_solve_recording.specs.Ending.{is_open_lemma}
-use Rattle.bs_solve_recording.specs.Solver.{SolverState}
-use Rattle.bs_solve_recording.specs.Values.{value_of}
+use Rattle.bs_solve_lemmas.specs.declared.stage.Stage.TheVariants.{Idle}
+use Rattle.bs_solve_lemmas.specs.Ending.{is_open_lemma}
+use Rattle.bs_solve_lemmas.specs.Solver.{SolverState}
+use Rattle.bs_solve_lemmas.specs.Values.{value_of}
 use Rattle.bs_solve.specs.Budget.{HasFewLemmas}
 use Rattle.bs_encode.specs.Encoded.{Encoded}
 use Rattle.bs_encode.specs.Assuming.{signed_seen}

@@ -1,12 +1,12 @@
 -- What a search over the clauses of an encoding answers.
 use Rattle.std.specs.Prelude.{◌≡◌, ℕ, Bool, false, List, All}
-use Rattle.bs_seen.specs.declared.seen.Seen.{Seen}
+use Rattle.bs_scan.specs.declared.seen.Seen.{Seen}
 use Rattle.bs_clause.specs.Literal.{Clause}
 use Rattle.bs_log.specs.Refusal.{history_of, IsAccepted}
 use Rattle.bs_log.specs.Lean.{IsLean}
 use Rattle.bs_log.specs.LineForms.{HasText}
-use Rattle.bs_solve_recording.specs.declared.stage.Stage.TheVariants.{Idle}
-use Rattle.bs_solve_recording.specs.Solver.{SolverState}
+use Rattle.bs_solve_lemmas.specs.declared.stage.Stage.TheVariants.{Idle}
+use Rattle.bs_solve_lemmas.specs.Solver.{SolverState}
 use Rattle.bs_encode.specs.Encoded.{Encoded}
 use Rattle.bs_reach_unrolled.specs.Unrolled.{unrolled}
 use Rattle.bs_reach.specs.declared.reach.Reach.{Reach}

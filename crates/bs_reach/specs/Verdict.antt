@@ -1,7 +1,7 @@
 -- What the end of a search tells.
 use Rattle.std.specs.Prelude.{◌≡◌, ℕ, ◌+◌, ◌*◌, ◌<◌, ◌≤◌, Bool, length}
 use Rattle.bs_encode.specs.Encoded.{Encoded}
-use Rattle.bs_solve_recording.specs.Values.{value_of}
+use Rattle.bs_solve_lemmas.specs.Values.{value_of}
 use Rattle.bs_reach.specs.declared.search.End.{End}
 use Rattle.bs_reach.specs.declared.search.End.TheVariants as ends
 use Rattle.bs_reach.specs.declared.reach.Outcome.TheVariants.{Reached, Unreached, Unknown}

@@ -1,6 +1,6 @@
 //! Answers: of a search over so many time frames, and those that want no search.
 ghost use Rattle.std.specs.Prelude.{◌≡◌, ◌≢◌, ◌*◌, ◌≤◌, [], length, IfOk, IfSome};
-ghost use Rattle.bs_seen.specs.Seen.{Shows};
+ghost use Rattle.bs_scan.specs.Seen.{Shows};
 ghost use Rattle.bs_net.specs.Circuit.{reset_state};
 ghost use Rattle.bs_net.specs.Netlist.{circuit};
 ghost use Rattle.bs_encode.specs.Transition.{variables};
@@ -26,7 +26,7 @@ use bs_log::Log;
 use bs_net::Netlist;
 use bs_reach_implied::Implied;
 use bs_reach_unrolled::{netlists_unroll, unroll, unrolled_clauses_are_executions};
-use bs_seen::Seen;
+use bs_scan::Seen;
 use bs_solve::{FailedAssumption, Solver};
 use std::alloc::Global;
 use std::collections::VecDeque;

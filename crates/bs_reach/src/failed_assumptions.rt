@@ -11,7 +11,7 @@ use bs_bits::Bits;
 use bs_clause::NoMemory;
 use bs_encode::Encoding;
 use bs_reach_implied::{Implied, Lemma, Places, failed_assumption};
-use bs_seen::Seen;
+use bs_scan::Seen;
 use bs_solve::FailedAssumption;
 use std::alloc::Global;
 use std::collections::VecDeque;

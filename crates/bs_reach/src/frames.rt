@@ -1,6 +1,6 @@
 //! The answer whether a state is reached from reset in a bounded number of cycles.
 ghost use Rattle.std.specs.Prelude.{◌≡◌, ◌≢◌, ◌*◌, ◌≤◌, [], length, IfOk, IfSome};
-ghost use Rattle.bs_seen.specs.Seen.{Shows};
+ghost use Rattle.bs_scan.specs.Seen.{Shows};
 ghost use Rattle.bs_net.specs.Circuit.{reset_state};
 ghost use Rattle.bs_net.specs.Netlist.{circuit};
 ghost use Rattle.bs_encode.specs.Transition.{variables};
@@ -16,7 +16,7 @@ use bs_clause::NoMemory;
 use bs_encode::Encoding;
 use bs_net::Netlist;
 use bs_reach_implied::{Implied, implied_from};
-use bs_seen::Seen;
+use bs_scan::Seen;
 use std::alloc::Global;
 
 /// Lets the clauses of a cycle go.

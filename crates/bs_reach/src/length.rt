@@ -9,9 +9,9 @@ ghost use Rattle.bs_reach.specs.FailedAssumptions.{AreFailedAssumptions};
 use bs_clause::NoMemory;
 use bs_encode::Encoding;
 use bs_reach_unrolled::assume_length;
-use bs_seen::Seen;
+use bs_scan::Seen;
 use bs_solve::{FailedAssumption, Solver};
-use bs_solve_recording::{Answer, Solution};
+use bs_solve_lemmas::{Answer, Solution};
 use std::alloc::Global;
 use std::collections::VecDeque;
 

@@ -14,7 +14,7 @@ use bs_clause::NoMemory;
 use bs_encode::Encoding;
 use bs_log::{Line, Log};
 use bs_reach_implied::{Implied, Places};
-use bs_seen::Seen;
+use bs_scan::Seen;
 use bs_solve::FailedAssumption;
 use std::alloc::Global;
 

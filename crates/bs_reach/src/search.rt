@@ -8,9 +8,9 @@ ghost use Rattle.bs_reach.specs.FailedAssumptions.{AreFailedAssumptions};
 use crate::length::{Trial, next_length};
 use bs_clause::NoMemory;
 use bs_encode::Encoding;
-use bs_seen::Seen;
+use bs_scan::Seen;
 use bs_solve::{FailedAssumption, Solver};
-use bs_solve_recording::Solution;
+use bs_solve_lemmas::Solution;
 use std::alloc::Global;
 use std::collections::VecDeque;
 

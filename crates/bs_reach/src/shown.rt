@@ -1,6 +1,6 @@
 //! The first length that what follows from reset does not deny, where an execution of it is found: no clause is unrolled.
 ghost use Rattle.std.specs.Prelude.{◌≡◌, ◌≢◌, ◌+◌, ◌*◌, ◌<◌, ◌≤◌, ◌++◌, [], length, reverse, IfOk, IfSome};
-ghost use Rattle.bs_seen.specs.Seen.{Shows};
+ghost use Rattle.bs_scan.specs.Seen.{Shows};
 ghost use Rattle.bs_net.specs.Circuit.{reset_state};
 ghost use Rattle.bs_net.specs.Netlist.{circuit};
 ghost use Rattle.bs_encode.specs.Transition.{variables};
@@ -22,7 +22,7 @@ use bs_net::Netlist;
 use bs_reach_execution::{Execution, execution_of};
 use bs_reach_implied::Implied;
 use bs_reach_unrolled::{netlists_unroll, unrolled_clauses_are_executions};
-use bs_seen::Seen;
+use bs_scan::Seen;
 use std::alloc::Global;
 
 /// A search for an execution that is not logged has at most so many lemmas.

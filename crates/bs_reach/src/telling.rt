@@ -1,6 +1,6 @@
 //! What the end of a search tells: the outcome, and an execution where there is one.
 ghost use Rattle.std.specs.Prelude.{◌≡◌, ◌+◌, ◌*◌, ◌<◌, ◌≤◌, [], length, All, IfOk, OnOk};
-ghost use Rattle.bs_solve_recording.specs.Values.{value_of};
+ghost use Rattle.bs_solve_lemmas.specs.Values.{value_of};
 ghost use Rattle.bs_encode.specs.Cycle.{bits_on};
 ghost use Rattle.bs_encode.specs.Frame.{raised_all, HasRoom};
 ghost use Rattle.bs_reach_unrolled.specs.Room.{IsUnrollable};
@@ -13,7 +13,7 @@ use crate::search::End;
 use bs_bits::{Bits, List};
 use bs_clause::{Lit, NoMemory, Var};
 use bs_encode::Encoding;
-use bs_solve_recording::Solution;
+use bs_solve_lemmas::Solution;
 use std::alloc::Global;
 
 /// The outcome, with the states and inputs of an execution where there is one.

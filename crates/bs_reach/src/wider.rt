@@ -1,6 +1,6 @@
 //! Fewer time frames first: where they reach the state, their answer is told of all that are asked for.
 ghost use Rattle.std.specs.Prelude.{◌≡◌, ◌≢◌, ◌*◌, ◌≤◌, true, [], length, map, All, IfOk};
-ghost use Rattle.bs_seen.specs.Seen.{Shows};
+ghost use Rattle.bs_scan.specs.Seen.{Shows};
 ghost use Rattle.bs_net.specs.Circuit.{reset_state};
 ghost use Rattle.bs_net.specs.Netlist.{circuit};
 ghost use Rattle.bs_encode.specs.Transition.{variables};
@@ -23,7 +23,7 @@ use bs_log::Log;
 use bs_net::Netlist;
 use bs_reach_implied::Implied;
 use bs_reach_unrolled::netlists_unroll;
-use bs_seen::Seen;
+use bs_scan::Seen;
 use std::alloc::Global;
 
 /// The clauses and flip-flops of a time frame and the lines of a log are at most so many where the log is renamed.

@@ -4,9 +4,9 @@ use Rattle.std.proofs.lemmas.List.Elements.{All-cons, All-nil}
 use Rattle.bs_clause.specs.Literal.{Clause, Literal}
 use Rattle.bs_clause.specs.Range.{HasVariables, IsWithin}
 use Rattle.bs_log.specs.History.{activation_of, step_of, History, Problem}
-use Rattle.bs_solve_recording.specs.declared.stage.Stage.TheVariants.{Begun}
-use Rattle.bs_solve_recording.specs.declared.answer.Answer.TheVariants as answers
-use Rattle.bs_solve_recording.specs.Solver.{SolverState, HasSolved}
+use Rattle.bs_solve_lemmas.specs.declared.stage.Stage.TheVariants.{Begun}
+use Rattle.bs_solve_lemmas.specs.declared.answer.Answer.TheVariants as answers
+use Rattle.bs_solve_lemmas.specs.Solver.{SolverState, HasSolved}
 use Rattle.bs_reach_execution.specs.Search.{IsFresh}
 
 -- with a step that has begun

@@ -1,7 +1,7 @@
 -- A solver that was just made.
 use Rattle.std.specs.Prelude.{◌≡◌, ◌<◌, ◌^◌, ◌+◌, ℕ, [], false}
-use Rattle.bs_solve_recording.specs.declared.stage.Stage.TheVariants.{Idle}
-use Rattle.bs_solve_recording.specs.Solver.{SolverState}
+use Rattle.bs_solve_lemmas.specs.declared.stage.Stage.TheVariants.{Idle}
+use Rattle.bs_solve_lemmas.specs.Solver.{SolverState}
 
 -- it is over so many variables, and has no line yet
 pub record IsFresh (s : SolverState) (vars : ℕ) : Type 0 where

@@ -9,7 +9,7 @@ use crate::trial::tried;
 use bs_bits::{Bits, List, NoMemory};
 use bs_encode::Encoding;
 use bs_net::Netlist;
-use bs_seen::Seen;
+use bs_scan::Seen;
 use std::alloc::Global;
 
 /// The states from reset on, one more than inputs, and the inputs between.

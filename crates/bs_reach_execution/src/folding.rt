@@ -6,7 +6,7 @@ use crate::template::{Template, template_of};
 use bs_bits::Bits;
 use bs_clause::{Clauses, Lit, Lits, NoMemory};
 use bs_encode::Encoding;
-use bs_seen::Seen;
+use bs_scan::Seen;
 use std::alloc::Global;
 
 /// A clause has at most so many literals where clauses are folded.

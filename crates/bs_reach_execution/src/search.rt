@@ -11,7 +11,7 @@ use crate::numbers::{NONE, TRUE, number_or};
 use bs_bits::{Bits, List};
 use bs_clause::{Clauses, Lit, Lits, NoMemory, Var};
 use bs_solve::Solver;
-use bs_solve_recording::{Answer, Solution};
+use bs_solve_lemmas::{Answer, Solution};
 use std::alloc::Global;
 
 /// There are at most so many variables where clauses are searched.

@@ -10,7 +10,7 @@ ghost use Rattle.bs_reach_execution.specs.Trial.{EndsIn};
 use crate::execution::Execution;
 use bs_bits::{Bits, List, NoMemory};
 use bs_net::Netlist;
-use bs_seen::Seen;
+use bs_scan::Seen;
 use bs_sim::Sim;
 use std::alloc::Global;
 

@@ -8,10 +8,10 @@ use Rattle.bs_log.specs.Refusal.{has_distinct_variables}
 use Rattle.bs_log.specs.Propagation.{start_of, hints_are_unit, last_is_false}
 use Rattle.bs_log.specs.Lean.{IsResolventOf, implied_by}
 use Rattle.bs_watch.proofs.Gets.{same_some, none_is_not_some, get_within, get_from_Contains, Contains_from_get}
-use Rattle.bs_solve_analysis.specs.Chain.{Link, hints_of, IsChain, IsDenied}
-use Rattle.bs_solve_analysis.proofs.Literals.{has-from_Contains, Contains-from_has}
-use Rattle.bs_solve_analysis.proofs.Clauses.{nothing_in, cons_contains, contains_first, contains_cases, all_from, has_none}
-use Rattle.bs_solve_analysis.proofs.Chains.{chains_are_right}
+use Rattle.bs_solve_lemmas.specs.Chain.{Link, hints_of, IsChain, IsDenied}
+use Rattle.bs_solve_lemmas.proofs.Literals.{has-from_Contains, Contains-from_has}
+use Rattle.bs_solve_lemmas.proofs.Clauses.{nothing_in, cons_contains, contains_first, contains_cases, all_from, has_none}
+use Rattle.bs_solve_lemmas.proofs.Chains.{chains_are_right}
 use Rattle.bs_reach_implied.specs.Chain.{IsProvedBy, IsBefore, IsNeeded, AreMade}
 
 -- ---- the clauses before the last, each with its literal

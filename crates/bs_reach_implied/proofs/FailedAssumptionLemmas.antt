@@ -5,8 +5,8 @@ use Rattle.std.proofs.lemmas.Bool.{and_parts, and_from}
 use Rattle.bs_clause.specs.Literal.{Literal, Clause, negation, has_literal}
 use Rattle.bs_log.specs.Refusal.{denies}
 use Rattle.bs_watch.proofs.Gets.{Contains_from_get}
-use Rattle.bs_solve_analysis.proofs.Literals.{Contains-from_has, has-from_Contains}
-use Rattle.bs_solve_analysis.proofs.Clauses.{contains_cases, nothing_in}
+use Rattle.bs_solve_lemmas.proofs.Literals.{Contains-from_has, has-from_Contains}
+use Rattle.bs_solve_lemmas.proofs.Clauses.{contains_cases, nothing_in}
 use Rattle.bs_reach_implied.specs.declared.failure.Lemma.{Lemma}
 use Rattle.bs_reach_implied.specs.Rows.{Refutes}
 

@@ -16,7 +16,7 @@ use Rattle.bs_reach_unrolled.specs.Room.{IsUnrollable}
 use Rattle.bs_reach_unrolled.proofs.UnrollLemmas.{frame_room, states_room, next_room}
 use Rattle.bs_reach_unrolled.proofs.UnrolledLemmas.{unrolled_distinct}
 use Rattle.bs_watch.proofs.Gets.{same_some, none_is_not_some, get_left, get_map, get_map_cases, get_from_Contains, Contains_from_get}
-use Rattle.bs_solve_analysis.proofs.Clauses.{all_from}
+use Rattle.bs_solve_lemmas.proofs.Clauses.{all_from}
 use Rattle.bs_reach_implied.specs.Rows.{clause_at, AreRows}
 
 -- ---- lists

@@ -15,7 +15,7 @@ use crate::template::{number_at, zeros};
 use bs_bits::{Bits, List};
 use bs_clause::{Lit, Lits, NoMemory, Var, is_same};
 use bs_encode::Encoding;
-use bs_seen::Seen;
+use bs_scan::Seen;
 use std::alloc::Global;
 
 /// A lemma of one literal, and the ids of the clauses that it follows from.

@@ -5,7 +5,7 @@ use crate::template::{Template, number_at, template_of, write, zeros};
 use bs_bits::Bits;
 use bs_clause::{Lit, Lits, NoMemory};
 use bs_encode::Encoding;
-use bs_seen::Seen;
+use bs_scan::Seen;
 use std::alloc::Global;
 
 /// What follows from reset in the first time frames: for each variable of the unrolled clauses what implies it, and for each of the

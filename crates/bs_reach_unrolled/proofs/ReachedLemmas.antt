@@ -10,8 +10,8 @@ use Rattle.std.proofs.lemmas.Nat.{mul-add-lt}
 use Rattle.std.proofs.Math.Nat.{suc-mul, mul_comm}
 use Rattle.bs_clause.specs.Literal.{literal_value, Satisfies}
 use Rattle.bs_clause.specs.Range.{IsWithin, HasVariables}
-use Rattle.bs_seen.specs.declared.seen.Seen.{Seen}
-use Rattle.bs_seen.specs.Seen.{Shows}
+use Rattle.bs_scan.specs.declared.seen.Seen.{Seen}
+use Rattle.bs_scan.specs.Seen.{Shows}
 use Rattle.bs_net.specs.Circuit.{Circuit, next, reset_state}
 use Rattle.bs_scan.specs.Moments.{Run, state_at}
 use Rattle.bs_net.proofs.CallerLemmas.{length_next}

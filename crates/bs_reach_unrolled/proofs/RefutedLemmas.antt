@@ -15,7 +15,7 @@ use Rattle.bs_log.specs.Refutation.{Suits, blocks_of}
 use Rattle.bs_log.specs.Steps.{HasNoBlock}
 use Rattle.bs_log.proofs.Finishes.{no_blocks, no_block_before, no_block_reversed, finish_is_inside}
 use Rattle.bs_log.proofs.Laws.{finished_steps_are_refuted, step_of-positive}
-use Rattle.bs_seen.specs.declared.seen.Seen.{Seen}
+use Rattle.bs_scan.specs.declared.seen.Seen.{Seen}
 use Rattle.bs_net.specs.Circuit.{Circuit, reset_state}
 use Rattle.bs_encode.specs.Tables.{lit}
 use Rattle.bs_encode.specs.Encoded.{Encoded}

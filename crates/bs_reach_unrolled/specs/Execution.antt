@@ -1,8 +1,8 @@
 -- Executions from reset, and what is reached in a number of cycles (docs/DEFINITIONS.md, "Bounded reach").
 use Rattle.std.specs.Prelude.{◌≡◌, ℕ, ◌+◌, ◌<◌, Bool, List, length, map, All}
 use Rattle.std.specs.List.{range_with_len}
-use Rattle.bs_seen.specs.declared.seen.Seen.{Seen}
-use Rattle.bs_seen.specs.Seen.{Shows}
+use Rattle.bs_scan.specs.declared.seen.Seen.{Seen}
+use Rattle.bs_scan.specs.Seen.{Shows}
 use Rattle.bs_net.specs.Circuit.{Circuit}
 use Rattle.bs_scan.specs.Moments.{Run, state_at}
 

@@ -7,7 +7,7 @@ use Rattle.bs_log.specs.declared.line.Line.TheVariants.{Finish}
 use Rattle.bs_log.specs.History.{step_of}
 use Rattle.bs_log.specs.Refusal.{history_of, IsAccepted}
 use Rattle.bs_log.specs.Steps.{HasNoBlock}
-use Rattle.bs_seen.specs.declared.seen.Seen.{Seen}
+use Rattle.bs_scan.specs.declared.seen.Seen.{Seen}
 use Rattle.bs_net.specs.Circuit.{Circuit, reset_state}
 use Rattle.bs_encode.specs.Encoded.{Encoded}
 use Rattle.bs_encode.specs.Assuming.{signed_seen}

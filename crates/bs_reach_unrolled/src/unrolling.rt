@@ -9,7 +9,7 @@ use crate::links::add_all_links;
 use bs_bits::Bits;
 use bs_clause::{Clauses, Lit, Lits, NoMemory};
 use bs_encode::{Encoding, push_seen, push_signed, raise_all};
-use bs_seen::Seen;
+use bs_scan::Seen;
 use std::alloc::Global;
 
 /// Puts a unit of each literal at the end.

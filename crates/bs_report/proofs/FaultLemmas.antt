@@ -13,8 +13,8 @@ use Rattle.bs_bits.specs.Reading.{◌>>=◌}
 use Rattle.bs_bits.proofs.LineLemmas.{nothing_left}
 use Rattle.bs_bits.proofs.LineTextLemmas.{Lacks, piece_first}
 use Rattle.bs_log.specs.declared.line.Line.TheVariants as lines
-use Rattle.bs_seen.specs.declared.seen.Seen.{Seen}
-use Rattle.bs_seen.specs.Seen.{whole}
+use Rattle.bs_scan.specs.declared.seen.Seen.{Seen}
+use Rattle.bs_scan.specs.Seen.{whole}
 use Rattle.bs_report.specs.declared.fault.ReportFault.{ReportFault}
 use Rattle.bs_report.specs.declared.fault.ReportFault.TheVariants as faults
 use Rattle.bs_report.specs.declared.place.PartialStep.{PartialStep}

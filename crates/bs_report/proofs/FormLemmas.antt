@@ -9,10 +9,10 @@ use Rattle.std.proofs.lemmas.List.{append-nil}
 use Rattle.bs_bits.specs.Text.{bits_text, bits_of}
 use Rattle.bs_bits.specs.Lines.{words_of, number_in, digits_in}
 use Rattle.bs_bits.proofs.TextLemmas.{bits_again}
-use Rattle.bs_seen.specs.declared.seen.Seen.{Seen}
-use Rattle.bs_seen.specs.Seen.{IsSeen}
-use Rattle.bs_seen.specs.SeenText.{seen_of, seen_text}
-use Rattle.bs_seen.proofs.TextLemmas.{seen_again, seen_lacks}
+use Rattle.bs_scan.specs.declared.seen.Seen.{Seen}
+use Rattle.bs_scan.specs.Seen.{IsSeen}
+use Rattle.bs_scan.specs.SeenText.{seen_of, seen_text}
+use Rattle.bs_scan.proofs.TextLemmas.{seen_again, seen_lacks}
 use Rattle.bs_bits.proofs.LineTextLemmas.{Lacks, lacks_append, bits_lack, number_lacks}
 use Rattle.bs_bits.proofs.NumberLemmas.{decimal_canonical, number_of_decimal}
 use Rattle.bs_clause.specs.Literal.{Literal}

@@ -11,9 +11,9 @@ use Rattle.bs_bits.specs.Text.{bits_text}
 use Rattle.bs_bits.specs.Lines.{line, onto_first, pieces_of}
 use Rattle.bs_bits.specs.Reading.{◌>>=◌}
 use Rattle.bs_bits.proofs.LineLemmas.{nothing_left}
-use Rattle.bs_seen.specs.declared.seen.Seen.{Seen}
-use Rattle.bs_seen.specs.Seen.{whole, IsSeen}
-use Rattle.bs_seen.specs.SeenText.{seen_text}
+use Rattle.bs_scan.specs.declared.seen.Seen.{Seen}
+use Rattle.bs_scan.specs.Seen.{whole, IsSeen}
+use Rattle.bs_scan.specs.SeenText.{seen_text}
 use Rattle.bs_log.specs.declared.line.Line.{Line}
 use Rattle.bs_log.specs.LineForms.{HasText}
 use Rattle.bs_log.specs.LineReading.{line_in}

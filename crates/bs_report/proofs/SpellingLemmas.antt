@@ -10,10 +10,10 @@ use Rattle.std.proofs.lemmas.Bool.Decides.{Decides-eqb}
 use Rattle.bs_bits.specs.Text.{bits_text, bits_of}
 use Rattle.bs_bits.specs.Lines.{line, words_of, number_in}
 use Rattle.bs_bits.proofs.TextLemmas.{text_again}
-use Rattle.bs_seen.specs.declared.seen.Seen.{Seen}
-use Rattle.bs_seen.specs.Seen.{IsSeen}
-use Rattle.bs_seen.specs.SeenText.{seen_of, seen_text}
-use Rattle.bs_seen.proofs.TextLemmas.{seen_exact}
+use Rattle.bs_scan.specs.declared.seen.Seen.{Seen}
+use Rattle.bs_scan.specs.Seen.{IsSeen}
+use Rattle.bs_scan.specs.SeenText.{seen_of, seen_text}
+use Rattle.bs_scan.proofs.TextLemmas.{seen_exact}
 use Rattle.bs_log.specs.declared.line.Line.{Line}
 use Rattle.bs_log.specs.LineForms.{HasText, IsLineOf}
 use Rattle.bs_log.specs.LineReading.{id_in, line_in}

@@ -3,8 +3,8 @@ use Rattle.std.specs.Prelude.{ℕ, ◌==◌, nat_le, Bool, ◌&&◌, List, [], �
 use Rattle.std.specs.Str.{bytes_eq}
 use Rattle.bs_bits.specs.Lines.{words_of, number_in}
 use Rattle.bs_bits.specs.Text.{bits_of}
-use Rattle.bs_seen.specs.declared.seen.Seen.{Seen}
-use Rattle.bs_seen.specs.SeenText.{seen_of}
+use Rattle.bs_scan.specs.declared.seen.Seen.{Seen}
+use Rattle.bs_scan.specs.SeenText.{seen_of}
 use Rattle.bs_log.specs.LineReading.{id_in}
 use Rattle.bs_stim.specs.declared.limits.TheConstants.{MAX_RUNS, MAX_CYCLES}
 use Rattle.bs_report.specs.declared.limits.TheConstants.{MAX_STEPS, MAX_CANDIDATES, MAX_CONFLICTS}

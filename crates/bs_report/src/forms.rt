@@ -9,7 +9,7 @@ ghost use Rattle.bs_report.specs.Forms.{run_cycle_in, seen_behind, seen_in, sour
 use crate::limits::{MAX_CANDIDATES, MAX_CONFLICTS, MAX_STEPS};
 use crate::report::{Before, Budgets, Cand, HitLine, ListEnd, Stop};
 use bs_bits::{Bits, NoMemory, Words, read_number};
-use bs_seen::Seen;
+use bs_scan::Seen;
 use bs_stim::{MAX_CYCLES, MAX_RUNS};
 use std::alloc::Global;
 

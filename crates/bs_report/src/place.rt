@@ -18,7 +18,7 @@ use crate::forms::{
 use crate::report::{Cand, HitLine, ListEnd, Report, Step};
 use bs_bits::{Bits, List, NoMemory};
 use bs_log::Line;
-use bs_seen::Seen;
+use bs_scan::Seen;
 use std::alloc::Global;
 
 /// The first lines of a step: its present state and its stored signatures.

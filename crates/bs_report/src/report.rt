@@ -2,8 +2,7 @@
 
 use bs_bits::{Bits, List};
 use bs_log::Log;
-use bs_scan::HasState;
-use bs_seen::Seen;
+use bs_scan::{HasState, Seen};
 
 /// Why a backtrace stopped (docs/DEFINITIONS.md, "Stop").
 #[derive(Clone, Copy, Debug, PartialEq, Eq)]

@@ -6,12 +6,12 @@ ghost use Rattle.bs_bits.specs.Text.{bits_text};
 ghost use Rattle.bs_log.specs.LineText.{line_text};
 ghost use Rattle.bs_report.specs.Text.{before_text, cand_text, end_word, hit_text, list_text, older_text, step_text, steps_text, stop_word, move_text};
 ghost use Rattle.bs_report.specs.Text.{budgets_text, head_text, report_text, state_at, state_text, tail_text, title, trace_text};
-ghost use Rattle.bs_seen.specs.SeenText.{seen_text};
+ghost use Rattle.bs_scan.specs.SeenText.{seen_text};
 
 use crate::report::{Before, Budgets, Cand, HitLine, ListEnd, Report, Step, Stop};
 use bs_bits::{Bits, NoMemory, end_line, push_line, push_number, push_number_line, push_piece};
 use bs_log::Line;
-use bs_seen::push_seen_text;
+use bs_scan::push_seen_text;
 
 /// Appends a line of a word and bits.
 fn push_bits_line(text: &mut Vec<u8>, word: &[u8], bits: &Bits) -> Result<(), NoMemory>

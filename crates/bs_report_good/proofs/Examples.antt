@@ -2,8 +2,8 @@
 use Rattle.std.proofs.Common.{◌≡◌, ℕ, true, false, [], ◌∷◌, List, Bool, refl, Some, None}
 use Rattle.std.specs.Prelude.{⊤, not}
 use Rattle.bs_log.specs.declared.why.Why.TheVariants.{Order as order}
-use Rattle.bs_seen.specs.declared.seen.Seen.{Seen}
-use Rattle.bs_seen.specs.Seen.{whole}
+use Rattle.bs_scan.specs.declared.seen.Seen.{Seen}
+use Rattle.bs_scan.specs.Seen.{whole}
 use Rattle.bs_net.specs.declared.net.NetId.{NetId}
 use Rattle.bs_net.specs.declared.gate.Kind.TheVariants.{Not}
 use Rattle.bs_net.specs.declared.net.Mode.TheVariants.{Plain}

@@ -5,8 +5,8 @@ use Rattle.std.specs.List.{AllByRecursion as Each, list_any}
 use Rattle.std.proofs.lemmas.Bool.{false≢true}
 use Rattle.std.proofs.lemmas.List.Elements.{recursion_from_All}
 use Rattle.bs_bits.specs.Bits.{bits_eq}
-use Rattle.bs_seen.specs.Seen.{is_shown}
-use Rattle.bs_seen.proofs.SeenLemmas.{shows_where}
+use Rattle.bs_scan.specs.Seen.{is_shown}
+use Rattle.bs_scan.proofs.SeenLemmas.{shows_where}
 use Rattle.bs_net.specs.Circuit.{next, all_bits}
 use Rattle.bs_net.proofs.CallerLemmas.{all_bits_widths}
 use Rattle.bs_net.proofs.NextLemmas.{Member}

@@ -11,9 +11,9 @@ use Rattle.std.proofs.lemmas.List.{length-map}
 use Rattle.std.proofs.lemmas.List.Elements.{recursion_from_All}
 use Rattle.bs_bits.specs.Bits.{bits_eq}
 use Rattle.bs_net.proofs.NextLemmas.{bits_eq_Decides}
-use Rattle.bs_seen.specs.declared.seen.Seen.{Seen}
-use Rattle.bs_seen.specs.Seen.{is_shown}
-use Rattle.bs_seen.proofs.SeenLemmas.{seen_same, shown_where}
+use Rattle.bs_scan.specs.declared.seen.Seen.{Seen}
+use Rattle.bs_scan.specs.Seen.{is_shown}
+use Rattle.bs_scan.proofs.SeenLemmas.{seen_same, shown_where}
 use Rattle.bs_net.specs.Circuit.{all_bits}
 use Rattle.bs_scan.specs.Moments.{is_listed}
 use Rattle.bs_scan.specs.Choice.{depth_of}

@@ -4,8 +4,8 @@ use Rattle.std.proofs.Common.{Option, Some, None, arith, add-one}
 use Rattle.std.specs.Prelude.{slice_get, option_map, MatchOption, All}
 use Rattle.std.specs.List.{AllByRecursion as Each}
 use Rattle.std.proofs.lemmas.List.Elements.{recursion_from_All}
-use Rattle.bs_seen.specs.declared.seen.Seen.{Seen}
-use Rattle.bs_seen.specs.Seen.{whole}
+use Rattle.bs_scan.specs.declared.seen.Seen.{Seen}
+use Rattle.bs_scan.specs.Seen.{whole}
 use Rattle.bs_net.specs.Circuit.{Circuit}
 use Rattle.bs_scan.specs.declared.moment.Moment.{Moment}
 use Rattle.bs_scan.specs.Moments.{Run, IsMoment, run_of, state_at, state_of, is_listed, first_moment}

@@ -26,9 +26,9 @@ use Rattle.bs_report.specs.declared.report.Cand.{Cand}
 use Rattle.std.specs.Ordering.{is_lt, bool_cmp}
 use Rattle.std.specs.Cmp.Lexicographic.{slice_cmp}
 use Rattle.std.proofs.lemmas.List.{get_or_default}
-use Rattle.bs_seen.specs.declared.seen.Seen.{Seen}
-use Rattle.bs_seen.specs.Seen.{Shows, is_shown}
-use Rattle.bs_seen.proofs.SeenLemmas.{seen_is, shows_where}
+use Rattle.bs_scan.specs.declared.seen.Seen.{Seen}
+use Rattle.bs_scan.specs.Seen.{Shows, is_shown}
+use Rattle.bs_scan.proofs.SeenLemmas.{seen_is, shows_where}
 use Rattle.bs_net.specs.Circuit.{next}
 use Rattle.bs_net.proofs.NextLemmas.{next_is_led}
 use Rattle.bs_scan.specs.Choice.{depth_of}

@@ -17,7 +17,7 @@ use Rattle.bs_log.specs.Steps.{block_of_line, finish_of_line}
 use Rattle.bs_log.proofs.Laws.{finished_steps_are_refuted}
 use Rattle.bs_log.proofs.StepLemmas.{accepted, finish_at}
 use Rattle.bs_net.proofs.NextLemmas.{Member}
-use Rattle.bs_seen.specs.Seen.{Shows}
+use Rattle.bs_scan.specs.Seen.{Shows}
 use Rattle.bs_net.specs.Circuit.{next}
 use Rattle.bs_scan.specs.Moments.{is_listed}
 use Rattle.bs_scan.specs.Signature.{agrees}

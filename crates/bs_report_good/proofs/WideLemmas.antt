@@ -4,7 +4,7 @@ use Rattle.std.specs.Prelude.{All, IfSome, find, option_and_then, option_map}
 use Rattle.std.specs.List.{AllByRecursion as Each}
 use Rattle.std.proofs.lemmas.List.Elements.{All-weaker, recursion_from_All}
 use Rattle.bs_bits.specs.Bits.{bits_eq}
-use Rattle.bs_seen.specs.declared.seen.Seen.{Seen}
+use Rattle.bs_scan.specs.declared.seen.Seen.{Seen}
 use Rattle.bs_net.specs.Circuit.{Circuit, next}
 use Rattle.bs_net.proofs.CallerLemmas.{length_next}
 use Rattle.bs_scan.specs.Choice.{Chosen}

@@ -1,6 +1,6 @@
 -- How the steps follow each other.
 use Rattle.std.specs.Prelude.{◌≡◌, ◌≤◌, List, [], ◌∷◌, length, Option, Some, option_map}
-use Rattle.bs_seen.specs.Seen.{whole}
+use Rattle.bs_scan.specs.Seen.{whole}
 use Rattle.bs_scan.specs.Present.{Present, present_in}
 use Rattle.bs_scan.specs.Moments.{run_of}
 use Rattle.bs_scan.specs.Signature.{stored_at}

@@ -1,7 +1,7 @@
 -- Laws of good reports.
 use Rattle.std.specs.Prelude.{◌≡◌, ◌≢◌, ◌↔◌, ℕ, ◌+◌, ◌<◌, ◌≤◌, Bool, List, [], ◌++◌, length, take, map, filter_map, Option, Some, None, option_map, slice_get, All}
 use Rattle.std.specs.List.{range_with_len, last_or}
-use Rattle.bs_seen.specs.Seen.{whole, Shows}
+use Rattle.bs_scan.specs.Seen.{whole, Shows}
 use Rattle.bs_net.specs.Circuit.{Circuit, Leads}
 use Rattle.bs_scan.specs.declared.moment.Moment.{Moment}
 use Rattle.bs_scan.specs.Moments.{Run, moment, IsMoment, run_of, state_at}

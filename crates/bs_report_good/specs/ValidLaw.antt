@@ -1,6 +1,6 @@
 -- A valid report is good, and a good one valid: what this rests on.
 use Rattle.std.specs.Prelude.{◌≡◌, ℕ, ◌+◌, true, Bool, List, length, Some, slice_get}
-use Rattle.bs_seen.specs.Seen.{Shows}
+use Rattle.bs_scan.specs.Seen.{Shows}
 use Rattle.bs_net.specs.Circuit.{next}
 use Rattle.bs_scan.specs.Signature.{agrees}
 use Rattle.bs_log.specs.Shown.{Basis, Shown}

@@ -8,7 +8,7 @@ ghost use Rattle.bs_report_good.specs.WideCands.{HasWideCands};
 use bs_bits::{Bits, NoMemory};
 use bs_net::Netlist;
 use bs_report::Step;
-use bs_seen::Seen;
+use bs_scan::Seen;
 use bs_sim::Sim;
 use std::alloc::Global;
 

@@ -1,1 +1,2 @@
 pub mod WidthLemmas
+pub mod SolverLemmas

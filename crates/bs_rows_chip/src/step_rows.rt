@@ -12,6 +12,9 @@ use std::test::Fail;
 
 const TOGGLE: &str = "module t(ck); input ck; not g(d,q); dff f(ck,q,d); endmodule";
 
+/// The toggle with a second gate, which is quiet while the first is not.
+const TWO_GATES: &str = "module t(ck); input ck; not g(d,q); buf h(e,q); dff f(ck,q,d); endmodule";
+
 const XNOR: &str =
     "module x(ck); input ck; xnor g(d0,q0,q1,1'b0); nand h(d1,q0); dff f0(ck,q0,d0); dff f1(ck,q1,d1); endmodule";
 
@@ -116,8 +119,8 @@ fn is_event_edge(
     Ok(!event.value(probe) && event.state().equals(&edge.next))
 }
 
-/// The work of the event simulator's first and second step from reset, with no data inputs.
-fn works(alloc: Global, net: &Netlist) -> Result<Option<(u64, u64)>, NoMemory> {
+/// The work of the event simulator's first three steps from reset, with no data inputs.
+fn works(alloc: Global, net: &Netlist) -> Result<Option<(u64, u64, u64)>, NoMemory> {
     if net.data_inputs().len() != 0 {
         return Ok(None);
     }
@@ -126,7 +129,9 @@ fn works(alloc: Global, net: &Netlist) -> Result<Option<(u64, u64)>, NoMemory> {
     event.step(&input);
     let first = event.work();
     event.step(&input);
-    Ok(Some((first, event.work())))
+    let second = event.work();
+    event.step(&input);
+    Ok(Some((first, second, event.work())))
 }
 
 /// Whether no gate step, then one, then two more of the first gate end so, with a net that shows the last bit.
@@ -177,8 +182,8 @@ fn are_s27_steps(alloc: Global) -> Result<bool, NoMemory> {
     }
 }
 
-/// The work of the toggle's first two steps.
-fn toggle_works(alloc: Global) -> Result<Option<(u64, u64)>, NoMemory> {
+/// The work of the toggle's first three steps: in the second the bit has changed, and in the third it has changed back.
+fn toggle_works(alloc: Global) -> Result<Option<(u64, u64, u64)>, NoMemory> {
     match netlist(alloc, TOGGLE.as_bytes()) {
         Some(net) => works(alloc, &net),
         None => Ok(None),
@@ -197,11 +202,12 @@ fn plays_in_zero(
     }
 }
 
-/// The same for the toggle.
-fn toggle_plays(alloc: Global) -> Result<Option<(Settled, Settled, Settled, bool)>, NoMemory> {
-    match netlist(alloc, TOGGLE.as_bytes()) {
-        Some(net) => plays_in_zero(alloc, &net),
-        None => Ok(None),
+/// Whether the toggle, or a text like it, is quiet from the first step of its first gate on, and not before.
+fn is_quiet_from_one(alloc: Global, text: &str) -> Result<bool, NoMemory> {
+    let want = (Settled::Unstable(0), Settled::Quiet, Settled::Quiet, true);
+    match netlist(alloc, text.as_bytes()) {
+        Some(net) => Ok(plays_in_zero(alloc, &net)? == Some(want)),
+        None => Ok(false),
     }
 }
 
@@ -209,11 +215,9 @@ fn toggle_plays(alloc: Global) -> Result<Option<(Settled, Settled, Settled, bool
 fn simulators_step_and_settle(rt: HostRuntime) -> Result<(), Fail> {
     let alloc = rt.alloc();
     assert!(rt; are_s27_steps(alloc)?);
-    assert_eq!(rt; toggle_works(alloc)?, Some((0, 1)));
-    assert_eq!(rt;
-        toggle_plays(alloc)?,
-        Some((Settled::Unstable(0), Settled::Quiet, Settled::Quiet, true))
-    );
+    assert_eq!(rt; toggle_works(alloc)?, Some((0, 1, 1)));
+    assert!(rt; is_quiet_from_one(alloc, TOGGLE)?);
+    assert!(rt; is_quiet_from_one(alloc, TWO_GATES)?);
     Ok(())
 }
 

@@ -4,8 +4,7 @@ ghost use Rattle.bs_lanes.specs.Lanes.{is_wide};
 
 use crate::netlists::netlist;
 use bs_bits::NoMemory;
-use bs_lanes::Lanes;
-use bs_lanes_planes::Planes;
+use bs_lanes::{Lanes, Planes};
 use bs_net::Netlist;
 use std::alloc::Global;
 use std::test::Fail;

@@ -5,7 +5,7 @@ ghost use Rattle.bs_inspect_lists.specs.declared.lists.TheConstants.{MAX_LISTED_
 ghost use Rattle.bs_inspect_lists.specs.declared.spread.TheConstants.{FRONT_PART, MAX_MOMENTS, MAX_TRY_MOMENTS};
 ghost use Rattle.bs_inspect_lists.specs.declared.deck.TheConstants.{FEW_ITEMS, WEIGHT};
 ghost use Rattle.bs_encode.specs.declared.encoding.TheConstants.{MAX_ACTIVATIONS};
-ghost use Rattle.bs_solve_reduction.specs.declared.rule.TheConstants.{SHORT, MOST_LONG};
+ghost use Rattle.bs_solve_lemmas.specs.declared.rule.TheConstants.{SHORT, MOST_LONG};
 ghost use Rattle.bs_preimage.specs.declared.probe.TheConstants.{MAX_PROBES};
 ghost use Rattle.bs_preimage_recorded.specs.declared.search.TheConstants.{MAX_ASKS};
 ghost use Rattle.bs_chip.specs.declared.index.TheConstants.{MAX_HASHES};

@@ -11,11 +11,11 @@ use Rattle.bs_bits.specs.Reading.{◌>>=◌}
 use Rattle.bs_bits.specs.Lines.{line, lines_of}
 use Rattle.bs_bits.proofs.LineTextLemmas.{Lacks, lacks_append, line_first, bits_lack_feed}
 use Rattle.bs_bits.proofs.TextLemmas.{bits_again}
-use Rattle.bs_seen.specs.declared.seen.Seen.{Seen}
-use Rattle.bs_seen.specs.Seen.{Shows, is_shown, IsSeen}
-use Rattle.bs_seen.specs.SeenText.{seen_of, seen_text}
-use Rattle.bs_seen.proofs.SeenLemmas.{shown_where}
-use Rattle.bs_seen.proofs.TextLemmas.{seen_again, seen_lacks}
+use Rattle.bs_scan.specs.declared.seen.Seen.{Seen}
+use Rattle.bs_scan.specs.Seen.{Shows, is_shown, IsSeen}
+use Rattle.bs_scan.specs.SeenText.{seen_of, seen_text}
+use Rattle.bs_scan.proofs.SeenLemmas.{shown_where}
+use Rattle.bs_scan.proofs.TextLemmas.{seen_again, seen_lacks}
 use Rattle.bs_scan.specs.declared.dump.Dump.{Dump}
 use Rattle.bs_scan.specs.declared.fault.DumpFault.{DumpFault}
 use Rattle.bs_scan.specs.declared.fault.DumpFault.TheVariants.{Width, NotReset}

@@ -14,11 +14,11 @@ use Rattle.bs_bits.specs.Reading.{◌>>=◌, Answers}
 use Rattle.bs_bits.specs.Text.{bits_text, bits_of}
 use Rattle.bs_bits.proofs.LineTextLemmas.{lines_again}
 use Rattle.bs_bits.proofs.TextLemmas.{text_again}
-use Rattle.bs_seen.specs.declared.seen.Seen.{Seen}
-use Rattle.bs_seen.specs.Seen.{Shows, is_shown, IsSeen}
-use Rattle.bs_seen.specs.SeenText.{seen_of, seen_text}
-use Rattle.bs_seen.proofs.SeenLemmas.{shows_where}
-use Rattle.bs_seen.proofs.TextLemmas.{seen_exact}
+use Rattle.bs_scan.specs.declared.seen.Seen.{Seen}
+use Rattle.bs_scan.specs.Seen.{Shows, is_shown, IsSeen}
+use Rattle.bs_scan.specs.SeenText.{seen_of, seen_text}
+use Rattle.bs_scan.proofs.SeenLemmas.{shows_where}
+use Rattle.bs_scan.proofs.TextLemmas.{seen_exact}
 use Rattle.bs_net.specs.declared.net.Flop.{Flop}
 use Rattle.bs_net.specs.Circuit.{Circuit, reset_state}
 use Rattle.bs_scan.specs.declared.dump.Dump.{Dump}

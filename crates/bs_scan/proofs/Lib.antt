@@ -9,3 +9,7 @@ pub mod WordLemmas
 pub mod FlopLemmas
 pub mod ItemLemmas
 pub mod RegisterLemmas
+pub mod KeptLemmas
+pub mod SeenLemmas
+pub mod TextLemmas
+pub mod KeyLemmas

@@ -6,9 +6,9 @@ use Rattle.std.specs.List.{list_any}
 use Rattle.std.proofs.lemmas.Bool.{true≢false}
 use Rattle.std.proofs.lemmas.List.{length-map}
 use Rattle.bs_bits.specs.Bits.{bits_eq}
-use Rattle.bs_seen.specs.declared.seen.Seen.{Seen}
-use Rattle.bs_seen.specs.Seen.{whole, Shows, is_shown}
-use Rattle.bs_seen.proofs.SeenLemmas.{shows_where, shown_where}
+use Rattle.bs_scan.specs.declared.seen.Seen.{Seen}
+use Rattle.bs_scan.specs.Seen.{whole, Shows, is_shown}
+use Rattle.bs_scan.proofs.SeenLemmas.{shows_where, shown_where}
 use Rattle.bs_net.specs.declared.net.Flop.{Flop}
 use Rattle.bs_net.specs.Circuit.{Circuit, reset_state, next, all_bits}
 use Rattle.bs_net.proofs.CallerLemmas.{length_next}

@@ -2,8 +2,8 @@
 use Rattle.std.proofs.Common.{◌≡◌, ℕ, true, false, List, [], ◌∷◌, refl, Some, None, length, Result, Ok, Err}
 use Rattle.std.specs.Prelude.{codes}
 use Rattle.bs_bits.specs.Lines.{lines_of}
-use Rattle.bs_seen.specs.declared.seen.Seen.{Seen}
-use Rattle.bs_seen.specs.Seen.{whole}
+use Rattle.bs_scan.specs.declared.seen.Seen.{Seen}
+use Rattle.bs_scan.specs.Seen.{whole}
 use Rattle.bs_net.specs.declared.net.NetId.{NetId}
 use Rattle.bs_net.specs.declared.net.Flop.{Flop}
 use Rattle.bs_net.specs.declared.net.Mode.TheVariants.{Plain}
@@ -334,6 +334,62 @@ space_behind = refl
 unknown_behind : chosen_by (codes "cycles 2\nbit i\n") ≡ Err (faults.UnknownFlop 2)
 unfolding items_of flops_of
 unknown_behind = refl
+
+-- one netlist wrote `t[8]` as an escaped name, the other a bit of a vector of an instance
+abbrev spelled : Parts
+spelled =
+    record {
+      names = codes "ck" ∷ codes "i" ∷ codes "\\t[8]" ∷ codes "[1]\\u.q" ∷ [];
+      inputs = [];
+      outputs = [];
+      consts = [];
+      gates = [];
+      flops = flop_at 2 1 ∷ flop_at 3 2 ∷ [];
+    }
+
+other_spellings : choice_of spelled (lines_of (codes "xor t[8] u.q[1] [8]\\t \\u.q[1]")) ≡ Ok (record { width = 2; depth = 1; items = (0 ∷ 1 ∷ 0 ∷ 1 ∷ []) ∷ [] })
+unfolding items_of flops_of
+other_spellings = refl
+
+another_bit : choice_of spelled (lines_of (codes "bit t[9]")) ≡ Err (faults.UnknownFlop 1)
+unfolding items_of flops_of
+another_bit = refl
+
+-- a bit of a vector and an escaped name that are one name as RTL writes it
+abbrev doubled_name : Parts
+doubled_name =
+    record {
+      names = codes "ck" ∷ codes "i" ∷ codes "\\t[8]" ∷ codes "t[8]" ∷ [];
+      inputs = [];
+      outputs = [];
+      consts = [];
+      gates = [];
+      flops = flop_at 2 1 ∷ flop_at 3 2 ∷ [];
+    }
+
+keys_go_first : choice_of doubled_name (lines_of (codes "xor t[8] \\t[8]")) ≡ Ok (record { width = 2; depth = 1; items = (1 ∷ 0 ∷ []) ∷ [] })
+unfolding items_of flops_of
+keys_go_first = refl
+
+two_are_called_so : choice_of doubled_name (lines_of (codes "bit [8]\\t")) ≡ Err (faults.UnknownFlop 1)
+unfolding items_of flops_of
+two_are_called_so = refl
+
+-- a net that is no flip-flop's has the key
+abbrev other_net : Parts
+other_net =
+    record {
+      names = codes "ck" ∷ codes "t[8]" ∷ codes "\\t[8]" ∷ [];
+      inputs = [];
+      outputs = [];
+      consts = [];
+      gates = [];
+      flops = flop_at 2 1 ∷ [];
+    }
+
+the_net_is_meant : choice_of other_net (lines_of (codes "bit t[8]")) ≡ Err (faults.UnknownFlop 1)
+unfolding items_of flops_of
+the_net_is_meant = refl
 
 one_item_too_many : item_of parts 258 257 (Some (codes "b" ∷ [])) ≡ Err (faults.TooMany 258)
 one_item_too_many = refl

@@ -1,14 +1,16 @@
 -- The text of what a signature is taken of (docs/FORMATS.md, "Signature"): each line is `bit NAME`, or `xor NAME ..` with one name or more,
 -- but that the first one may be `cycles 2`.
 use Rattle.std.specs.Prelude.{ℕ, ◌+◌, ◌==◌, nat_le, nat_lt, Bool, ◌&&◌, ◌||◌, List, [], ◌∷◌, length, codes, Option, Some, None, Result, Ok, Err}
-use Rattle.std.specs.Prelude.{false, drop, if◌then◌else◌, option_and_then}
+use Rattle.std.specs.Prelude.{false, drop, map, count_by, if◌then◌else◌}
 use Rattle.std.specs.List.{list_all, position}
 use Rattle.std.specs.Str.{bytes_eq}
 use Rattle.bs_bits.specs.Reading.{◌>>=◌}
 use Rattle.bs_bits.specs.Lines.{words_of, is_name}
 use Rattle.bs_net.specs.declared.net.Flop.{Flop}
 use Rattle.bs_net.specs.Names.{number_of}
-use Rattle.bs_net.specs.Parts.{Parts}
+use Rattle.bs_net.specs.Parts.{Parts, key_at}
+use Rattle.bs_net_names.specs.Keys.{KeyParts, key_parts}
+use Rattle.bs_net_names.specs.Rtl.{same_name}
 use Rattle.bs_scan.specs.declared.fault.ChoiceFault.{ChoiceFault}
 use Rattle.bs_scan.specs.declared.fault.ChoiceFault.TheVariants.{Line, TooMany, UnknownFlop}
 use Rattle.bs_scan.specs.declared.choice.TheConstants.{MAX_ITEMS}
@@ -18,9 +20,26 @@ use Rattle.bs_scan.specs.Choice.{Chosen}
 abbrev pub flop_of_net : List Flop → ℕ → Option ℕ
 flop_of_net flops n = position (λ flop. flop.q.0 == n) flops
 
--- the flip-flop with a name: the key of its output net
+-- what the key of each flip-flop says
+abbrev pub flop_parts : Parts → List KeyParts
+flop_parts net = map (λ f. key_parts (key_at net f.q.0)) net.flops
+
+-- the place of what alone has a property
+abbrev pub only_place : {A : Type 0} → (A → Bool) → List A → Option ℕ
+only_place has xs = if count_by has xs == 1 then position has xs else None
+
+-- the flip-flop whose key alone is a name as RTL writes it: of `[3]\u1.q` and `\u1.q[3]` each is found by the other
+abbrev pub flop_called : List KeyParts → List ℕ → Option ℕ
+flop_called keys name = only_place (λ key. same_name key (key_parts name)) keys
+
+-- the flip-flop of a net, or of a name that is no net's key
+abbrev pub flop_at : Parts → List ℕ → Option ℕ → Option ℕ
+flop_at net name None = flop_called (flop_parts net) name
+flop_at net name (Some n) = flop_of_net net.flops n
+
+-- the flip-flop with a name: the key of its output net, or where no net has that key, the flip-flop that alone is called so
 abbrev pub flop_named : Parts → List ℕ → Option ℕ
-flop_named net name = option_and_then (flop_of_net net.flops) (number_of net.names name)
+flop_named net name = flop_at net name (number_of net.names name)
 
 -- whether a line's first word and its other words are an item
 abbrev pub is_item : List ℕ → List (List ℕ) → Bool

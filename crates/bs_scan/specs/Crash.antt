@@ -1,6 +1,6 @@
 -- What a backtrace is about: recorded runs of a chip, and the dump of one that crashed (docs/DEFINITIONS.md, "Crash").
 use Rattle.std.specs.Prelude.{◌≡◌, ◌≤◌, List, length, All, slice_get}
-use Rattle.bs_seen.specs.Seen.{whole, IsSeen}
+use Rattle.bs_scan.specs.Seen.{whole, IsSeen}
 use Rattle.bs_net.specs.Circuit.{Circuit}
 use Rattle.bs_net.specs.Netlist.{circuit_of}
 use Rattle.bs_net.specs.Order.{IsChecked}

@@ -6,9 +6,9 @@ use Rattle.std.specs.Str.{bytes_eq}
 use Rattle.bs_bits.specs.Text.{bits_text, bits_of}
 use Rattle.bs_bits.specs.Reading.{◌>>=◌}
 use Rattle.bs_bits.specs.Lines.{line}
-use Rattle.bs_seen.specs.declared.seen.Seen.{Seen}
-use Rattle.bs_seen.specs.Seen.{is_shown}
-use Rattle.bs_seen.specs.SeenText.{seen_of, seen_text}
+use Rattle.bs_scan.specs.declared.seen.Seen.{Seen}
+use Rattle.bs_scan.specs.Seen.{is_shown}
+use Rattle.bs_scan.specs.SeenText.{seen_of, seen_text}
 use Rattle.bs_scan.specs.declared.dump.Dump.{Dump}
 use Rattle.bs_scan.specs.declared.fault.DumpFault.{DumpFault}
 use Rattle.bs_scan.specs.declared.fault.DumpFault.TheVariants.{Line, Width, NotReset}

@@ -10,5 +10,7 @@ pub mod DumpText
 pub mod Present
 pub mod Crash
 pub mod Law
+pub mod Seen
+pub mod SeenText
 -- what inner functions promise each other
 pub mod Reading

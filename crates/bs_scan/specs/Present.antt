@@ -1,7 +1,7 @@
 -- What is known of a state of the chip, and what its register holds there.
 use Rattle.std.specs.Prelude.{Bool, List}
-use Rattle.bs_seen.specs.declared.seen.Seen.{Seen}
-use Rattle.bs_seen.specs.Seen.{Shows}
+use Rattle.bs_scan.specs.declared.seen.Seen.{Seen}
+use Rattle.bs_scan.specs.Seen.{Shows}
 use Rattle.bs_net.specs.Circuit.{Circuit, Leads}
 use Rattle.bs_scan.specs.declared.dump.Dump.{Dump}
 use Rattle.bs_scan.specs.Dump.{signatures_of}

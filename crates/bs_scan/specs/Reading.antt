@@ -5,7 +5,8 @@ use Rattle.bs_bits.specs.Lines.{words_of}
 use Rattle.bs_net.specs.Parts.{Parts}
 use Rattle.bs_scan.specs.declared.fault.ChoiceFault.{ChoiceFault}
 use Rattle.bs_bits.specs.Reading.{◌>>=◌}
-use Rattle.bs_scan.specs.ChoiceText.{flop_of_net}
+use Rattle.bs_net_names.specs.Keys.{KeyParts}
+use Rattle.bs_scan.specs.ChoiceText.{flop_of_net, flop_parts}
 
 -- the words that are left of a line
 abbrev pub words_left : Option (List ℕ) → List (List ℕ)
@@ -16,6 +17,11 @@ words_left (Some text) = words_of text
 pub record IsTable (net : Parts) (table : List (Option ℕ)) : Type 0 where
   pub every_net : length table ≡ length net.names
   pub flop : (n : ℕ) → n < length net.names → slice_index_or table n None ≡ flop_of_net net.flops n
+
+-- such a table, and what the key of each flip-flop says
+pub record AreNames (net : Parts) (table : List (Option ℕ)) (keys : List KeyParts) : Type 0 where
+  pub by_net : IsTable net table
+  pub called : keys ≡ flop_parts net
 
 -- a flip-flop at a net, unless there is one already
 abbrev pub noted : List (Option ℕ) → ℕ → ℕ → List (Option ℕ)

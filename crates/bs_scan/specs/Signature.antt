@@ -2,8 +2,8 @@
 use Rattle.std.specs.Prelude.{ℕ, zero, suc, ◌-◌, Bool, true, false, ◌&&◌, List, [], ◌∷◌, map, filter, length}
 use Rattle.std.specs.List.{list_any}
 use Rattle.bs_bits.specs.Bits.{bits_eq}
-use Rattle.bs_seen.specs.declared.seen.Seen.{Seen}
-use Rattle.bs_seen.specs.Seen.{is_shown, whole}
+use Rattle.bs_scan.specs.declared.seen.Seen.{Seen}
+use Rattle.bs_scan.specs.Seen.{is_shown, whole}
 use Rattle.bs_net.specs.Circuit.{Circuit, reset_state, next, all_bits, bit_at}
 use Rattle.bs_net.specs.Gate.{is_odd}
 use Rattle.bs_scan.specs.Choice.{Chosen, depth_of}

@@ -1,6 +1,6 @@
 //! What is dumped of a chip: a state, and the signatures that its register holds.
 ghost use Rattle.std.specs.Prelude.{◌≡◌, ◌++◌, ◌&&◌, not, is_none, None, length, IfOk, OnOk, OnErr};
-ghost use Rattle.bs_seen.specs.Seen.{is_shown, Shows};
+ghost use Rattle.bs_scan.specs.Seen.{is_shown, Shows};
 ghost use Rattle.bs_net.specs.Netlist.{circuit};
 ghost use Rattle.bs_net.specs.Circuit.{reset_state};
 ghost use Rattle.bs_scan.specs.Choice.{depth_of, IsDepth};
@@ -15,9 +15,9 @@ use crate::dump_text::{
     end_line, first_line, held_line, older_line, push_lines, rest_behind_older, seen_line,
 };
 use crate::fault::DumpFault;
+use crate::seen::Seen;
 use bs_bits::{Bits, NoMemory};
 use bs_net::Netlist;
-use bs_seen::Seen;
 use std::alloc::Global;
 
 /// A dump: what is known of the state of the flip-flops, in scan order, and the signatures that the register holds, as many as it

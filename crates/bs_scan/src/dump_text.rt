@@ -3,7 +3,7 @@ ghost use Rattle.std.specs.Prelude.{◌≡◌, ◌==◌, ◌≤◌, length, true
 ghost use Rattle.bs_scan.specs.DumpText.{behind, behind_older, of_width as bits_of_width, bits_line as bits_line_of, held_line as held_line_of};
 ghost use Rattle.bs_scan.specs.DumpText.{old_line as old_line_of, older_line as older_line_of, end_line as end_line_of, is_text as is_text_of};
 ghost use Rattle.bs_scan.specs.DumpText.{signature_line, older_text, dump_text, seen_of_width as of_seen_width, seen_line as seen_line_of};
-ghost use Rattle.bs_seen.specs.SeenText.{seen_of, seen_text};
+ghost use Rattle.bs_scan.specs.SeenText.{seen_of, seen_text};
 ghost use Rattle.bs_bits.specs.Lines.{lines_of, line as written_line};
 ghost use Rattle.bs_bits.specs.Reading.{Answers};
 ghost use Rattle.bs_bits.specs.Text.{bits_of, bits_text};
@@ -11,9 +11,9 @@ ghost use Rattle.bs_stim.specs.Appending.{Begins};
 
 use crate::dump::Dump;
 use crate::fault::DumpFault;
+use crate::seen::Seen;
 use crate::words::is_same;
 use bs_bits::{Bits, NoMemory, end_line as written_end, next_line, push_line, push_piece};
-use bs_seen::Seen;
 use std::alloc::Global;
 
 /// The first line, if there is one, and the bytes behind it.

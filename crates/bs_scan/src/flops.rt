@@ -2,30 +2,36 @@
 ghost use Rattle.std.specs.Prelude.{◌≡◌, ◌<◌, None, option_map, replicate, length, IsTrue, IfOk, IfSome};
 ghost use Rattle.bs_bits.specs.Lines.{is_name as is_name_text};
 ghost use Rattle.bs_net.specs.Names.{number_of};
-ghost use Rattle.bs_scan.specs.ChoiceText.{flop_named};
+ghost use Rattle.bs_scan.specs.ChoiceText.{flop_called, flop_named, flop_of_net, flop_parts};
 ghost use Rattle.bs_scan.specs.Reading.{IsTable, noted};
 
+use crate::flop_keys::{flop_called, flop_parts};
 use bs_bits::NoMemory;
 use bs_net::{NetId, Netlist};
+use bs_net_names::KeyParts;
 use std::alloc::Global;
 use std::marker::Model;
 
-/// The flip-flops of a netlist by the keys of their output nets: a look-up takes the time of one in a hash map.
+/// The flip-flops of a netlist by the keys of their output nets: a look-up of a key takes the time of one in a hash map. Another name
+/// is compared with each key.
 #[derive(Drop)]
 pub struct FlopNames<'a> {
     net: &'a Netlist,
     by_net: Vec<Option<u32>>,
+    keys: Vec<KeyParts<'a>>,
 }
 
 impl<'a> Model for FlopNames<'a> {
+    ghost use Rattle.std.specs.Prelude.{map};
     ghost use Rattle.bs_net.specs.Parts.{Parts};
-    ghost use Rattle.bs_scan.specs.Reading.{IsTable};
+    ghost use Rattle.bs_net_names.specs.Keys.{parts_in};
+    ghost use Rattle.bs_scan.specs.Reading.{AreNames};
 
     ghost Value = { Parts };
 
     ghost view = { λ names. names.net.now.raw };
 
-    ghost invariant = { λ names. IsTable names.net.now.raw names.by_net.items };
+    ghost invariant = { λ names. AreNames names.net.now.raw names.by_net.items (map parts_in names.keys.items) };
 }
 
 /// As many places without a flip-flop.
@@ -85,18 +91,41 @@ impl<'a> FlopNames<'a> {
         ensures { IfOk result (λ names. names ≡ net.now.raw) }
     {
         let by_net = flops_by_net(alloc, net)?;
-        Ok(FlopNames { net, by_net })
+        let keys = flop_parts(alloc, net.raw())?;
+        Ok(FlopNames { net, by_net, keys })
     }
 
-    /// The number of the flip-flop with a name.
+    /// The number of the flip-flop whose output is a net.
+    fn at(&self, net: NetId) -> Option<u32>
+        requires { net.0 < length self.now.names }
+        ensures value { result ≡ flop_of_net self.now.flops net.0 }
+        ensures within { IfSome result (λ flop. flop < length self.now.flops) }
+    {
+        self.by_net[net.0 as usize]
+    }
+
+    /// The number of the flip-flop whose key alone is a name as RTL writes it.
+    #[tactic(auto, using(crate::proofs::KeyLemmas::key_each))]
+    fn called(&self, name: &[u8]) -> Option<u32>
+        ensures value { result ≡ flop_called (flop_parts self.now) name.now }
+        ensures within { IfSome result (λ flop. flop < length self.now.flops) }
+    {
+        let _raw = self.net.raw();
+        match flop_called(self.keys.as_slice(), name) {
+            Some(flop) => Some(flop as u32),
+            None => None,
+        }
+    }
+
+    /// The number of the flip-flop with a name: its key, or where no net has that key, the name by which RTL calls it alone.
     pub fn number(&self, name: &[u8]) -> Option<u32>
         requires { IsTrue (is_name_text name.now) }
         ensures value { result ≡ flop_named self.now name.now }
         ensures within { IfSome result (λ flop. flop < length self.now.flops) }
     {
         match net_named(self.net, name) {
-            Some(n) => self.by_net[n.0 as usize],
-            None => None,
+            Some(net) => self.at(net),
+            None => self.called(name),
         }
     }
 }

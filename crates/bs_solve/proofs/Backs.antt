@@ -17,8 +17,8 @@ use Rattle.bs_watch.proofs.TableLemmas.{one_level}
 use Rattle.bs_watch.proofs.Advancing.{true_in_front}
 use Rattle.bs_watch.proofs.CallerLemmas.{cancelled_open, cancelled_keeps, highest_unit, may_attach_unit}
 use Rattle.bs_watch.proofs.Literals.{negation-negation}
-use Rattle.bs_solve_analysis.proofs.Clauses.{all_from, contains_cases, nothing_in}
-use Rattle.bs_solve_analysis.specs.Reasons.{last_start}
+use Rattle.bs_solve_lemmas.proofs.Clauses.{all_from, contains_cases, nothing_in}
+use Rattle.bs_solve_lemmas.specs.Reasons.{last_start}
 use Rattle.bs_solve.specs.Begun.{AreBegun}
 use Rattle.bs_solve.specs.Backjump.{IsBackLevel, IsLearntClause, IsOpenYet}
 use Rattle.bs_solve.proofs.Begins.{last_level}

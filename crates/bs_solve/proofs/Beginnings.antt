@@ -21,17 +21,17 @@ use Rattle.bs_watch.specs.Places.{Place, TrailState, AreApart, IsImpliedBy, IsPl
 use Rattle.bs_watch.specs.Look.{HasTrue}
 use Rattle.bs_watch.specs.Watch.{WatchState, Serves, KeepsService, HasGoneBack, decided}
 use Rattle.bs_watch.proofs.Advancing.{shuffled_refl, take_front}
-use Rattle.bs_solve_analysis.specs.Reasons.{IsReasoned, IsConflictAt}
-use Rattle.bs_solve_analysis.proofs.CallerLemmas.{implies_permuted, reasoned_grows, reasoned_free}
-use Rattle.bs_solve_recording.specs.Place.{LoggedPlace}
-use Rattle.bs_solve_recording.specs.Places.{AreWarranted, logged_literals}
-use Rattle.bs_solve_recording.specs.Walk.{IsLoggedLearnt}
-use Rattle.bs_solve_recording.specs.ProofLog.{ProofLog, standing, next_id, with_lemma}
-use Rattle.bs_solve_recording.specs.Search.{assumed}
+use Rattle.bs_solve_lemmas.specs.Reasons.{IsReasoned, IsConflictAt}
+use Rattle.bs_solve_lemmas.proofs.AnalysisCallerLemmas.{implies_permuted, reasoned_grows, reasoned_free}
+use Rattle.bs_solve_lemmas.specs.Place.{LoggedPlace}
+use Rattle.bs_solve_lemmas.specs.Places.{AreWarranted, logged_literals}
+use Rattle.bs_solve_lemmas.specs.Walk.{IsLoggedLearnt}
+use Rattle.bs_solve_lemmas.specs.ProofLog.{ProofLog, standing, next_id, with_lemma}
+use Rattle.bs_solve_lemmas.specs.Search.{assumed}
 use Rattle.bs_watch.proofs.Gets.{some_at, none_is_not_some, same_some, get_map_cases, get_map, get_within, get_take, get_from_Contains, Contains_from_get}
-use Rattle.bs_solve_analysis.proofs.Clauses.{contains_first, map_contains, any_first, any_cases}
-use Rattle.bs_solve_recording.proofs.Entries.{found_stands}
-use Rattle.bs_solve_recording.proofs.Places.{sound_grows}
+use Rattle.bs_solve_lemmas.proofs.Clauses.{contains_first, map_contains, any_first, any_cases}
+use Rattle.bs_solve_lemmas.proofs.Entries.{found_stands}
+use Rattle.bs_solve_lemmas.proofs.Places.{sound_grows}
 use Rattle.bs_solve.specs.declared.database.Database.{Database}
 use Rattle.bs_solve.specs.declared.first_level.Start.TheVariants.{Failed, Clash, Assigned}
 use Rattle.bs_solve.specs.Database.{entries, is_live, id_in, HoldsEntries}
@@ -44,7 +44,7 @@ use Rattle.bs_solve.specs.Pausing.{IsSomePause}
 use Rattle.bs_solve.specs.Searching.{IsSomeFirstConflict, IsFailedAssumption, HasEndedBy}
 use Rattle.bs_solve.proofs.Entries.{clauses_in, stands_grown}
 use Rattle.bs_solve.specs.declared.first_level.Start.{Start}
-use Rattle.bs_solve_recording.proofs.Searching.{learnt_range}
+use Rattle.bs_solve_lemmas.proofs.Searching.{learnt_range}
 use Rattle.bs_watch.proofs.Literals.{negation-negation}
 use Rattle.bs_solve.proofs.Seens.{literals_seen_take, length_seen, grows_seen}
 use Rattle.bs_solve.proofs.Databases.{distinct_gets}

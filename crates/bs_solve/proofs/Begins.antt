@@ -12,8 +12,8 @@ use Rattle.bs_watch.specs.Look.{HasTrue}
 use Rattle.bs_watch.specs.Scene.{AreShuffled, Grows}
 use Rattle.bs_watch.proofs.Advancing.{true_in_front, stays_true, true_carries, take_front}
 use Rattle.bs_watch.proofs.Gets.{some_at, same_some, get_left, get_last, get_push_cases, get_take, take_get, get_within}
-use Rattle.bs_solve_analysis.specs.Reasons.{last_start}
-use Rattle.bs_solve_analysis.specs.Point.{IsDecisionAt, IsLastDecision}
+use Rattle.bs_solve_lemmas.specs.Reasons.{last_start}
+use Rattle.bs_solve_lemmas.specs.ImplicationPoint.{IsDecisionAt, IsLastDecision}
 use Rattle.bs_solve.specs.Begun.{AreBegun, AreSatisfied}
 
 -- ---- lists

@@ -18,19 +18,19 @@ use Rattle.bs_watch.specs.Watch.{WatchState, Serves, AreLevelled, MayAttach, Has
 use Rattle.bs_watch.proofs.Gets.{some_at, get_from_Contains, Contains_from_get, same_some, get_within, get_take, take_get, get_map}
 use Rattle.bs_watch.proofs.TableLemmas.{one_level}
 use Rattle.bs_watch.proofs.CallerLemmas.{cancelled_open, cancelled_keeps, highest_unit, may_attach_open}
-use Rattle.bs_solve_analysis.specs.Reasons.{IsReasoned}
-use Rattle.bs_solve_analysis.proofs.CallerLemmas.{reasoned_take, reasoned_kept}
-use Rattle.bs_solve_recording.specs.Place.{LoggedPlace}
-use Rattle.bs_solve_recording.specs.Places.{AreWarranted, logged_literals}
-use Rattle.bs_solve_recording.specs.Point.{IsCut}
-use Rattle.bs_solve_recording.specs.ProofLog.{ProofLog, standing}
-use Rattle.bs_solve_recording.specs.Search.{assumed}
-use Rattle.bs_solve_recording.proofs.Places.{sound_take, sound_clause}
-use Rattle.bs_solve_recording.proofs.Quiet.{learnt_clauses_keep_quiet}
+use Rattle.bs_solve_lemmas.specs.Reasons.{IsReasoned}
+use Rattle.bs_solve_lemmas.proofs.AnalysisCallerLemmas.{reasoned_take, reasoned_kept}
+use Rattle.bs_solve_lemmas.specs.Place.{LoggedPlace}
+use Rattle.bs_solve_lemmas.specs.Places.{AreWarranted, logged_literals}
+use Rattle.bs_solve_lemmas.specs.Point.{IsCut}
+use Rattle.bs_solve_lemmas.specs.ProofLog.{ProofLog, standing}
+use Rattle.bs_solve_lemmas.specs.Search.{assumed}
+use Rattle.bs_solve_lemmas.proofs.Places.{sound_take, sound_clause}
+use Rattle.bs_solve_lemmas.proofs.Quiet.{learnt_clauses_keep_quiet}
 use Rattle.bs_watch.proofs.Literals.{negation-negation}
-use Rattle.bs_solve_analysis.proofs.Fronts.{place_of, open_earlier}
-use Rattle.bs_solve_recording.proofs.Backjumps.{learns}
-use Rattle.bs_solve_recording.proofs.Endings.{given_after}
+use Rattle.bs_solve_lemmas.proofs.Fronts.{place_of, open_earlier}
+use Rattle.bs_solve_lemmas.proofs.Backjumps.{learns}
+use Rattle.bs_solve_lemmas.proofs.Endings.{given_after}
 use Rattle.bs_solve.specs.declared.blocking.Retreat.{Retreat}
 use Rattle.bs_solve.specs.declared.blocking.Retreat.TheVariants.{Bottom, Implied, Open}
 use Rattle.bs_log.specs.declared.origin.Origin.TheVariants.{Blocked}

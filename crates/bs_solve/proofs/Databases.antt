@@ -23,11 +23,11 @@ use Rattle.bs_watch.specs.Watch.{WatchState, Serves, MayAttach, HasAttached}
 use Rattle.bs_watch.proofs.CallerLemmas.{may_attach_open}
 use Rattle.bs_solve.specs.Ground.{IsOff, HasAdded}
 use Rattle.bs_watch.proofs.Gets.{none_is_not_some, same_some, get_left, get_last, get_push_cases, get_from_Contains, Contains_from_get}
-use Rattle.bs_solve_analysis.proofs.Clauses.{nothing_in, contains_cases, all_from, distinct_parts}
-use Rattle.bs_solve_reduction.specs.declared.row.LoggedClause.{LoggedClause}
-use Rattle.bs_solve_reduction.specs.Keeping.{AreHeld}
-use Rattle.bs_solve_reduction.specs.Rows.{AreRowsAmong}
-use Rattle.bs_solve_recording.proofs.Entries.{found_still}
+use Rattle.bs_solve_lemmas.proofs.Clauses.{nothing_in, contains_cases, all_from, distinct_parts}
+use Rattle.bs_solve_lemmas.specs.declared.row.LoggedClause.{LoggedClause}
+use Rattle.bs_solve_lemmas.specs.Keeping.{AreHeld}
+use Rattle.bs_solve_lemmas.specs.Rows.{AreRowsAmong}
+use Rattle.bs_solve_lemmas.proofs.Entries.{found_still}
 use Rattle.bs_solve.specs.declared.database.Database.{Database}
 use Rattle.bs_solve.specs.Database.{is_live, id_in, IsClauseOf, HoldsEntries, rows_for, HasJoined}
 use Rattle.bs_solve.proofs.Grounds.{ground_added}

@@ -19,14 +19,14 @@ use Rattle.bs_watch.specs.Places.{Place, TrailState, renamed_place}
 use Rattle.bs_watch.specs.Lists.{row, IsAttached, renamed, renamed_lists}
 use Rattle.bs_watch.specs.Watch.{WatchState, Serves, renamed_watch}
 use Rattle.bs_watch.specs.Sweep.{HasSwept}
-use Rattle.bs_solve_reduction.specs.declared.row.LoggedClause.{LoggedClause}
-use Rattle.bs_solve_reduction.specs.Keeping.{AreHeld, Ascends, renamed_ref, renamed_row}
-use Rattle.bs_solve_reduction.specs.Notes.{GoBy, HasKilled, AreOut}
-use Rattle.bs_solve_reduction.specs.Rows.{IsRowOf, AreRowsOf, AreRowsAmong}
-use Rattle.bs_solve_reduction.proofs.Removals.{killed_still, first_stay}
+use Rattle.bs_solve_lemmas.specs.declared.row.LoggedClause.{LoggedClause}
+use Rattle.bs_solve_lemmas.specs.Keeping.{AreHeld, Ascends, renamed_ref, renamed_row}
+use Rattle.bs_solve_lemmas.specs.Notes.{GoBy, HasKilled, AreOut}
+use Rattle.bs_solve_lemmas.specs.Rows.{IsRowOf, AreRowsOf, AreRowsAmong}
+use Rattle.bs_solve_lemmas.proofs.Removals.{killed_still, first_stay}
 use Rattle.bs_watch.proofs.Gets.{none_is_not_some, same_some, get_from_Contains, Contains_from_get, get_map, get_map_cases, get_take, get_within}
-use Rattle.bs_solve_analysis.proofs.Clauses.{nothing_in, contains_first, cons_contains, contains_cases, filter_cases, filter_from, map_cases, map_contains, all_from}
-use Rattle.bs_solve_recording.proofs.Entries.{found_id}
+use Rattle.bs_solve_lemmas.proofs.Clauses.{nothing_in, contains_first, cons_contains, contains_cases, filter_cases, filter_from, map_cases, map_contains, all_from}
+use Rattle.bs_solve_lemmas.proofs.Entries.{found_id}
 use Rattle.bs_solve.specs.declared.database.Database.{Database}
 use Rattle.bs_solve.specs.Database.{is_live, id_in, HoldsEntries}
 use Rattle.bs_solve.proofs.Entries.{id_of, id_is_live, rows_permuted}

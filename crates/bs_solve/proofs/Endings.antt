@@ -15,16 +15,16 @@ use Rattle.bs_log.specs.History.{Entry}
 use Rattle.bs_log.specs.Refusal.{is_lemma_or_block, entry_of}
 use Rattle.bs_arena.specs.Arena.{Held, literals_at}
 use Rattle.bs_watch.specs.Watch.{WatchState, Serves}
-use Rattle.bs_solve_reduction.specs.declared.row.LoggedClause.{LoggedClause}
-use Rattle.bs_solve_reduction.specs.declared.selection.Leaving.{Leaving}
-use Rattle.bs_solve_reduction.specs.Keeping.{Ascends, AreKnown, goes, is_long_row}
-use Rattle.bs_solve_reduction.specs.Notes.{IsNoted}
-use Rattle.bs_solve_reduction.specs.Rows.{AreInOrder, AreRowsOf, AreRowsAmong, going}
-use Rattle.bs_solve_reduction.proofs.Deletions.{leaving_ids, named}
-use Rattle.bs_solve_recording.specs.ProofLog.{ProofLog, next_id}
+use Rattle.bs_solve_lemmas.specs.declared.row.LoggedClause.{LoggedClause}
+use Rattle.bs_solve_lemmas.specs.declared.selection.Leaving.{Leaving}
+use Rattle.bs_solve_lemmas.specs.Keeping.{Ascends, AreKnown, goes, is_long_row}
+use Rattle.bs_solve_lemmas.specs.Notes.{IsNoted}
+use Rattle.bs_solve_lemmas.specs.Rows.{AreInOrder, AreRowsOf, AreRowsAmong, going}
+use Rattle.bs_solve_lemmas.proofs.Deletions.{leaving_ids, named}
+use Rattle.bs_solve_lemmas.specs.ProofLog.{ProofLog, next_id}
 use Rattle.bs_watch.proofs.Gets.{some_at, same_some, Contains_from_get}
-use Rattle.bs_solve_analysis.proofs.Clauses.{all_from, filter_cases, map_cases, map_contains}
-use Rattle.bs_solve_recording.proofs.Entries.{found_stands, found_still}
+use Rattle.bs_solve_lemmas.proofs.Clauses.{all_from, filter_cases, map_cases, map_contains}
+use Rattle.bs_solve_lemmas.proofs.Entries.{found_stands, found_still}
 use Rattle.bs_solve.specs.declared.database.Database.{Database}
 use Rattle.bs_solve.specs.Database.{entries, is_live, id_in, HoldsEntries}
 use Rattle.bs_solve.specs.Ground.{IsGround}

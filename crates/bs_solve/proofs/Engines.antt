@@ -19,26 +19,26 @@ use Rattle.bs_log.specs.Steps.{is_lemma_line}
 use Rattle.bs_log.proofs.Laws.{step_of-positive}
 use Rattle.bs_arena.specs.Arena.{Content, Held, live_words}
 use Rattle.bs_watch.specs.Watch.{WatchState}
-use Rattle.bs_solve_analysis.specs.Marks.{MarkState, IsClear}
+use Rattle.bs_solve_lemmas.specs.Marks.{MarkState, IsClear}
 use Rattle.bs_watch.specs.declared.lists.Watcher.{Watcher}
 use Rattle.bs_watch.specs.Trail.{IsOpenOn}
 use Rattle.bs_watch.specs.Places.{Place, IsUnassigned, literals_of}
-use Rattle.bs_solve_reduction.specs.Keeping.{over}
-use Rattle.bs_solve_reduction.specs.Rows.{going}
-use Rattle.bs_solve_recording.specs.declared.stage.Stage.{Stage}
-use Rattle.bs_solve_recording.specs.declared.stage.Stage.TheVariants.{Idle, Begun, Solved}
-use Rattle.bs_solve_recording.specs.declared.answer.Answer.{Answer}
-use Rattle.bs_solve_recording.specs.declared.answer.Answer.TheVariants.{Found, Refuted, Spent}
-use Rattle.bs_solve_recording.specs.ProofLog.{ProofLog, standing, without}
-use Rattle.bs_solve_recording.specs.Ending.{SomeLemmas}
-use Rattle.bs_solve_recording.specs.Search.{assumed}
-use Rattle.bs_solve_recording.specs.Stages.{is_begun, is_solved, stage_of, begun_proof, IsIdle, IsInside, Fits}
-use Rattle.bs_solve_recording.specs.Solver.{SolverState, IsReady, MaySolve, finished, retired, leaving}
-use Rattle.bs_solve_recording.proofs.CallerLemmas.{begun_vars, begun_clauses, finished_problem, without_problem}
-use Rattle.bs_solve_recording.proofs.Solving.{begun_stands, begun_assumptions, begun_inside, begun_phase}
-use Rattle.bs_solve_recording.proofs.Leavings.{leaves_begun}
+use Rattle.bs_solve_lemmas.specs.Keeping.{over}
+use Rattle.bs_solve_lemmas.specs.Rows.{going}
+use Rattle.bs_solve_lemmas.specs.declared.stage.Stage.{Stage}
+use Rattle.bs_solve_lemmas.specs.declared.stage.Stage.TheVariants.{Idle, Begun, Solved}
+use Rattle.bs_solve_lemmas.specs.declared.answer.Answer.{Answer}
+use Rattle.bs_solve_lemmas.specs.declared.answer.Answer.TheVariants.{Found, Refuted, Spent}
+use Rattle.bs_solve_lemmas.specs.ProofLog.{ProofLog, standing, without}
+use Rattle.bs_solve_lemmas.specs.Ending.{SomeLemmas}
+use Rattle.bs_solve_lemmas.specs.Search.{assumed}
+use Rattle.bs_solve_lemmas.specs.Stages.{is_begun, is_solved, stage_of, begun_proof, IsIdle, IsInside, Fits}
+use Rattle.bs_solve_lemmas.specs.Solver.{SolverState, IsReady, MaySolve, finished, retired, leaving}
+use Rattle.bs_solve_lemmas.proofs.CallerLemmas.{begun_vars, begun_clauses, finished_problem, without_problem}
+use Rattle.bs_solve_lemmas.proofs.Solving.{begun_stands, begun_assumptions, begun_inside, begun_phase}
+use Rattle.bs_solve_lemmas.proofs.Leavings.{leaves_begun}
 use Rattle.bs_watch.proofs.Gets.{get_from_Contains, get_map_cases, get_within}
-use Rattle.bs_solve_analysis.proofs.Clauses.{nothing_in, contains_cases, contains_first, all_from, filter_cases, filter_from, map_contains}
+use Rattle.bs_solve_lemmas.proofs.Clauses.{nothing_in, contains_cases, contains_first, all_from, filter_cases, filter_from, map_contains}
 use Rattle.bs_solve.specs.declared.database.Database.{Database}
 use Rattle.bs_solve.specs.Database.{entries, HoldsEntries}
 use Rattle.bs_solve.specs.Ground.{IsGround, IsOff, IsOwn}

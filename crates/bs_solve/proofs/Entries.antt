@@ -11,11 +11,11 @@ use Rattle.bs_log.specs.declared.origin.Origin.TheVariants.{Axiom, Learnt, Block
 use Rattle.bs_log.specs.History.{Entry}
 use Rattle.bs_log.specs.Refusal.{entry_of, is_lemma_or_block}
 use Rattle.bs_arena.specs.Arena.{Held, held_at, literals_at}
-use Rattle.bs_solve_reduction.specs.declared.row.LoggedClause.{LoggedClause}
-use Rattle.bs_solve_reduction.specs.Rows.{IsRowOf, AreRowsOf, AreRowsAmong}
+use Rattle.bs_solve_lemmas.specs.declared.row.LoggedClause.{LoggedClause}
+use Rattle.bs_solve_lemmas.specs.Rows.{IsRowOf, AreRowsOf, AreRowsAmong}
 use Rattle.bs_watch.proofs.Gets.{none_is_not_some}
-use Rattle.bs_solve_analysis.proofs.Clauses.{nothing_in, contains_first, cons_contains, contains_cases}
-use Rattle.bs_solve_recording.specs.ProofLog.{ProofLog, standing}
+use Rattle.bs_solve_lemmas.proofs.Clauses.{nothing_in, contains_first, cons_contains, contains_cases}
+use Rattle.bs_solve_lemmas.specs.ProofLog.{ProofLog, standing}
 use Rattle.bs_solve.specs.Database.{entries, rows_for}
 
 -- the id of a live clause

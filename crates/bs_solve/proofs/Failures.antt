@@ -7,10 +7,10 @@ use Rattle.bs_log.specs.History.{live}
 use Rattle.bs_log.specs.Refusal.{entry_of, denies}
 use Rattle.bs_watch.specs.Places.{TrailState}
 use Rattle.bs_watch.specs.Watch.{WatchState, Serves}
-use Rattle.bs_solve_recording.specs.Walk.{IsLoggedLearnt}
-use Rattle.bs_solve_recording.specs.ProofLog.{ProofLog, next_id, with_lemma}
-use Rattle.bs_solve_recording.specs.Search.{assumed}
-use Rattle.bs_solve_recording.proofs.Searching.{learnt_range}
+use Rattle.bs_solve_lemmas.specs.Walk.{IsLoggedLearnt}
+use Rattle.bs_solve_lemmas.specs.ProofLog.{ProofLog, next_id, with_lemma}
+use Rattle.bs_solve_lemmas.specs.Search.{assumed}
+use Rattle.bs_solve_lemmas.proofs.Searching.{learnt_range}
 use Rattle.bs_solve.specs.declared.database.Database.{Database}
 use Rattle.bs_solve.specs.Database.{entries, HoldsEntries}
 use Rattle.bs_solve.specs.Ground.{HasAdded, IsGround}

@@ -16,7 +16,7 @@ use Rattle.bs_watch.specs.Scene.{Grows, IsImplied}
 use Rattle.bs_watch.specs.Watch.{WatchState, KeepsService, assigned}
 use Rattle.bs_watch.proofs.Advancing.{grows_refl, grows_trans, shuffled_refl, stays_true, true_in_front}
 use Rattle.bs_watch.proofs.Gets.{none_is_not_some, same_some, get_push_cases, get_within, get_take, take_get, get_from_Contains, Contains_from_get}
-use Rattle.bs_solve_analysis.proofs.Clauses.{all_from, contains_first, contains_cases, nothing_in}
+use Rattle.bs_solve_lemmas.proofs.Clauses.{all_from, contains_first, contains_cases, nothing_in}
 use Rattle.bs_solve.specs.FirstLevel.{HasAssumed, IsAssumed, HasGrown, IsShortAssigned, AllSatisfied}
 use Rattle.bs_solve.proofs.Entries.{append_cases}
 

@@ -12,12 +12,12 @@ use Rattle.bs_watch.specs.declared.lists.Watcher.{Watcher}
 use Rattle.bs_watch.specs.Trail.{IsTrueOn, IsFalseOn, IsOpenOn, Implies}
 use Rattle.bs_watch.specs.Places.{Place, AreApart, literals_of}
 use Rattle.bs_watch.specs.Scene.{AreShuffled}
-use Rattle.bs_solve_analysis.specs.Reasons.{IsReasoned, IsSpared}
-use Rattle.bs_solve_recording.specs.ProofLog.{ProofLog}
+use Rattle.bs_solve_lemmas.specs.Reasons.{IsReasoned, IsSpared}
+use Rattle.bs_solve_lemmas.specs.ProofLog.{ProofLog}
 use Rattle.bs_watch.proofs.Gets.{some_at, same_some, get_take, get_map_cases, get_from_Contains, Contains_from_get, get_within}
 use Rattle.bs_watch.proofs.Literals.{negation-negation}
-use Rattle.bs_solve_analysis.proofs.Clauses.{all_from, nothing_in, contains_first, contains_cases}
-use Rattle.bs_solve_recording.proofs.Entries.{found_still, found_stands}
+use Rattle.bs_solve_lemmas.proofs.Clauses.{all_from, nothing_in, contains_first, contains_cases}
+use Rattle.bs_solve_lemmas.proofs.Entries.{found_still, found_stands}
 use Rattle.bs_solve.specs.declared.database.Database.{Database}
 use Rattle.bs_solve.specs.Database.{entries, is_live, id_in, HoldsEntries}
 use Rattle.bs_solve.specs.Ground.{IsUnitAt, IsGround}

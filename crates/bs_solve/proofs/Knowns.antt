@@ -13,14 +13,14 @@ use Rattle.bs_log.specs.History.{Entry}
 use Rattle.bs_log.specs.Refusal.{is_lemma, is_lemma_or_block}
 use Rattle.bs_log.specs.Kept.{has_retired_activation, is_long}
 use Rattle.bs_arena.specs.Arena.{Held, literals_at}
-use Rattle.bs_solve_reduction.specs.declared.row.LoggedClause.{LoggedClause}
-use Rattle.bs_solve_reduction.specs.Keeping.{over, entry_in, is_free_row, is_long_row, AreKnown, Ascends}
-use Rattle.bs_solve_reduction.specs.Rows.{IsRowOf, AreRowsOf, AreInOrder}
-use Rattle.bs_solve_reduction.proofs.Rules.{lemma_back}
-use Rattle.bs_solve_reduction.proofs.Deletions.{chain_of, chain_filter}
-use Rattle.bs_solve_recording.proofs.Entries.{order_of}
+use Rattle.bs_solve_lemmas.specs.declared.row.LoggedClause.{LoggedClause}
+use Rattle.bs_solve_lemmas.specs.Keeping.{over, entry_in, is_free_row, is_long_row, AreKnown, Ascends}
+use Rattle.bs_solve_lemmas.specs.Rows.{IsRowOf, AreRowsOf, AreInOrder}
+use Rattle.bs_solve_lemmas.proofs.Rules.{lemma_back}
+use Rattle.bs_solve_lemmas.proofs.Deletions.{chain_of, chain_filter}
+use Rattle.bs_solve_lemmas.proofs.Entries.{order_of}
 use Rattle.bs_watch.proofs.Gets.{none_is_not_some, same_some}
-use Rattle.bs_solve_analysis.proofs.Clauses.{contains_first, cons_contains, contains_cases, nothing_in, all_from}
+use Rattle.bs_solve_lemmas.proofs.Clauses.{contains_first, cons_contains, contains_cases, nothing_in, all_from}
 use Rattle.bs_solve.specs.Dropping.{marked, is_free, is_free_long, AreKnownIn}
 
 -- ---- a row and its entry pass alike

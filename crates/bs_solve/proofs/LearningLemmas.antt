@@ -23,21 +23,21 @@ use Rattle.bs_watch.specs.Trail.{IsTrueOn, IsFalseOn, IsConflict, IsUnit, IsQuie
 use Rattle.bs_watch.specs.Places.{Place, TrailState, literals_of}
 use Rattle.bs_watch.specs.Look.{HasTrue}
 use Rattle.bs_watch.specs.Watch.{WatchState}
-use Rattle.bs_solve_analysis.specs.Reasons.{live_clauses, IsReasoned, last_start, Spells, IsSpared, AreSpared}
-use Rattle.bs_solve_analysis.specs.Point.{IsDecisionAt, IsLastDecision, IsPoint}
-use Rattle.bs_solve_analysis.specs.Walk.{IsLearnt}
-use Rattle.bs_solve_analysis.proofs.Walkable.{live_contains}
-use Rattle.bs_solve_analysis.proofs.CallerLemmas.{reasoned_take, reasoned_push, reasoned_kept}
-use Rattle.bs_solve_recording.specs.Place.{LoggedPlace}
-use Rattle.bs_solve_recording.specs.Point.{is_alone_at, IsCut, IsLoggedPoint, IsLoggedDecision}
-use Rattle.bs_solve_recording.specs.Walk.{IsLoggedLearnt}
-use Rattle.bs_solve_recording.specs.ProofLog.{ProofLog, standing, next_id, with_lemma}
-use Rattle.bs_solve_recording.specs.Search.{HasLearnt}
+use Rattle.bs_solve_lemmas.specs.Reasons.{live_clauses, IsReasoned, last_start, Spells, IsSpared, AreSpared}
+use Rattle.bs_solve_lemmas.specs.ImplicationPoint.{IsDecisionAt, IsLastDecision, IsPoint}
+use Rattle.bs_solve_lemmas.specs.AnalysisWalk.{IsLearnt}
+use Rattle.bs_solve_lemmas.proofs.Walkable.{live_contains}
+use Rattle.bs_solve_lemmas.proofs.AnalysisCallerLemmas.{reasoned_take, reasoned_push, reasoned_kept}
+use Rattle.bs_solve_lemmas.specs.Place.{LoggedPlace}
+use Rattle.bs_solve_lemmas.specs.Point.{is_alone_at, IsCut, IsLoggedPoint, IsLoggedDecision}
+use Rattle.bs_solve_lemmas.specs.Walk.{IsLoggedLearnt}
+use Rattle.bs_solve_lemmas.specs.ProofLog.{ProofLog, standing, next_id, with_lemma}
+use Rattle.bs_solve_lemmas.specs.Search.{HasLearnt}
 use Rattle.bs_watch.proofs.Gets.{none_is_not_some, same_some, get_map_cases, get_map, get_within, get_from_Contains, Contains_from_get, get_take}
-use Rattle.bs_solve_analysis.proofs.Clauses.{all_from, map_cases, map_contains, contains_first, cons_contains, distinct_cons}
-use Rattle.bs_solve_recording.proofs.Backjumps.{others_from_alone, alone_from_others}
-use Rattle.bs_solve_recording.proofs.Searching.{learnt_range, have_variables, learnt_is_new, has_learnt}
-use Rattle.bs_solve_recording.proofs.Entries.{found_stands}
+use Rattle.bs_solve_lemmas.proofs.Clauses.{all_from, map_cases, map_contains, contains_first, cons_contains, distinct_cons}
+use Rattle.bs_solve_lemmas.proofs.Backjumps.{others_from_alone, alone_from_others}
+use Rattle.bs_solve_lemmas.proofs.Searching.{learnt_range, have_variables, learnt_is_new, has_learnt}
+use Rattle.bs_solve_lemmas.proofs.Entries.{found_stands}
 use Rattle.bs_solve.specs.declared.database.Database.{Database}
 use Rattle.bs_solve.specs.Database.{entries, is_live, id_in, HoldsEntries}
 use Rattle.bs_solve.proofs.Entries.{clauses_in, push_cases, stands_grown}

@@ -16,15 +16,15 @@ use Rattle.bs_watch.specs.Trail.{IsTrueOn, IsQuiet}
 use Rattle.bs_watch.specs.Places.{Place, TrailState, AreApart}
 use Rattle.bs_watch.specs.Scene.{Advances, Propagated}
 use Rattle.bs_watch.specs.Watch.{WatchState, Serves, KeepsService, HasGoneBack, scene}
-use Rattle.bs_solve_recording.specs.Place.{LoggedPlace}
-use Rattle.bs_solve_recording.specs.Places.{AreWarranted, logged_literals}
-use Rattle.bs_solve_recording.specs.ProofLog.{ProofLog, standing}
-use Rattle.bs_solve_recording.specs.Search.{assumed}
+use Rattle.bs_solve_lemmas.specs.Place.{LoggedPlace}
+use Rattle.bs_solve_lemmas.specs.Places.{AreWarranted, logged_literals}
+use Rattle.bs_solve_lemmas.specs.ProofLog.{ProofLog, standing}
+use Rattle.bs_solve_lemmas.specs.Search.{assumed}
 use Rattle.bs_watch.proofs.Gets.{some_at, same_some, get_map_cases, get_map, get_within}
-use Rattle.bs_solve_analysis.proofs.Clauses.{all_from}
-use Rattle.bs_solve_recording.proofs.Places.{sound_grows}
-use Rattle.bs_solve_analysis.proofs.Fronts.{true_later}
-use Rattle.bs_solve_recording.proofs.Endings.{given_after, front_after, no_lemmas}
+use Rattle.bs_solve_lemmas.proofs.Clauses.{all_from}
+use Rattle.bs_solve_lemmas.proofs.Places.{sound_grows}
+use Rattle.bs_solve_lemmas.proofs.Fronts.{true_later}
+use Rattle.bs_solve_lemmas.proofs.Endings.{given_after, front_after, no_lemmas}
 use Rattle.bs_solve.specs.declared.database.Database.{Database}
 use Rattle.bs_solve.specs.Database.{entries}
 use Rattle.bs_solve.specs.Seen.{seen_place, seen}

@@ -14,8 +14,8 @@ use Rattle.bs_log.specs.History.{Problem, History, Entry, axioms_from, added, li
 use Rattle.bs_log.specs.Refusal.{NoneRefused, clauses_of, entry_of, is_block_of}
 use Rattle.bs_log.specs.Lean.{LemmasAreLean, IsResolventOf}
 use Rattle.bs_log.proofs.Tests.{right_from_none}
-use Rattle.bs_solve_analysis.proofs.Clauses.{nothing_in, contains_cases, cons_contains, contains_first, all_from, filter_cases}
-use Rattle.bs_solve_recording.proofs.Entries.{found_stands}
+use Rattle.bs_solve_lemmas.proofs.Clauses.{nothing_in, contains_cases, cons_contains, contains_first, all_from, filter_cases}
+use Rattle.bs_solve_lemmas.proofs.Entries.{found_stands}
 use Rattle.bs_solve.specs.Ground.{IsOwn}
 use Rattle.bs_solve.proofs.Entries.{push_cases}
 

@@ -22,21 +22,21 @@ use Rattle.bs_watch.specs.Places.{Place, TrailState, IsUnassigned, AreApart, lit
 use Rattle.bs_watch.specs.Tables.{AreDistinct}
 use Rattle.bs_watch.specs.Watch.{WatchState, Serves, HasGoneBack}
 use Rattle.bs_watch.proofs.TableLemmas.{at_most, open_apart}
-use Rattle.bs_solve_analysis.specs.Point.{IsReasonless}
-use Rattle.bs_solve_analysis.specs.Walk.{IsLearnt}
-use Rattle.bs_solve_recording.specs.Point.{IsLoggedReasonless}
-use Rattle.bs_solve_recording.specs.ProofLog.{ProofLog, standing, next_id, with_lemma}
-use Rattle.bs_solve_recording.specs.Values.{positive, AreAssigned, HasValues}
-use Rattle.bs_solve_recording.specs.Ending.{SomeLemmas}
-use Rattle.bs_solve_recording.specs.declared.answer.Answer.TheVariants.{Found, Refuted, Spent}
+use Rattle.bs_solve_lemmas.specs.ImplicationPoint.{IsReasonless}
+use Rattle.bs_solve_lemmas.specs.AnalysisWalk.{IsLearnt}
+use Rattle.bs_solve_lemmas.specs.Point.{IsLoggedReasonless}
+use Rattle.bs_solve_lemmas.specs.ProofLog.{ProofLog, standing, next_id, with_lemma}
+use Rattle.bs_solve_lemmas.specs.Values.{positive, AreAssigned, HasValues}
+use Rattle.bs_solve_lemmas.specs.Ending.{SomeLemmas}
+use Rattle.bs_solve_lemmas.specs.declared.answer.Answer.TheVariants.{Found, Refuted, Spent}
 use Rattle.bs_watch.proofs.Gets.{some_at, none_is_not_some, same_some, get_map_cases, get_map, get_take, get_push_cases, get_from_Contains}
-use Rattle.bs_solve_analysis.proofs.Clauses.{all_from, map_contains}
-use Rattle.bs_solve_recording.proofs.Searching.{learnt_range, ending_lemma}
-use Rattle.bs_solve_recording.proofs.Endings.{search_finds, refuted_ranges, refuted_distinct, search_is_spent, learnt_ranges, learnt_distinct, some_lemmas, one_more, no_lemmas}
+use Rattle.bs_solve_lemmas.proofs.Clauses.{all_from, map_contains}
+use Rattle.bs_solve_lemmas.proofs.Searching.{learnt_range, ending_lemma}
+use Rattle.bs_solve_lemmas.proofs.Endings.{search_finds, refuted_ranges, refuted_distinct, search_is_spent, learnt_ranges, learnt_distinct, some_lemmas, one_more, no_lemmas}
 use Rattle.bs_solve.specs.declared.database.Database.{Database}
 use Rattle.bs_solve.specs.Database.{entries, id_in, HoldsEntries}
 use Rattle.bs_solve.proofs.Entries.{stands_grown}
-use Rattle.bs_solve_recording.proofs.Entries.{found_stands}
+use Rattle.bs_solve_lemmas.proofs.Entries.{found_stands}
 use Rattle.bs_solve.specs.Seen.{seen_place, seen}
 use Rattle.bs_solve.specs.Ground.{HasAdded, IsGround, IsOff}
 use Rattle.bs_solve.specs.Running.{seen_trail, IsRunning, InRound}

@@ -13,16 +13,16 @@ use Rattle.bs_watch.specs.Trail.{IsQuiet, IsOpenOn}
 use Rattle.bs_watch.specs.Places.{Place, AreApart}
 use Rattle.bs_watch.specs.Scene.{Advances, Propagated}
 use Rattle.bs_watch.specs.Watch.{WatchState, Serves, scene}
-use Rattle.bs_solve_analysis.specs.Reasons.{IsReasoned}
-use Rattle.bs_solve_analysis.proofs.CallerLemmas.{reasoned_grows, reasoned_free}
-use Rattle.bs_solve_recording.specs.Place.{LoggedPlace}
-use Rattle.bs_solve_recording.specs.Places.{logged_literals}
-use Rattle.bs_solve_recording.specs.Grown.{LoggedGrows}
-use Rattle.bs_solve_recording.specs.ProofLog.{ProofLog, standing}
-use Rattle.bs_solve_recording.specs.Search.{HasLearnt}
+use Rattle.bs_solve_lemmas.specs.Reasons.{IsReasoned}
+use Rattle.bs_solve_lemmas.proofs.AnalysisCallerLemmas.{reasoned_grows, reasoned_free}
+use Rattle.bs_solve_lemmas.specs.Place.{LoggedPlace}
+use Rattle.bs_solve_lemmas.specs.Places.{logged_literals}
+use Rattle.bs_solve_lemmas.specs.Grown.{LoggedGrows}
+use Rattle.bs_solve_lemmas.specs.ProofLog.{ProofLog, standing}
+use Rattle.bs_solve_lemmas.specs.Search.{HasLearnt}
 use Rattle.bs_watch.proofs.Advancing.{take_front}
 use Rattle.bs_watch.proofs.Gets.{get_push_cases, get_map_cases, get_within}
-use Rattle.bs_solve_recording.proofs.Endings.{search_decides, search_learns}
+use Rattle.bs_solve_lemmas.proofs.Endings.{search_decides, search_learns}
 use Rattle.bs_solve.specs.declared.database.Database.{Database}
 use Rattle.bs_solve.specs.Database.{entries, HoldsEntries}
 use Rattle.bs_solve.proofs.Entries.{clauses_in}

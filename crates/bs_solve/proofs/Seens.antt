@@ -17,14 +17,14 @@ use Rattle.bs_watch.specs.Lists.{IsAttached}
 use Rattle.bs_watch.specs.Look.{HasTrue}
 use Rattle.bs_watch.specs.Scene.{name_of, AreShuffled, Grows}
 use Rattle.bs_watch.proofs.Guards.{consistent}
-use Rattle.bs_solve_reduction.specs.declared.row.LoggedClause.{LoggedClause}
-use Rattle.bs_solve_recording.specs.Place.{LoggedPlace}
-use Rattle.bs_solve_recording.specs.Places.{logged_literals}
-use Rattle.bs_solve_recording.specs.Grown.{LoggedGrows}
+use Rattle.bs_solve_lemmas.specs.declared.row.LoggedClause.{LoggedClause}
+use Rattle.bs_solve_lemmas.specs.Place.{LoggedPlace}
+use Rattle.bs_solve_lemmas.specs.Places.{logged_literals}
+use Rattle.bs_solve_lemmas.specs.Grown.{LoggedGrows}
 use Rattle.bs_watch.proofs.Gets.{get_map_cases}
-use Rattle.bs_solve_analysis.proofs.CallerLemmas.{implies_permuted}
-use Rattle.bs_solve_analysis.proofs.Clauses.{all_from, map_cases, map_contains}
-use Rattle.bs_solve_recording.proofs.Entries.{found_stands}
+use Rattle.bs_solve_lemmas.proofs.AnalysisCallerLemmas.{implies_permuted}
+use Rattle.bs_solve_lemmas.proofs.Clauses.{all_from, map_cases, map_contains}
+use Rattle.bs_solve_lemmas.proofs.Entries.{found_stands}
 use Rattle.bs_solve.specs.declared.database.Database.{Database}
 use Rattle.bs_solve.specs.Database.{is_live, id_in, HoldsEntries}
 use Rattle.bs_solve.proofs.Entries.{id_of, clauses_in, rows_permuted}

@@ -13,33 +13,33 @@ use Rattle.bs_watch.specs.Lists.{IsIn, IsAttached}
 use Rattle.bs_watch.specs.Watch.{WatchState, Serves, KeepsService, grown}
 use Rattle.bs_watch.proofs.Advancing.{shuffled_refl}
 use Rattle.bs_watch.proofs.Grown.{grown_row}
-use Rattle.bs_solve_recording.specs.ProofLog.{ProofLog, standing}
-use Rattle.bs_solve_recording.specs.declared.answer.Answer.{Answer}
-use Rattle.bs_solve_recording.specs.declared.answer.Answer.TheVariants.{Found, Refuted, Spent}
-use Rattle.bs_solve_recording.specs.Stages.{stage_of, is_begun, is_solved, begun_proof, IsIdle}
+use Rattle.bs_solve_lemmas.specs.ProofLog.{ProofLog, standing}
+use Rattle.bs_solve_lemmas.specs.declared.answer.Answer.{Answer}
+use Rattle.bs_solve_lemmas.specs.declared.answer.Answer.TheVariants.{Found, Refuted, Spent}
+use Rattle.bs_solve_lemmas.specs.Stages.{stage_of, is_begun, is_solved, begun_proof, IsIdle}
 use Rattle.bs_clause.specs.Range.{IsWithin, HasVariables}
 use Rattle.bs_log.specs.declared.origin.Origin.TheVariants.{Axiom, Blocked as FromBlock}
 use Rattle.bs_log.specs.History.{Problem, Entry, phase_of, live, axioms_from}
 use Rattle.bs_log.specs.Refusal.{in_solve, has_distinct_variables, entry_of}
 use Rattle.bs_log.specs.Lean.{StepsLeaveKept}
-use Rattle.bs_solve_recording.specs.declared.stage.Stage.{Stage}
-use Rattle.bs_solve_recording.specs.declared.stage.Stage.TheVariants.{Idle, Begun, Solved, Blocked, Ended, Stopped}
-use Rattle.bs_solve_recording.specs.Search.{assumed}
-use Rattle.bs_solve_recording.specs.Ending.{SomeLemmas}
-use Rattle.bs_solve_recording.specs.Solver.{SolverState, IsReady, MaySolve, HasSolved, finished}
-use Rattle.bs_solve_recording.proofs.Lines.{live_with_member}
+use Rattle.bs_solve_lemmas.specs.declared.stage.Stage.{Stage}
+use Rattle.bs_solve_lemmas.specs.declared.stage.Stage.TheVariants.{Idle, Begun, Solved, Blocked, Ended, Stopped}
+use Rattle.bs_solve_lemmas.specs.Search.{assumed}
+use Rattle.bs_solve_lemmas.specs.Ending.{SomeLemmas}
+use Rattle.bs_solve_lemmas.specs.Solver.{SolverState, IsReady, MaySolve, HasSolved, finished}
+use Rattle.bs_solve_lemmas.proofs.Lines.{live_with_member}
 use Rattle.bs_watch.proofs.Gets.{none_is_not_some, same_some, get_within}
-use Rattle.bs_solve_analysis.proofs.Clauses.{nothing_in, all_from}
-use Rattle.bs_solve_recording.proofs.Solving.{ready_after_solve, has_solved, begun_stands, begun_assumptions, begun_phase}
+use Rattle.bs_solve_lemmas.proofs.Clauses.{nothing_in, all_from}
+use Rattle.bs_solve_lemmas.proofs.Solving.{ready_after_solve, has_solved, begun_stands, begun_assumptions, begun_phase}
 use Rattle.bs_solve.specs.Searching.{IsOver}
 use Rattle.bs_solve.specs.declared.database.Database.{Database}
 use Rattle.bs_solve.specs.Database.{entries, is_live, HoldsEntries}
 use Rattle.bs_solve.proofs.Entries.{clauses_in}
-use Rattle.bs_solve_reduction.specs.Keeping.{AreHeld}
-use Rattle.bs_solve_reduction.specs.Rows.{AreRowsAmong}
+use Rattle.bs_solve_lemmas.specs.Keeping.{AreHeld}
+use Rattle.bs_solve_lemmas.specs.Rows.{AreRowsAmong}
 use Rattle.bs_watch.specs.Trail.{IsTrueOn, IsOpenOn}
-use Rattle.bs_solve_analysis.specs.Marks.{MarkState, IsClear, StaysClear}
-use Rattle.bs_solve_recording.specs.Places.{AreWarranted, logged_literals}
+use Rattle.bs_solve_lemmas.specs.Marks.{MarkState, IsClear, StaysClear}
+use Rattle.bs_solve_lemmas.specs.Places.{AreWarranted, logged_literals}
 use Rattle.bs_solve.specs.Seen.{seen}
 use Rattle.bs_solve.specs.Ground.{HasAdded, IsGround, IsOff}
 use Rattle.bs_solve.specs.Learning.{IsAtRest}

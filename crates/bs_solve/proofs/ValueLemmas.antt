@@ -11,9 +11,9 @@ use Rattle.bs_watch.specs.Places.{Place, TrailState, AreApart, literals_of}
 use Rattle.bs_watch.specs.Spans.{negative, IsSpan}
 use Rattle.bs_watch.specs.Tables.{HasValues as HasTrailValues}
 use Rattle.bs_watch.proofs.Guards.{consistent}
-use Rattle.bs_solve_recording.specs.Values.{positive, HasValues, values_of}
+use Rattle.bs_solve_lemmas.specs.Values.{positive, HasValues, values_of}
 use Rattle.bs_watch.proofs.Gets.{get_left, get_last, get_map, Contains_from_get}
-use Rattle.bs_solve_recording.proofs.Solutions.{value_in_front, value_in_middle, value_behind, length_values}
+use Rattle.bs_solve_lemmas.proofs.Solutions.{value_in_front, value_in_middle, value_behind, length_values}
 use Rattle.bs_solve.specs.Between.{AreBetween}
 use Rattle.bs_solve.proofs.FirstLevels.{value_by_code}
 

@@ -9,8 +9,8 @@ use Rattle.bs_watch.specs.Trail.{IsFalseOn, IsOpenOn}
 use Rattle.bs_watch.specs.Places.{Place, literals_of, IsOnLevel}
 use Rattle.bs_watch.specs.Choice.{AreHighest}
 use Rattle.bs_watch.specs.Watch.{WatchState}
-use Rattle.bs_solve_analysis.specs.Reasons.{last_start, IsSpared}
-use Rattle.bs_solve_analysis.specs.Point.{IsPoint}
+use Rattle.bs_solve_lemmas.specs.Reasons.{last_start, IsSpared}
+use Rattle.bs_solve_lemmas.specs.ImplicationPoint.{IsPoint}
 use Rattle.bs_log.specs.declared.origin.Origin.{Origin}
 use Rattle.bs_log.specs.declared.origin.Origin.TheVariants.{Learnt}
 use Rattle.bs_solve.specs.declared.database.Database.{Database}

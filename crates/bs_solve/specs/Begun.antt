@@ -4,7 +4,7 @@ use Rattle.bs_arena.specs.Arena.{Held, literals_at}
 use Rattle.bs_watch.specs.declared.watch.Level.{Level}
 use Rattle.bs_watch.specs.Places.{Place, literals_of}
 use Rattle.bs_watch.specs.Look.{HasTrue}
-use Rattle.bs_solve_analysis.specs.Point.{IsDecisionAt}
+use Rattle.bs_solve_lemmas.specs.ImplicationPoint.{IsDecisionAt}
 
 -- The first level is that of the assumptions, behind what stands for good, and each further one begins with a decision. No other place from `base` on is
 -- without a reason.

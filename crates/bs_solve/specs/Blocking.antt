@@ -7,8 +7,8 @@ use Rattle.bs_watch.specs.Trail.{IsFalseOn, IsOpenOn}
 use Rattle.bs_watch.specs.Places.{Place, literals_of, IsOnLevel}
 use Rattle.bs_watch.specs.Choice.{AreHighest}
 use Rattle.bs_watch.specs.Watch.{WatchState}
-use Rattle.bs_solve_recording.specs.ProofLog.{ProofLog}
-use Rattle.bs_solve_recording.specs.Search.{assumed}
+use Rattle.bs_solve_lemmas.specs.ProofLog.{ProofLog}
+use Rattle.bs_solve_lemmas.specs.Search.{assumed}
 use Rattle.bs_solve.specs.declared.blocking.Retreat.{Retreat}
 use Rattle.bs_solve.specs.declared.blocking.Retreat.TheVariants.{Bottom, Implied, Open}
 use Rattle.bs_log.specs.declared.origin.Origin.TheVariants.{Blocked}

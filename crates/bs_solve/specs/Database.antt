@@ -9,10 +9,10 @@ use Rattle.bs_arena.specs.Arena.{Held, held_at, literals_at}
 use Rattle.bs_watch.specs.declared.lists.Watcher.{Watcher}
 use Rattle.bs_watch.specs.Lists.{IsAttached}
 use Rattle.bs_watch.specs.Watch.{WatchState, Serves}
-use Rattle.bs_solve_reduction.specs.declared.row.LoggedClause.{LoggedClause}
-use Rattle.bs_solve_reduction.specs.Keeping.{AreHeld}
-use Rattle.bs_solve_reduction.specs.Rows.{AreRowsAmong}
-use Rattle.bs_solve_recording.specs.ProofLog.{ProofLog}
+use Rattle.bs_solve_lemmas.specs.declared.row.LoggedClause.{LoggedClause}
+use Rattle.bs_solve_lemmas.specs.Keeping.{AreHeld}
+use Rattle.bs_solve_lemmas.specs.Rows.{AreRowsAmong}
+use Rattle.bs_solve_lemmas.specs.ProofLog.{ProofLog}
 use Rattle.bs_solve.specs.declared.database.Database.{Database}
 
 -- the clauses that stand, with their ids

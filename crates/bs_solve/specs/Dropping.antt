@@ -7,7 +7,7 @@ use Rattle.bs_log.specs.Kept.{is_free_lemma, is_long}
 use Rattle.bs_arena.specs.Arena.{Held, held_at}
 use Rattle.bs_watch.specs.Places.{Place}
 use Rattle.bs_watch.specs.Watch.{WatchState, Serves}
-use Rattle.bs_solve_reduction.specs.Keeping.{over}
+use Rattle.bs_solve_lemmas.specs.Keeping.{over}
 use Rattle.bs_solve.specs.declared.database.Database.{Database}
 use Rattle.bs_solve.specs.Database.{id_in, HoldsEntries}
 use Rattle.bs_solve.specs.Ground.{IsGround}

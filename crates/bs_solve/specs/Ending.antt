@@ -6,11 +6,11 @@ use Rattle.bs_log.specs.declared.origin.Origin.TheVariants.{Retired}
 use Rattle.bs_log.specs.History.{Entry}
 use Rattle.bs_arena.specs.Arena.{Held}
 use Rattle.bs_watch.specs.Watch.{WatchState, Serves}
-use Rattle.bs_solve_reduction.specs.declared.selection.Leaving.{Leaving}
-use Rattle.bs_solve_reduction.specs.Keeping.{Ascends}
-use Rattle.bs_solve_reduction.specs.Notes.{GoBy}
-use Rattle.bs_solve_reduction.specs.Rows.{going}
-use Rattle.bs_solve_recording.specs.ProofLog.{ProofLog, next_id}
+use Rattle.bs_solve_lemmas.specs.declared.selection.Leaving.{Leaving}
+use Rattle.bs_solve_lemmas.specs.Keeping.{Ascends}
+use Rattle.bs_solve_lemmas.specs.Notes.{GoBy}
+use Rattle.bs_solve_lemmas.specs.Rows.{going}
+use Rattle.bs_solve_lemmas.specs.ProofLog.{ProofLog, next_id}
 use Rattle.bs_solve.specs.declared.database.Database.{Database}
 use Rattle.bs_solve.specs.Database.{entries, HoldsEntries}
 use Rattle.bs_solve.specs.Ground.{IsGround}

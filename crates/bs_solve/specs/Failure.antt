@@ -3,9 +3,9 @@ use Rattle.std.specs.Prelude.{◌≡◌, ℕ, ◌<◌, ◌≤◌, true, List, le
 use Rattle.bs_clause.specs.Literal.{Clause}
 use Rattle.bs_log.specs.History.{axioms_from}
 use Rattle.bs_log.specs.Refusal.{denies}
-use Rattle.bs_solve_recording.specs.declared.answer.Answer.TheVariants.{Refuted}
-use Rattle.bs_solve_recording.specs.Solver.{SolverState, HasSolved}
-use Rattle.bs_solve_recording.specs.Walk.{IsLoggedLearnt}
+use Rattle.bs_solve_lemmas.specs.declared.answer.Answer.TheVariants.{Refuted}
+use Rattle.bs_solve_lemmas.specs.Solver.{SolverState, HasSolved}
+use Rattle.bs_solve_lemmas.specs.Walk.{IsLoggedLearnt}
 use Rattle.bs_solve.specs.declared.failure.FailedAssumption.{FailedAssumption}
 
 -- the lemma denies only assumptions, has fewer than two literals, and is right by clauses of the list

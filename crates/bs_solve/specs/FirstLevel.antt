@@ -10,7 +10,7 @@ use Rattle.bs_watch.specs.Places.{Place, AreApart, literals_of}
 use Rattle.bs_watch.specs.Look.{HasTrue}
 use Rattle.bs_watch.specs.Scene.{Grows}
 use Rattle.bs_watch.specs.Watch.{WatchState, KeepsService}
-use Rattle.bs_solve_analysis.specs.Reasons.{IsConflictAt}
+use Rattle.bs_solve_lemmas.specs.Reasons.{IsConflictAt}
 use Rattle.bs_solve.specs.declared.first_level.Start.{Start}
 use Rattle.bs_solve.specs.declared.first_level.Start.TheVariants.{Failed, Clash, Assigned}
 

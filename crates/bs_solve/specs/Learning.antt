@@ -6,10 +6,10 @@ use Rattle.bs_arena.specs.Arena.{Held}
 use Rattle.bs_watch.specs.Trail.{IsTrueOn}
 use Rattle.bs_watch.specs.Places.{literals_of}
 use Rattle.bs_watch.specs.Watch.{WatchState, Serves}
-use Rattle.bs_solve_analysis.specs.Reasons.{IsConflictAt}
-use Rattle.bs_solve_recording.specs.Places.{AreWarranted, logged_literals}
-use Rattle.bs_solve_recording.specs.ProofLog.{ProofLog, standing}
-use Rattle.bs_solve_recording.specs.Search.{assumed, HasLearnt}
+use Rattle.bs_solve_lemmas.specs.Reasons.{IsConflictAt}
+use Rattle.bs_solve_lemmas.specs.Places.{AreWarranted, logged_literals}
+use Rattle.bs_solve_lemmas.specs.ProofLog.{ProofLog, standing}
+use Rattle.bs_solve_lemmas.specs.Search.{assumed, HasLearnt}
 use Rattle.bs_solve.specs.Database.{HoldsEntries, entries}
 use Rattle.bs_solve.specs.Ground.{IsGround}
 use Rattle.bs_solve.specs.declared.database.Database.{Database}

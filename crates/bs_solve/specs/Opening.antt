@@ -1,11 +1,11 @@
 -- A solve for values that are known: nothing is searched.
 use Rattle.std.specs.Prelude.{◌≡◌, false}
 use Rattle.bs_clause.specs.Literal.{Clause}
-use Rattle.bs_solve_recording.specs.declared.stage.Stage.TheVariants.{Solved}
-use Rattle.bs_solve_recording.specs.ProofLog.{standing}
-use Rattle.bs_solve_recording.specs.Search.{assumed}
-use Rattle.bs_solve_recording.specs.Stages.{is_begun, begun_proof}
-use Rattle.bs_solve_recording.specs.Solver.{SolverState}
+use Rattle.bs_solve_lemmas.specs.declared.stage.Stage.TheVariants.{Solved}
+use Rattle.bs_solve_lemmas.specs.ProofLog.{standing}
+use Rattle.bs_solve_lemmas.specs.Search.{assumed}
+use Rattle.bs_solve_lemmas.specs.Stages.{is_begun, begun_proof}
+use Rattle.bs_solve_lemmas.specs.Solver.{SolverState}
 
 -- the proof log has the line of a solve, and no lemma behind it
 pub record HasOpened (old new : SolverState) (assumptions : Clause) : Type 0 where

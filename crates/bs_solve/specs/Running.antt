@@ -6,10 +6,10 @@ use Rattle.bs_watch.specs.declared.visit.Outcome.TheVariants.{Quiet, Conflict}
 use Rattle.bs_watch.specs.declared.watch.Level.{Level}
 use Rattle.bs_watch.specs.Places.{literals_of}
 use Rattle.bs_watch.specs.Watch.{WatchState, Serves}
-use Rattle.bs_solve_analysis.specs.Reasons.{IsReasoned, IsConflictAt}
-use Rattle.bs_solve_recording.specs.Places.{LoggedTrail}
-use Rattle.bs_solve_recording.specs.ProofLog.{ProofLog}
-use Rattle.bs_solve_recording.specs.Round.{InSearch}
+use Rattle.bs_solve_lemmas.specs.Reasons.{IsReasoned, IsConflictAt}
+use Rattle.bs_solve_lemmas.specs.Places.{LoggedTrail}
+use Rattle.bs_solve_lemmas.specs.ProofLog.{ProofLog}
+use Rattle.bs_solve_lemmas.specs.Round.{InSearch}
 use Rattle.bs_solve.specs.Database.{HoldsEntries, entries}
 use Rattle.bs_solve.specs.Ground.{IsGround}
 use Rattle.bs_solve.specs.declared.database.Database.{Database}

@@ -9,14 +9,14 @@ use Rattle.bs_watch.specs.declared.watch.Level.{Level}
 use Rattle.bs_watch.specs.Places.{Place, IsUnassigned, AreApart, literals_of}
 use Rattle.bs_watch.specs.Scene.{Advances, Propagated}
 use Rattle.bs_watch.specs.Watch.{WatchState, Serves, KeepsService, decided, assigned, scene}
-use Rattle.bs_solve_analysis.specs.Reasons.{IsReasoned, IsConflictAt}
-use Rattle.bs_solve_recording.specs.Places.{AreWarranted}
-use Rattle.bs_solve_recording.specs.Point.{AreImplied}
-use Rattle.bs_solve_recording.specs.ProofLog.{ProofLog, standing}
-use Rattle.bs_solve_recording.specs.declared.answer.Answer.{Answer}
-use Rattle.bs_solve_recording.specs.Search.{assumed, HasRefuted}
-use Rattle.bs_solve_recording.specs.Ending.{Ends}
-use Rattle.bs_solve_recording.specs.Values.{AreAssigned}
+use Rattle.bs_solve_lemmas.specs.Reasons.{IsReasoned, IsConflictAt}
+use Rattle.bs_solve_lemmas.specs.Places.{AreWarranted}
+use Rattle.bs_solve_lemmas.specs.Point.{AreImplied}
+use Rattle.bs_solve_lemmas.specs.ProofLog.{ProofLog, standing}
+use Rattle.bs_solve_lemmas.specs.declared.answer.Answer.{Answer}
+use Rattle.bs_solve_lemmas.specs.Search.{assumed, HasRefuted}
+use Rattle.bs_solve_lemmas.specs.Ending.{Ends}
+use Rattle.bs_solve_lemmas.specs.Values.{AreAssigned}
 use Rattle.bs_solve.specs.Database.{HoldsEntries, entries}
 use Rattle.bs_solve.specs.Ground.{IsGround}
 use Rattle.bs_solve.specs.declared.database.Database.{Database}

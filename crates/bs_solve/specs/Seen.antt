@@ -3,7 +3,7 @@ use Rattle.std.specs.Prelude.{Bool, true, false, List, map, is_some}
 use Rattle.bs_watch.specs.declared.visit.Outcome.{Outcome}
 use Rattle.bs_watch.specs.declared.visit.Outcome.TheVariants.{Quiet, Conflict}
 use Rattle.bs_watch.specs.Places.{Place}
-use Rattle.bs_solve_recording.specs.Place.{LoggedPlace}
+use Rattle.bs_solve_lemmas.specs.Place.{LoggedPlace}
 
 abbrev pub seen_place : Place → LoggedPlace
 seen_place p = record { literal = p.literal; implied = is_some p.reason }

@@ -3,12 +3,12 @@ use Rattle.std.specs.Prelude.{◌≡◌, ℕ, ◌+◌, ◌-◌, ◌*◌, ◌≤�
 use Rattle.bs_log.specs.History.{Entry}
 use Rattle.bs_arena.specs.Arena.{Held, Content, live_words, literals_at}
 use Rattle.bs_watch.specs.Watch.{WatchState}
-use Rattle.bs_solve_analysis.specs.Marks.{MarkState, IsClear}
-use Rattle.bs_solve_recording.specs.declared.stage.Stage.{Stage}
-use Rattle.bs_solve_recording.specs.declared.stage.Stage.TheVariants.{Idle, Begun, Solved, Blocked, Ended, Stopped}
-use Rattle.bs_solve_recording.specs.ProofLog.{ProofLog}
-use Rattle.bs_solve_recording.specs.Stages.{is_solved}
-use Rattle.bs_solve_recording.specs.Solver.{SolverState, IsReady}
+use Rattle.bs_solve_lemmas.specs.Marks.{MarkState, IsClear}
+use Rattle.bs_solve_lemmas.specs.declared.stage.Stage.{Stage}
+use Rattle.bs_solve_lemmas.specs.declared.stage.Stage.TheVariants.{Idle, Begun, Solved, Blocked, Ended, Stopped}
+use Rattle.bs_solve_lemmas.specs.ProofLog.{ProofLog}
+use Rattle.bs_solve_lemmas.specs.Stages.{is_solved}
+use Rattle.bs_solve_lemmas.specs.Solver.{SolverState, IsReady}
 use Rattle.bs_solve.specs.declared.dropping.CountedRows.{CountedRows}
 use Rattle.bs_solve.specs.Dropping.{marked, AreKnownIn}
 use Rattle.bs_solve.specs.declared.database.Database.{Database}

@@ -3,11 +3,11 @@ ghost use Rattle.std.specs.Prelude.{◌≡◌, ◌+◌, ◌≤◌, ◌<◌, ◌^
 ghost use Rattle.bs_log.specs.History.{phase_of};
 ghost use Rattle.bs_log.specs.Refusal.{in_solve, has_distinct_variables};
 ghost use Rattle.bs_clause.specs.Range.{HasVariables};
-ghost use Rattle.bs_solve_analysis.specs.Marks.{IsClear};
-ghost use Rattle.bs_solve_recording.specs.ProofLog.{standing};
-ghost use Rattle.bs_solve_recording.specs.Search.{assumed};
-ghost use Rattle.bs_solve_recording.specs.Ending.{SomeLemmas};
-ghost use Rattle.bs_solve_recording.specs.Values.{AreAssigned};
+ghost use Rattle.bs_solve_lemmas.specs.Marks.{IsClear};
+ghost use Rattle.bs_solve_lemmas.specs.ProofLog.{standing};
+ghost use Rattle.bs_solve_lemmas.specs.Search.{assumed};
+ghost use Rattle.bs_solve_lemmas.specs.Ending.{SomeLemmas};
+ghost use Rattle.bs_solve_lemmas.specs.Values.{AreAssigned};
 ghost use Rattle.bs_solve.specs.Learning.{IsAtRest};
 ghost use Rattle.bs_solve.specs.Pausing.{IsSomePause, IsKept};
 ghost use Rattle.bs_solve.specs.Ground.{IsOwn};
@@ -22,8 +22,7 @@ use crate::value::values;
 use bs_arena::{Arena, Ref};
 use bs_clause::{Lit, NoMemory};
 use bs_log::Origin;
-use bs_solve_analysis::{Marks, to_reasonless};
-use bs_solve_recording::{Answer, Recording, guarded};
+use bs_solve_lemmas::{Answer, Marks, Recording, guarded, to_reasonless};
 use bs_watch::{Outcome, Watch};
 use std::alloc::Global;
 

@@ -13,7 +13,7 @@ use crate::reading::clause_len;
 use bs_arena::{Arena, Ref};
 use bs_clause::{Lit, NoMemory};
 use bs_log::Origin;
-use bs_solve_reduction::LoggedClause;
+use bs_solve_lemmas::LoggedClause;
 use bs_watch::Watch;
 
 /// What is noted of the clauses beside the watch lists.

@@ -3,13 +3,13 @@ ghost use Rattle.std.specs.Prelude.{◌≡◌, ◌≤◌, ◌*◌, length, take,
 ghost use Rattle.bs_clause.specs.Range.{HasVariables};
 ghost use Rattle.bs_arena.specs.Arena.{held_at, literals_at, live_words};
 ghost use Rattle.bs_watch.specs.Watch.{Serves};
-ghost use Rattle.bs_solve_reduction.specs.Keeping.{AreHeld, Ascends, is_long_row};
-ghost use Rattle.bs_solve_reduction.specs.Notes.{GoBy};
+ghost use Rattle.bs_solve_lemmas.specs.Keeping.{AreHeld, Ascends, is_long_row};
+ghost use Rattle.bs_solve_lemmas.specs.Notes.{GoBy};
 ghost use Rattle.bs_solve.specs.Dropping.{AreStaying, HasDropped, HasCompacted};
 
 use crate::database::Database;
 use bs_arena::{Arena, Renaming};
-use bs_solve_reduction::{Activations, Leaving, LoggedClause, compact_all, count_long, take_out};
+use bs_solve_lemmas::{Activations, Leaving, LoggedClause, compact_all, count_long, take_out};
 use bs_watch::Watch;
 
 /// How many of the first rows are of lemmas that name no activation literal, and how many of these are long. The rest is not known.

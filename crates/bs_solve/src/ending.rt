@@ -4,8 +4,8 @@ ghost use Rattle.bs_clause.specs.Literal.{negation};
 ghost use Rattle.bs_watch.specs.Places.{IsUnassigned};
 ghost use Rattle.bs_arena.specs.Arena.{live_words};
 ghost use Rattle.bs_watch.specs.Watch.{Serves};
-ghost use Rattle.bs_solve_reduction.specs.Keeping.{Ascends};
-ghost use Rattle.bs_solve_reduction.specs.Notes.{GoBy};
+ghost use Rattle.bs_solve_lemmas.specs.Keeping.{Ascends};
+ghost use Rattle.bs_solve_lemmas.specs.Notes.{GoBy};
 ghost use Rattle.bs_solve.specs.Database.{entries};
 ghost use Rattle.bs_solve.specs.Learning.{IsAtRest};
 ghost use Rattle.bs_solve.specs.Dropping.{marked, AreKnownIn, AreStaying};
@@ -16,8 +16,7 @@ use crate::dropping::{CountedRows, compact_where_due, drop_leaving, known_after}
 use crate::retiring::retire;
 use bs_arena::{Arena, Renaming};
 use bs_clause::{Lit, NoMemory};
-use bs_solve_recording::Recording;
-use bs_solve_reduction::{Activations, Leaving, find_leaving};
+use bs_solve_lemmas::{Activations, Leaving, Recording, find_leaving};
 use bs_watch::Watch;
 use std::alloc::Global;
 

@@ -3,9 +3,9 @@ ghost use Rattle.std.specs.Prelude.{◌≡◌, ◌<◌, ◌^◌, length, true, A
 ghost use Rattle.bs_clause.specs.Range.{HasVariables};
 ghost use Rattle.bs_log.specs.History.{phase_of};
 ghost use Rattle.bs_log.specs.Refusal.{in_solve, denies};
-ghost use Rattle.bs_solve_recording.specs.ProofLog.{standing};
-ghost use Rattle.bs_solve_recording.specs.Search.{assumed};
-ghost use Rattle.bs_solve_recording.specs.Walk.{IsLoggedLearnt};
+ghost use Rattle.bs_solve_lemmas.specs.ProofLog.{standing};
+ghost use Rattle.bs_solve_lemmas.specs.Search.{assumed};
+ghost use Rattle.bs_solve_lemmas.specs.Walk.{IsLoggedLearnt};
 ghost use Rattle.bs_solve.specs.Database.{entries};
 ghost use Rattle.bs_solve.specs.Learning.{IsAtRest};
 ghost use Rattle.bs_solve.specs.Searching.{HasEndedBy};
@@ -15,7 +15,7 @@ use bs_arena::Arena;
 use bs_bits::List;
 use bs_clause::{Lits, NoMemory};
 use bs_log::Origin;
-use bs_solve_recording::Recording;
+use bs_solve_lemmas::Recording;
 use bs_watch::Watch;
 
 /// A lemma, and the ids of the clauses that it follows from.

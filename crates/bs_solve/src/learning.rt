@@ -3,7 +3,7 @@ ghost use Rattle.std.specs.Prelude.{◌≡◌, ◌+◌, ◌^◌, ◌<◌, ◌≤
 ghost use Rattle.bs_log.specs.History.{phase_of};
 ghost use Rattle.bs_log.specs.Refusal.{in_solve};
 ghost use Rattle.bs_arena.specs.Arena.{held_at};
-ghost use Rattle.bs_solve_analysis.specs.Marks.{IsClear};
+ghost use Rattle.bs_solve_lemmas.specs.Marks.{IsClear};
 ghost use Rattle.bs_solve.specs.Database.{id_in};
 ghost use Rattle.bs_solve.specs.Ground.{IsOwn};
 ghost use Rattle.bs_solve.specs.Learning.{IsSomeConflict, LearnsFrom};
@@ -14,8 +14,7 @@ use crate::database::Database;
 use bs_arena::{Arena, Ref};
 use bs_bits::List;
 use bs_clause::NoMemory;
-use bs_solve_analysis::{Marks, first_point};
-use bs_solve_recording::Recording;
+use bs_solve_lemmas::{Marks, Recording, first_point};
 use bs_watch::Watch;
 use std::alloc::Global;
 

@@ -6,7 +6,7 @@
 //! block: `add_between`), `failure` (a lemma that the caller knows ends the step), `pausing`, `retiring` (a retired activation literal's unit),
 //! `ending` and `dropping` (the end of a step: what leaves log, arena and watch lists), `value` and `reading`. Used above:
 //! `Solver::solve` (`HasSolved`: values of all clauses, a refutation, or the budget spent) and `into_log` (accepted, lean). `search`
-//! ends as bs_solve_recording's `Ends` says, with the clauses that stand in the arena and watched (`IsAtRest`, or `IsPaused` where
+//! ends as bs_solve_lemmas's `Ends` says, with the clauses that stand in the arena and watched (`IsAtRest`, or `IsPaused` where
 //! values were found). What holds between two calls: `specs/Starting`; between two rounds of a search: `specs/Running`; between two
 //! solves: `specs/Pausing`; what stands for good: `specs/Ground`.
 #![tactic(auto)]

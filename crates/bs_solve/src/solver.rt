@@ -4,11 +4,11 @@ ghost use Rattle.bs_log.specs.History.{step_of, activation_of, live};
 ghost use Rattle.bs_log.specs.Refusal.{has_distinct_variables, history_of, NoneRefused, IsAccepted};
 ghost use Rattle.bs_log.specs.Lean.{LemmasAreLean, StepsLeaveKept};
 ghost use Rattle.bs_log.specs.LineForms.{HasText};
-ghost use Rattle.bs_solve_recording.specs.declared.stage.Stage.TheVariants.{Idle, Begun, Solved, Ended};
+ghost use Rattle.bs_solve_lemmas.specs.declared.stage.Stage.TheVariants.{Idle, Begun, Solved, Ended};
 ghost use Rattle.bs_clause.specs.Range.{HasVariables};
-ghost use Rattle.bs_solve_recording.specs.ProofLog.{standing, lemma_ids};
-ghost use Rattle.bs_solve_recording.specs.Stages.{is_begun, is_solved};
-ghost use Rattle.bs_solve_recording.specs.Solver.{MaySolve, HasSolved, HasBlocked, HasEnded, Follows, finished};
+ghost use Rattle.bs_solve_lemmas.specs.ProofLog.{standing, lemma_ids};
+ghost use Rattle.bs_solve_lemmas.specs.Stages.{is_begun, is_solved};
+ghost use Rattle.bs_solve_lemmas.specs.Solver.{MaySolve, HasSolved, HasBlocked, HasEnded, Follows, finished};
 ghost use Rattle.bs_arena.specs.Arena.{live_words};
 ghost use Rattle.bs_solve.specs.Opening.{HasOpened};
 ghost use Rattle.bs_solve.specs.Failure.{FailsBy, HasDenied};
@@ -26,11 +26,10 @@ use bs_arena::{Arena, Renaming};
 use bs_bits::List;
 use bs_clause::{Clauses, Lit, Lits, NoMemory, Var};
 use bs_log::Log;
-use bs_solve_analysis::Marks;
-use bs_solve_recording::{
-    Answer, Recording, Stage, begin_solve, finish, guarded, is_begun, stage_after,
+use bs_solve_lemmas::{
+    Activations, Answer, Marks, Recording, Stage, begin_solve, finish, guarded, is_begun,
+    stage_after,
 };
-use bs_solve_reduction::Activations;
 use bs_watch::Watch;
 use std::alloc::Global;
 use std::marker::Model;
@@ -53,7 +52,7 @@ pub struct Solver {
 }
 
 impl Model for Solver {
-    ghost use Rattle.bs_solve_recording.specs.Solver.{SolverState};
+    ghost use Rattle.bs_solve_lemmas.specs.Solver.{SolverState};
     ghost use Rattle.bs_solve.specs.Starting.{IsEngine};
 
     ghost Value = { SolverState };

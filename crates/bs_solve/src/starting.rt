@@ -5,7 +5,7 @@ ghost use Rattle.bs_log.specs.History.{axioms_from};
 ghost use Rattle.bs_log.specs.Refusal.{has_distinct_variables};
 ghost use Rattle.bs_arena.specs.Arena.{live_words};
 ghost use Rattle.bs_watch.specs.Watch.{Serves};
-ghost use Rattle.bs_solve_analysis.specs.Marks.{IsClear};
+ghost use Rattle.bs_solve_lemmas.specs.Marks.{IsClear};
 ghost use Rattle.bs_solve.specs.Database.{HoldsEntries};
 ghost use Rattle.bs_solve.specs.Starting.{KeepsRest};
 
@@ -14,7 +14,7 @@ use crate::room::roomy_watch;
 use bs_arena::Arena;
 use bs_clause::{Lits, NoMemory};
 use bs_log::Origin;
-use bs_solve_analysis::Marks;
+use bs_solve_lemmas::Marks;
 use bs_watch::Watch;
 use std::alloc::Global;
 

@@ -2,11 +2,11 @@
 ghost use Rattle.std.specs.Prelude.{◌≡◌, ◌*◌, ◌<◌, ◌≤◌, ◌^◌, false, length, slice_index_or, IfOk};
 ghost use Rattle.bs_clause.specs.Literal.{has_literal, code_of};
 ghost use Rattle.bs_watch.specs.Places.{literals_of};
-ghost use Rattle.bs_solve_recording.specs.Values.{positive, HasValues};
+ghost use Rattle.bs_solve_lemmas.specs.Values.{positive, HasValues};
 ghost use Rattle.bs_solve.specs.Between.{AreBetween};
 
 use bs_clause::{Lit, NoMemory, Var};
-use bs_solve_recording::Solution;
+use bs_solve_lemmas::Solution;
 use bs_watch::Watch;
 use std::alloc::Global;
 

@@ -5,12 +5,12 @@ use Rattle.std.proofs.lemmas.Bool.{le-ltb, lt-ltb}
 use Rattle.bs_top_files.specs.Refusals.{Case}
 use Rattle.bs_report.specs.declared.report.Budgets.{Budgets}
 use Rattle.bs_report.specs.declared.report.Report.{Report}
-use Rattle.bs_top_plan.specs.declared.file.File.{File}
-use Rattle.bs_top_plan.specs.declared.file.File.TheVariants as files
-use Rattle.bs_top_plan.specs.declared.limits.TheConstants.{MAX_REPORT_BYTES}
-use Rattle.bs_top_plan.specs.Files.{limit_of}
-use Rattle.bs_top_plan.specs.Plan.{Tells, Wanted, Reason, exactly, Plan, fetch, refuse, end, ◌>>=◌, PlanOutcome, refused, told_next, told_end}
-use Rattle.bs_top_plan.proofs.Plans.{ready_in, refused_in, told_end_then, told_came_from}
+use Rattle.bs_outside.specs.declared.file.File.{File}
+use Rattle.bs_outside.specs.declared.file.File.TheVariants as files
+use Rattle.bs_outside.specs.declared.limits.TheConstants.{MAX_REPORT_BYTES}
+use Rattle.bs_outside.specs.PlanFiles.{limit_of}
+use Rattle.bs_outside.specs.Plan.{Tells, Wanted, Reason, exactly, Plan, fetch, refuse, end, ◌>>=◌, PlanOutcome, refused, told_next, told_end}
+use Rattle.bs_outside.proofs.Plans.{ready_in, refused_in, told_end_then, told_came_from}
 use Rattle.bs_top_words.specs.Job.{RunJob}
 use Rattle.bs_top_files.specs.Entry.{CrashFiles, crash_files_of, AuditFiles, audit_files_of, report_of}
 use Rattle.bs_top_files.specs.Readings.{report_read}

@@ -2,7 +2,7 @@
 use Rattle.std.proofs.Common.{◌≡◌, ◌≢◌, ℕ, length, Bool, false, Result, Ok, Err, Vec, refl, Option, ap, subst, sym, ◌∙◌}
 use Rattle.std.specs.Prelude.{IfOk}
 use Rattle.std.specs.declared.alloc.Global.{Global}
-use Rattle.bs_seen.specs.declared.seen.Seen.{Seen}
+use Rattle.bs_scan.specs.declared.seen.Seen.{Seen}
 use Rattle.bs_bits.specs.declared.memory.NoMemory.{NoMemory}
 use Rattle.bs_net.specs.Circuit.{Circuit}
 use Rattle.bs_net.specs.Netlist.{circuit_of}
@@ -28,7 +28,7 @@ use Rattle.bs_top_answer.specs.declared.note.Response.{Response}
 use Rattle.bs_top_answer.specs.Endings.{is_looked, miss_text_of, rejected_text_if, run_text}
 use Rattle.bs_top_answer.specs.Note.{DueText, SureText}
 use Rattle.bs_top_files.specs.Entry.{CrashFiles, recording_in}
-use Rattle.bs_top_plan.specs.declared.status.Status.TheVariants.{Done}
+use Rattle.bs_outside.specs.declared.status.Status.TheVariants.{Done}
 use Rattle.bs_top.specs.Drawn.{IsDrawn, IsTraceWave}
 use Rattle.bs_top.specs.Finishes.{Answers, Audits, demo_budgets, Draws, Finds, IsBacktrace, reach_status, Reports, stop_status, Summarises}
 use Rattle.bs_top.specs.Rejected.{finding_status, finding_text}

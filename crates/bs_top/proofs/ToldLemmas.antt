@@ -8,13 +8,13 @@ use Rattle.std.specs.Str.{bytes_eq}
 use Rattle.std.specs.declared.alloc.Global.{Global}
 use Rattle.bs_outside.specs.Files.{Files, held_in}
 use Rattle.bs_net.specs.Parts.{Parts}
-use Rattle.bs_top_plan.specs.declared.walk.JobFault.{JobFault}
-use Rattle.bs_top_plan.specs.declared.walk.JobFault.TheVariants.{NoMemory}
-use Rattle.bs_top_plan.specs.declared.file.File.TheVariants as files
-use Rattle.bs_top_plan.specs.Plan.{Tells, Plan, Reason, AllTold, with_texts, end, fetched, read_as, ◌>>=◌}
-use Rattle.bs_top_plan.specs.Walks.{Walks, WalksAlone}
-use Rattle.bs_top_plan.proofs.AskingLemmas.{along_none}
-use Rattle.bs_top_plan.proofs.Walking.{told_then, told_fetched, told_read, walks_alone, sure_shelf}
+use Rattle.bs_outside.specs.declared.walk.JobFault.{JobFault}
+use Rattle.bs_outside.specs.declared.walk.JobFault.TheVariants.{NoMemory}
+use Rattle.bs_outside.specs.declared.file.File.TheVariants as files
+use Rattle.bs_outside.specs.Plan.{Tells, Plan, Reason, AllTold, with_texts, end, fetched, read_as, ◌>>=◌}
+use Rattle.bs_outside.specs.Walks.{Walks, WalksAlone}
+use Rattle.bs_outside.proofs.AskingLemmas.{along_none}
+use Rattle.bs_outside.proofs.Walking.{told_then, told_fetched, told_read, walks_alone, sure_shelf}
 use Rattle.bs_outside.specs.Memory.{sure_files, sure_held, sure_faults, sure_leads}
 use Rattle.bs_outside.specs.declared.sure.SureShelf.{SureShelf}
 use Rattle.bs_stim.specs.Runs.{Stimulus}

@@ -8,11 +8,11 @@ use Rattle.std.proofs.lemmas.List.Elements.{All-from_get_or}
 use Rattle.bs_net.specs.Decided.{passes}
 use Rattle.bs_net.specs.Netlist.{circuit_of}
 use Rattle.bs_net.specs.Parts.{Parts}
-use Rattle.bs_top_plan.specs.declared.file.File.TheVariants as files
-use Rattle.bs_top_plan.specs.declared.status.Status.TheVariants.{Done}
-use Rattle.bs_top_plan.specs.Files.{limit_of}
-use Rattle.bs_top_plan.specs.Plan.{Tells, Wanted, Reason, exactly, Plan, fetch, refuse, end, ◌>>=◌, read_as, PlanOutcome, refused, told_next, told_end}
-use Rattle.bs_top_plan.proofs.Plans.{ready_in, refused_in}
+use Rattle.bs_outside.specs.declared.file.File.TheVariants as files
+use Rattle.bs_outside.specs.declared.status.Status.TheVariants.{Done}
+use Rattle.bs_outside.specs.PlanFiles.{limit_of}
+use Rattle.bs_outside.specs.Plan.{Tells, Wanted, Reason, exactly, Plan, fetch, refuse, end, ◌>>=◌, read_as, PlanOutcome, refused, told_next, told_end}
+use Rattle.bs_outside.proofs.Plans.{ready_in, refused_in}
 use Rattle.bs_verilog.specs.Law.{AreNames}
 use Rattle.bs_flat_meaning.proofs.NamedLemmas.{flat_nets_are_named}
 use Rattle.bs_top_files.specs.Entry.{FileNames, Setup, CrashFiles, AuditFiles, netlist_of, signature_of, stimulus_of, dump_of, setup_of, crash_files_of, report_of}

@@ -2,7 +2,7 @@
 use Rattle.std.specs.Prelude.{ℕ, List, Some, None, codes, if◌then◌else◌}
 use Rattle.std.specs.Str.{bytes_eq}
 use Rattle.bs_gen.specs.Job.{netlist_for, signature_text, stimulus_for}
-use Rattle.bs_top_plan.specs.Plan.{Tells, Plan, with_texts}
+use Rattle.bs_outside.specs.Plan.{Tells, Plan, with_texts}
 use Rattle.bs_top.specs.declared.budgets.TheConstants.{DEMO_RUN, DEMO_CYCLE}
 use Rattle.bs_top_files.specs.Entry.{FileNames, MomentFiles, moment_files_of}
 use Rattle.bs_top_files.specs.Looking.{moment_files_looked}

@@ -1,6 +1,6 @@
 -- The status and the text of work that is done.
 use Rattle.std.specs.Prelude.{◌≡◌, ℕ, List, Option, None, Ok, All}
-use Rattle.bs_seen.specs.declared.seen.Seen.{Seen}
+use Rattle.bs_scan.specs.declared.seen.Seen.{Seen}
 use Rattle.bs_scan.specs.DumpText.{dump_text}
 use Rattle.bs_log.specs.Lean.{IsLean}
 use Rattle.bs_log.specs.Refusal.{history_of}
@@ -13,8 +13,8 @@ use Rattle.bs_report.specs.Text.{report_text, HasReportText}
 use Rattle.bs_report_good.specs.declared.part.Part.{Part}
 use Rattle.bs_report_good.specs.Progress.{GoesBack}
 use Rattle.bs_report_good.specs.Valid.{first_failing}
-use Rattle.bs_top_plan.specs.declared.status.Status.{Status}
-use Rattle.bs_top_plan.specs.declared.status.Status.TheVariants as S
+use Rattle.bs_outside.specs.declared.status.Status.{Status}
+use Rattle.bs_outside.specs.declared.status.Status.TheVariants as S
 use Rattle.bs_loop.specs.Bound.{HasBound}
 use Rattle.bs_loop.specs.HitInput.{TakesRecorded}
 use Rattle.bs_loop.specs.Searched.{WereSearched}

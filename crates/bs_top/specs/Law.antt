@@ -2,11 +2,11 @@
 use Rattle.std.specs.Prelude.{◌≡◌, ◌<◌, ◌≤◌, ℕ, List, length, codes, Some, Ok}
 use Rattle.bs_report.specs.declared.report.Budgets.{Budgets}
 use Rattle.bs_report.specs.declared.report.Report.{Report}
-use Rattle.bs_top_plan.specs.declared.file.File.TheVariants as files
-use Rattle.bs_top_plan.specs.declared.limits.TheConstants.{MAX_REPORT_BYTES}
-use Rattle.bs_top_plan.specs.declared.status.Status.{Status}
-use Rattle.bs_top_plan.specs.declared.status.Status.TheVariants.{Done}
-use Rattle.bs_top_plan.specs.Plan.{Tells, exactly, ready, refused, told_end}
+use Rattle.bs_outside.specs.declared.file.File.TheVariants as files
+use Rattle.bs_outside.specs.declared.limits.TheConstants.{MAX_REPORT_BYTES}
+use Rattle.bs_outside.specs.declared.status.Status.{Status}
+use Rattle.bs_outside.specs.declared.status.Status.TheVariants.{Done}
+use Rattle.bs_outside.specs.Plan.{Tells, exactly, ready, refused, told_end}
 use Rattle.bs_top_words.specs.Job.{RunJob, AuditJob, Run, Audit, Wave as WaveWords}
 use Rattle.bs_top_files.specs.Entry.{CrashFiles, AuditFiles}
 use Rattle.bs_top_files.specs.Readings.{report_read}

@@ -6,12 +6,12 @@ use Rattle.std.specs.declared.io.ErrorKind.TheVariants.{OutOfMemory}
 use Rattle.bs_bits.specs.declared.memory.NoMemory.{NoMemory}
 use Rattle.bs_outside.specs.Calls.{FetchCall, PutCall}
 use Rattle.bs_outside.specs.Faults.{Rose}
-use Rattle.bs_top_plan.specs.declared.status.Status.{Status}
-use Rattle.bs_top_plan.specs.declared.status.Status.TheVariants.{Words, ReadFault, WriteFault}
-use Rattle.bs_top_plan.specs.declared.status.TheConstants.{NO_MEMORY_CODE}
-use Rattle.bs_top_plan.specs.Plan.{Tells, Counts, Plan}
-use Rattle.bs_top_plan.specs.Clauses.{Answered, AnsweredAsTold, AnsweredWhole, CallByCall, CallsWanting, IsCalm, IsWordsOnlyFor, ReadFaultOf, RefusesFirstOf}
-use Rattle.bs_top_plan.specs.Statuses.{code_of, exit_code}
+use Rattle.bs_outside.specs.declared.status.Status.{Status}
+use Rattle.bs_outside.specs.declared.status.Status.TheVariants.{Words, ReadFault, WriteFault}
+use Rattle.bs_outside.specs.declared.status.TheConstants.{NO_MEMORY_CODE}
+use Rattle.bs_outside.specs.Plan.{Tells, Counts, Plan}
+use Rattle.bs_outside.specs.Clauses.{Answered, AnsweredAsTold, AnsweredWhole, CallByCall, CallsWanting, IsCalm, IsWordsOnlyFor, ReadFaultOf, RefusesFirstOf}
+use Rattle.bs_outside.specs.Statuses.{code_of, exit_code}
 use Rattle.bs_top_words.specs.Job.{job_of}
 use Rattle.bs_top_files.specs.Law.{NetlistsMeanDesigns}
 use Rattle.bs_top_files.specs.Refusals.{Case, CheckSays}

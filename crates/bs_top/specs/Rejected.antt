@@ -5,8 +5,8 @@ use Rattle.bs_log.specs.declared.why.Why.{Why}
 use Rattle.bs_log.specs.declared.why.Why.TheVariants as why
 use Rattle.bs_report_good.specs.declared.part.Part.{Part}
 use Rattle.bs_report_good.specs.declared.part.Part.TheVariants as parts
-use Rattle.bs_top_plan.specs.declared.status.Status.{Status}
-use Rattle.bs_top_plan.specs.declared.status.Status.TheVariants.{Done, Rejected}
+use Rattle.bs_outside.specs.declared.status.Status.{Status}
+use Rattle.bs_outside.specs.declared.status.Status.TheVariants.{Done, Rejected}
 
 -- the word for a reason for which a log line is refused
 abbrev pub why_word : Why → List ℕ

@@ -25,8 +25,8 @@ use Rattle.bs_top_answer.specs.Prepared.{NoteAlong}
 use Rattle.bs_top_files.specs.Entry.{CrashFiles, recording_in}
 use Rattle.bs_top_files.specs.Looking.{audit_files_looked, crash_files_looked, drawn_looked, moment_files_looked}
 use Rattle.bs_top_files.specs.NoteCases.{NoteCase, NoteSays}
-use Rattle.bs_top_plan.specs.declared.status.Status.{Status}
-use Rattle.bs_top_plan.specs.Plan.{Plan, end, ◌>>=◌}
+use Rattle.bs_outside.specs.declared.status.Status.{Status}
+use Rattle.bs_outside.specs.Plan.{Plan, end, ◌>>=◌}
 use Rattle.bs_top_words.specs.Job.{Job, Run, Audit, Dump as Moment, Demo, Wave, Reach as Search}
 use Rattle.bs_top.specs.Demo.{demo_looked}
 use Rattle.bs_top.specs.Drawn.{IsDrawn}

@@ -20,11 +20,10 @@ use crate::names::audit_paths;
 use bs_audit::Finding;
 use bs_bits::{end_line, push_number, push_piece};
 use bs_log::Why;
-use bs_outside::{NoMemory, Shelf};
+use bs_outside::{NoMemory, Reply, Shelf, Status};
 use bs_report_good::Part;
 use bs_top_answer::{Note, Response, rejected_said, stop_answer};
 use bs_top_files::{AuditFiles, FileNames, load_audit_files};
-use bs_top_plan::{Reply, Status};
 use bs_top_words::AuditJob;
 use std::alloc::Global;
 

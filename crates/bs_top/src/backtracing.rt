@@ -24,13 +24,12 @@ use crate::names::run_paths;
 use bs_chip::Chip;
 use bs_loop::backtrace;
 use bs_note_calls::cut_lists;
-use bs_outside::{NoMemory, Shelf};
+use bs_outside::{NoMemory, Reply, Shelf, Status};
 use bs_preimage::Preimage;
 use bs_report::{Budgets, Report, Stop};
 use bs_scan::Dump;
 use bs_top_answer::{Response, run_said, stop_answer};
 use bs_top_files::{CrashFiles, FileNames, Setup, load_crash_files};
-use bs_top_plan::{Reply, Status};
 use bs_top_words::RunJob;
 use std::alloc::Global;
 

@@ -16,11 +16,10 @@ ghost use Rattle.bs_top.specs.Said.{JobSaid, WorkSaid};
 use crate::design::means_design;
 use crate::names::dump_paths;
 use bs_chip::Chip;
-use bs_outside::{NoMemory, Shelf};
+use bs_outside::{NoMemory, Reply, Shelf, Status};
 use bs_scan::Dump;
 use bs_top_answer::{Note, Response, stop_answer};
 use bs_top_files::{FileNames, MomentFiles, load_moment_files};
-use bs_top_plan::{Reply, Status};
 use bs_top_words::DumpJob;
 use std::alloc::Global;
 

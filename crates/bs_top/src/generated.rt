@@ -1,20 +1,19 @@
 //! The generated texts, walked as the files of a job are.
 ghost use Rattle.std.specs.Prelude.{◌≡◌, IfOk, string_bytes};
-ghost use Rattle.bs_top_plan.specs.Walks.{WalksAlone};
+ghost use Rattle.bs_outside.specs.Walks.{WalksAlone};
 ghost use Rattle.bs_top_files.specs.Ready.{moment_files_in};
 ghost use Rattle.bs_top_files.specs.Refusals.{CheckSays};
 ghost use Rattle.bs_gen.specs.Job.{netlist_for, signature_text, stimulus_for};
 ghost use Rattle.bs_outside.specs.Memory.{sure_files};
 ghost use Rattle.bs_top_files.specs.NoteCases.{NoteSays};
-ghost use Rattle.bs_top_plan.specs.Diagnostic.{lined, note_seen};
+ghost use Rattle.bs_outside.specs.Diagnostic.{lined, note_seen};
 ghost use Rattle.bs_top.specs.Demo.{demo_looked, demo_of};
 ghost use Rattle.bs_top.specs.Texts.{AreTexts};
 
 use crate::budgets::{DEMO_CYCLE, DEMO_RUN};
 use bs_gen::{GeneratedJob, make};
-use bs_outside::{NoMemory, SureShelf};
+use bs_outside::{JobFault, NoMemory, SureShelf, WalkStop};
 use bs_top_files::{FileNames, MomentFiles, load_moment_files};
-use bs_top_plan::{JobFault, WalkStop};
 use std::alloc::{AllocError, Global};
 
 /// A text under a name.

@@ -26,7 +26,7 @@ mod summary;
 mod summing;
 mod top;
 
-pub use bs_top_plan::Status;
+pub use bs_outside::Status;
 pub use law::{
     audit_accepts_what_run_writes, audit_follows_run, netlists_mean_designs, waveforms_read_back,
 };

@@ -1,14 +1,13 @@
 //! The program: all that stands behind the words of its command line, up to the exit code.
 ghost use Rattle.std.specs.Prelude.{◌≡◌, map, string_bytes, IfOk, IfErr};
-ghost use Rattle.bs_top_plan.specs.Statuses.{exit_code};
+ghost use Rattle.bs_outside.specs.Statuses.{exit_code};
 ghost use Rattle.bs_outside.specs.Texts.{output};
 ghost use Rattle.bs_top.specs.Program.{EndsBy, EndsUnread, SaysUnread, UnreadSaid};
 
 use crate::top::backspace_noted;
 use bs_note_calls::unread_words_note;
-use bs_outside::{NoMemory, Shelf, Sink};
+use bs_outside::{NO_MEMORY_CODE, NoMemory, Shelf, Sink, Status};
 use bs_top_answer::{Note, put_note, say_memory};
-use bs_top_plan::{NO_MEMORY_CODE, Status};
 use std::alloc::Global;
 use std::io::ErrorKind;
 

@@ -20,12 +20,11 @@ use crate::dumping::dump_of;
 use crate::generated::load_demo;
 use crate::names::demo_paths;
 use crate::summary::summary_line;
-use bs_outside::NoMemory;
+use bs_outside::{NoMemory, Reply, Status};
 use bs_report::{Budgets, Report};
 use bs_scan::Dump;
 use bs_top_answer::{Note, Response, stop_answer};
 use bs_top_files::{MomentFiles, Setup};
-use bs_top_plan::{Reply, Status};
 use std::alloc::Global;
 
 /// The line of a backtrace.

@@ -2,8 +2,8 @@
 ghost use Rattle.std.specs.Prelude.{◌≡◌, ◌≢◌, ℕ, List, map, string_bytes, option_map, IfOk, OnErr};
 ghost use Rattle.std.specs.Io.KnownBytes.{Keeps};
 ghost use Rattle.bs_outside.specs.Faults.{Rose};
-ghost use Rattle.bs_top_plan.specs.Clauses.{Answered, AnsweredAsTold, AnsweredWhole, CallByCall, CallsWanting, IsCalm, IsWordsOnlyFor, ReadFaultOf, RefusesFirstOf};
-ghost use Rattle.bs_top_plan.specs.Answers.{RefusesWords};
+ghost use Rattle.bs_outside.specs.Clauses.{Answered, AnsweredAsTold, AnsweredWhole, CallByCall, CallsWanting, IsCalm, IsWordsOnlyFor, ReadFaultOf, RefusesFirstOf};
+ghost use Rattle.bs_outside.specs.Answers.{RefusesWords};
 ghost use Rattle.bs_note_calls.specs.Faults.{memory_text};
 ghost use Rattle.bs_note_calls.specs.Words.{IsWordsNote};
 ghost use Rattle.bs_outside.specs.Texts.{output, PutsText};
@@ -24,9 +24,8 @@ use crate::dumping::dump;
 use crate::reaching::reach;
 use crate::summing::demo;
 use bs_note_calls::words_note;
-use bs_outside::{Deaf, NoMemory, Shelf, Sink};
+use bs_outside::{Deaf, NoMemory, Shelf, Sink, Status, refused_words};
 use bs_top_answer::{Note, Response, deliver_noted, say_memory};
-use bs_top_plan::{Status, refused_words};
 use bs_top_words::{Job, read_words};
 use std::alloc::Global;
 

@@ -4,27 +4,27 @@ use Rattle.std.specs.Prelude.{IfOk}
 use Rattle.bs_bits.specs.declared.memory.NoMemory.{NoMemory}
 use Rattle.bs_outside.specs.Calls.{FetchCall, PutCall}
 use Rattle.bs_outside.specs.Texts.{Output}
-use Rattle.bs_top_plan.specs.declared.file.File.{File}
-use Rattle.bs_top_plan.specs.declared.file.File.TheVariants as files
-use Rattle.bs_top_plan.specs.declared.status.Status.{Status}
-use Rattle.bs_top_plan.specs.declared.status.Status.TheVariants.{ReadFault, WriteFault}
-use Rattle.bs_top_plan.specs.declared.walk.JobFault.{JobFault}
-use Rattle.bs_top_plan.specs.declared.walk.JobFault.TheVariants as J
-use Rattle.bs_top_plan.specs.declared.diagnostic.WalkStop.{WalkStop}
-use Rattle.bs_top_plan.specs.declared.diagnostic.WalkStop.TheVariants as S
-use Rattle.bs_top_plan.specs.Files.{is_work_status, refusal_status}
-use Rattle.bs_top_plan.specs.Plan.{Tells, Counts, Plan, end, fetch, refuse, ◌>>=◌, ready, faulted, refused}
-use Rattle.bs_top_plan.specs.Asking.{Along, AsksTo, GoesTo}
-use Rattle.bs_top_plan.specs.Delivery.{CountsPuts, Delivers, PutsLines}
-use Rattle.bs_top_plan.specs.Prepared.{AnswersStop, IsWork}
-use Rattle.bs_top_plan.specs.Telling.{WalksDiagnosed}
-use Rattle.bs_top_plan.specs.Diagnostic.{line_stop, lined, note_seen, note_stop}
-use Rattle.bs_top_plan.specs.Walks.{WalksAlone}
-use Rattle.bs_top_plan.proofs.AskingLemmas.{goes_as}
-use Rattle.bs_top_plan.proofs.Preparing.{alone_stop, alone_work, prepares_alone, prepares_nothing, prepares_stop, prepares_words, prepares_work}
-use Rattle.bs_top_plan.proofs.TellingLemmas.{line_walks, note_walks}
-use Rattle.bs_top_plan.proofs.Walking.{walks_as}
-use Rattle.bs_top_plan.specs.Answers.{RefusesWords}
+use Rattle.bs_outside.specs.declared.file.File.{File}
+use Rattle.bs_outside.specs.declared.file.File.TheVariants as files
+use Rattle.bs_outside.specs.declared.status.Status.{Status}
+use Rattle.bs_outside.specs.declared.status.Status.TheVariants.{ReadFault, WriteFault}
+use Rattle.bs_outside.specs.declared.walk.JobFault.{JobFault}
+use Rattle.bs_outside.specs.declared.walk.JobFault.TheVariants as J
+use Rattle.bs_outside.specs.declared.diagnostic.WalkStop.{WalkStop}
+use Rattle.bs_outside.specs.declared.diagnostic.WalkStop.TheVariants as S
+use Rattle.bs_outside.specs.PlanFiles.{is_work_status, refusal_status}
+use Rattle.bs_outside.specs.Plan.{Tells, Counts, Plan, end, fetch, refuse, ◌>>=◌, ready, faulted, refused}
+use Rattle.bs_outside.specs.Asking.{Along, AsksTo, GoesTo}
+use Rattle.bs_outside.specs.Delivery.{CountsPuts, Delivers, PutsLines}
+use Rattle.bs_outside.specs.Prepared.{AnswersStop, IsWork}
+use Rattle.bs_outside.specs.Telling.{WalksDiagnosed}
+use Rattle.bs_outside.specs.Diagnostic.{line_stop, lined, note_seen, note_stop}
+use Rattle.bs_outside.specs.Walks.{WalksAlone}
+use Rattle.bs_outside.proofs.AskingLemmas.{goes_as}
+use Rattle.bs_outside.proofs.Preparing.{alone_stop, alone_work, prepares_alone, prepares_nothing, prepares_stop, prepares_words, prepares_work}
+use Rattle.bs_outside.proofs.TellingLemmas.{line_walks, note_walks}
+use Rattle.bs_outside.proofs.Walking.{walks_as}
+use Rattle.bs_outside.specs.Answers.{RefusesWords}
 use Rattle.bs_top_answer.specs.declared.note.Response.{Response}
 use Rattle.bs_top_answer.specs.declared.note.Note.{Note}
 use Rattle.bs_top_answer.specs.declared.note.Note.TheVariants.{Silent, Brief, Text, Wanting}

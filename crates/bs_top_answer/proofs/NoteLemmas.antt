@@ -6,12 +6,12 @@ use Rattle.std.specs.declared.alloc.Global.{Global}
 use Rattle.std.specs.declared.io.ErrorKind.{ErrorKind}
 use Rattle.bs_bits.specs.declared.memory.NoMemory.{NoMemory}
 use Rattle.bs_note_calls.specs.Faults.{IsOutputNote, long_text, unread_text}
-use Rattle.bs_top_plan.specs.declared.file.File.{File}
-use Rattle.bs_top_plan.specs.declared.walk.JobFault.{JobFault}
-use Rattle.bs_top_plan.specs.declared.walk.JobFault.TheVariants as J
-use Rattle.bs_top_plan.specs.declared.diagnostic.WalkStop.{WalkStop}
-use Rattle.bs_top_plan.specs.declared.diagnostic.WalkStop.TheVariants as S
-use Rattle.bs_top_plan.specs.Diagnostic.{fault_in, note_stop}
+use Rattle.bs_outside.specs.declared.file.File.{File}
+use Rattle.bs_outside.specs.declared.walk.JobFault.{JobFault}
+use Rattle.bs_outside.specs.declared.walk.JobFault.TheVariants as J
+use Rattle.bs_outside.specs.declared.diagnostic.WalkStop.{WalkStop}
+use Rattle.bs_outside.specs.declared.diagnostic.WalkStop.TheVariants as S
+use Rattle.bs_outside.specs.Diagnostic.{fault_in, note_stop}
 use Rattle.bs_top_answer.specs.declared.note.Note.{Note}
 use Rattle.bs_top_answer.specs.declared.note.Note.TheVariants.{Silent, Brief, Text, Wanting}
 use Rattle.bs_top_answer.specs.Note.{Due, note_made, Sure}

@@ -1,8 +1,8 @@
 -- How many bits are known.
 use Rattle.std.proofs.Common.{◌≡◌, ℕ, ◌+◌, ◌<◌, Bool, true, false, List, take, length, get_or, refl, ap, sym, ◌∙◌}
 use Rattle.std.proofs.lemmas.List.{length-append}
-use Rattle.bs_seen.specs.Seen.{kept, kept_one}
-use Rattle.bs_seen.proofs.KeptLemmas.{kept_more, kept_nothing}
+use Rattle.bs_scan.specs.Seen.{kept, kept_one}
+use Rattle.bs_scan.proofs.KeptLemmas.{kept_more, kept_nothing}
 use Rattle.bs_top_answer.specs.Endings.{known_one}
 
 pub known_none : (frees bits : List Bool) → 0 ≡ length (kept frees (take 0 bits))

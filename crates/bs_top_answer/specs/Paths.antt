@@ -1,7 +1,7 @@
 -- The names of the files of a job.
 use Rattle.std.specs.Prelude.{ℕ, List, []}
-use Rattle.bs_top_plan.specs.declared.file.File.{File}
-use Rattle.bs_top_plan.specs.declared.file.File.TheVariants as files
+use Rattle.bs_outside.specs.declared.file.File.{File}
+use Rattle.bs_outside.specs.declared.file.File.TheVariants as files
 use Rattle.bs_top_answer.specs.declared.paths.Paths.{Paths as CodePaths}
 
 pub record Paths : Type 0 where

@@ -2,14 +2,14 @@
 use Rattle.std.specs.Prelude.{◌≢◌, ℕ, List, [], Bool, true, false, Option, Some, Result, Ok, Err, IfOk}
 use Rattle.bs_bits.specs.declared.memory.NoMemory.{NoMemory}
 use Rattle.bs_outside.specs.Calls.{FetchCall}
-use Rattle.bs_top_plan.specs.declared.file.File.{File}
-use Rattle.bs_top_plan.specs.declared.reply.Reply.{Reply}
-use Rattle.bs_top_plan.specs.declared.status.Status.{Status}
-use Rattle.bs_top_plan.specs.declared.status.Status.TheVariants.{ReadFault}
-use Rattle.bs_top_plan.specs.Asking.{Along}
-use Rattle.bs_top_plan.specs.Files.{is_work_status}
-use Rattle.bs_top_plan.specs.Plan.{Tells, Counts, Plan, PlanOutcome, ready}
-use Rattle.bs_top_plan.specs.Prepared.{Prepared, PreparesAlone}
+use Rattle.bs_outside.specs.declared.file.File.{File}
+use Rattle.bs_outside.specs.declared.reply.Reply.{Reply}
+use Rattle.bs_outside.specs.declared.status.Status.{Status}
+use Rattle.bs_outside.specs.declared.status.Status.TheVariants.{ReadFault}
+use Rattle.bs_outside.specs.Asking.{Along}
+use Rattle.bs_outside.specs.PlanFiles.{is_work_status}
+use Rattle.bs_outside.specs.Plan.{Tells, Counts, Plan, PlanOutcome, ready}
+use Rattle.bs_outside.specs.Prepared.{Prepared, PreparesAlone}
 use Rattle.bs_top_answer.specs.declared.note.Response.{Response}
 use Rattle.bs_top_answer.specs.declared.note.Note.{Note}
 use Rattle.bs_top_answer.specs.declared.note.Note.TheVariants.{Silent, Brief, Text, Wanting}

@@ -4,11 +4,11 @@ use Rattle.std.specs.declared.io.ErrorKind.{ErrorKind}
 use Rattle.bs_note_calls.specs.Faults.{IsOutputNote, want_text}
 use Rattle.bs_outside.specs.Calls.{FetchCall, PutCall}
 use Rattle.bs_outside.specs.Texts.{Output, PutsText}
-use Rattle.bs_top_plan.specs.declared.status.Status.{Status}
-use Rattle.bs_top_plan.specs.declared.status.Status.TheVariants.{WriteFault}
-use Rattle.bs_top_plan.specs.Clauses.{CallByCall}
-use Rattle.bs_top_plan.specs.Delivery.{put_lines_of, PutsAfter}
-use Rattle.bs_top_plan.specs.Plan.{Plan}
+use Rattle.bs_outside.specs.declared.status.Status.{Status}
+use Rattle.bs_outside.specs.declared.status.Status.TheVariants.{WriteFault}
+use Rattle.bs_outside.specs.Clauses.{CallByCall}
+use Rattle.bs_outside.specs.Delivery.{put_lines_of, PutsAfter}
+use Rattle.bs_outside.specs.Plan.{Plan}
 use Rattle.bs_top_answer.specs.declared.note.Note.{Note}
 use Rattle.bs_top_answer.specs.declared.note.Note.TheVariants.{Silent, Brief, Text, Wanting}
 use Rattle.bs_top_answer.specs.Note.{Sure}

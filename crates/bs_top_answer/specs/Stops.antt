@@ -3,12 +3,12 @@ use Rattle.std.specs.Prelude.{◌≡◌, ℕ, List, codes, Option, Some, None, f
 use Rattle.std.specs.Str.{bytes_eq}
 use Rattle.std.specs.declared.io.ErrorKind.{ErrorKind}
 use Rattle.bs_note_calls.specs.Faults.{IsUnreadNote, long_text, unread_text}
-use Rattle.bs_top_plan.specs.declared.file.File.{File}
-use Rattle.bs_top_plan.specs.declared.walk.JobFault.{JobFault}
-use Rattle.bs_top_plan.specs.declared.walk.JobFault.TheVariants as J
-use Rattle.bs_top_plan.specs.declared.diagnostic.WalkStop.{WalkStop}
-use Rattle.bs_top_plan.specs.declared.diagnostic.WalkStop.TheVariants as S
-use Rattle.bs_top_plan.specs.Plan.{Says, PlanOutcome, ready, refused, faulted}
+use Rattle.bs_outside.specs.declared.file.File.{File}
+use Rattle.bs_outside.specs.declared.walk.JobFault.{JobFault}
+use Rattle.bs_outside.specs.declared.walk.JobFault.TheVariants as J
+use Rattle.bs_outside.specs.declared.diagnostic.WalkStop.{WalkStop}
+use Rattle.bs_outside.specs.declared.diagnostic.WalkStop.TheVariants as S
+use Rattle.bs_outside.specs.Plan.{Says, PlanOutcome, ready, refused, faulted}
 use Rattle.bs_top_answer.specs.declared.note.Note.{Note}
 use Rattle.bs_top_answer.specs.declared.note.Note.TheVariants.{Silent, Brief, Text, Wanting}
 use Rattle.bs_top_answer.specs.Note.{Sure}

@@ -4,7 +4,7 @@ ghost use Rattle.bs_top_answer.specs.Note.{note_made};
 
 use bs_bits::NoMemory;
 use bs_note_calls::Brief;
-use bs_top_plan::Reply;
+use bs_outside::Reply;
 
 /// A note, whole, with its line feeds.
 #[derive(Drop)]

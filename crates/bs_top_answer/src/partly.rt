@@ -1,12 +1,11 @@
 //! How many flip-flops of a dump are known, and what is said of it. Nothing here takes memory.
 ghost use Rattle.std.specs.Prelude.{◌≡◌, ◌≤◌, ◌++◌, length};
-ghost use Rattle.bs_seen.specs.Seen.{known_count};
+ghost use Rattle.bs_scan.specs.Seen.{known_count};
 ghost use Rattle.bs_note_files.specs.Notes.{plain_text};
 ghost use Rattle.bs_top_answer.specs.Endings.{earlier_sentence, known_one, known_sentence, partly_text};
 
 use bs_note_calls::{Brief, brief_plain};
-use bs_scan::Dump;
-use bs_seen::Seen;
+use bs_scan::{Dump, Seen};
 
 /// How many bits are known at a place.
 fn known_one(free: bool) -> usize

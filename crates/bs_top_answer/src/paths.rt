@@ -2,7 +2,7 @@
 ghost use Rattle.std.specs.Prelude.{◌≡◌};
 ghost use Rattle.bs_top_answer.specs.Paths.{path_of, paths_in};
 
-use bs_top_plan::File;
+use bs_outside::File;
 
 /// The names of the files of a job; a name that it does not give is empty.
 #[derive(Clone, Copy)]

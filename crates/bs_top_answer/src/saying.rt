@@ -2,13 +2,12 @@
 ghost use Rattle.std.specs.Prelude.{◌≡◌, ◌≢◌};
 ghost use Rattle.bs_note_calls.specs.Faults.{memory_text};
 ghost use Rattle.bs_outside.specs.Texts.{output, PutsText};
-ghost use Rattle.bs_top_plan.specs.Delivery.{Delivers, PutsLines};
+ghost use Rattle.bs_outside.specs.Delivery.{Delivers, PutsLines};
 ghost use Rattle.bs_top_answer.specs.Said.{FailNoted, PutsNote, SaysSent};
 
 use crate::note::{Note, Response};
 use bs_note_calls::output_note;
-use bs_outside::{Sink, put_text};
-use bs_top_plan::{Delivered, Status, deliver_counted};
+use bs_outside::{Delivered, Sink, Status, deliver_counted, put_text};
 use std::alloc::Global;
 use std::io::ErrorKind;
 

@@ -1,7 +1,7 @@
 //! The answer to a walk that stopped: the refusal line, and the note of the same reading.
 ghost use Rattle.std.specs.Prelude.{◌≡◌, IfOk, IfSome};
-ghost use Rattle.bs_top_plan.specs.Prepared.{AnswersStop};
-ghost use Rattle.bs_top_plan.specs.Diagnostic.{fault_in, line_stop, note_stop};
+ghost use Rattle.bs_outside.specs.Prepared.{AnswersStop};
+ghost use Rattle.bs_outside.specs.Diagnostic.{fault_in, line_stop, note_stop};
 ghost use Rattle.bs_top_answer.specs.Note.{Due};
 ghost use Rattle.bs_top_answer.specs.Paths.{path_of, paths_in};
 ghost use Rattle.bs_top_answer.specs.Stops.{fault_file, RefusedNoted, stop_file, StopNoted, StopNotedBy};
@@ -10,7 +10,7 @@ use crate::note::{Note, Response, note_made};
 use crate::paths::{Paths, path_of};
 use bs_bits::NoMemory;
 use bs_note_calls::{long_note, unread_note};
-use bs_top_plan::{Diagnostic, File, JobFault, WalkStop, stopped};
+use bs_outside::{Diagnostic, File, JobFault, WalkStop, stopped};
 use std::alloc::Global;
 use std::io::ErrorKind;
 

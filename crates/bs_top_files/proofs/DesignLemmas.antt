@@ -28,7 +28,7 @@ use Rattle.bs_net.specs.declared.limits.TheConstants.{MAX_NETS}
 use Rattle.bs_flat_meaning.proofs.ExecutionLemmas.{flat_keeps_executions}
 use Rattle.bs_flat_meaning.proofs.LawLemmas.{flat_keeps_meaning}
 use Rattle.bs_flat_meaning.proofs.JoinLemmas.{designs_are_whole}
-use Rattle.bs_top_plan.specs.Plan.{Reason}
+use Rattle.bs_outside.specs.Plan.{Reason}
 use Rattle.bs_top_files.specs.Refusals.{Case, TextFault, with_one, in_rings, check_reason, text_reason, with_fault, with_reason}
 use Rattle.bs_top_files.specs.Readings.{checked_of, modules_in, one_module, several_modules, text_in, tokens_in}
 use Rattle.bs_top_files.proofs.TextLemmas.{fault_ok, flat_as, read_as}

@@ -6,3 +6,6 @@ pub mod DesignLemmas
 pub mod SignatureFits
 pub mod StimulusFits
 pub mod NotingLemmas
+pub mod CountLemmas
+pub mod FlattenLemmas
+pub mod ReaderLemmas

@@ -8,11 +8,11 @@ use Rattle.bs_net.specs.Check.{IsFault, Passes}
 use Rattle.bs_net.specs.declared.fault.NetFault.{NetFault}
 use Rattle.bs_net.specs.declared.fault.NetFault.TheVariants as net
 use Rattle.bs_net.proofs.CallerLemmas.{passes_is, refused_fails}
-use Rattle.bs_top_plan.specs.declared.file.File.{File}
-use Rattle.bs_top_plan.specs.declared.walk.Refusal.{Refusal}
-use Rattle.bs_top_plan.specs.declared.walk.Refusal.TheVariants as Q
-use Rattle.bs_top_plan.specs.Plan.{Reason, exactly, any_of, Says}
-use Rattle.bs_top_plan.specs.Walks.{Reads}
+use Rattle.bs_outside.specs.declared.file.File.{File}
+use Rattle.bs_outside.specs.declared.walk.Refusal.{Refusal}
+use Rattle.bs_outside.specs.declared.walk.Refusal.TheVariants as Q
+use Rattle.bs_outside.specs.Plan.{Reason, exactly, any_of, Says}
+use Rattle.bs_outside.specs.Walks.{Reads}
 use Rattle.bs_note_files.specs.Checks.{IsCheckNote}
 use Rattle.bs_note_files.specs.Kinds.{mistaken_text}
 use Rattle.bs_top_files.specs.NoteCases.{NoteCase, in_netlist, in_ring, in_check, NoteSays, diagnosed_as, HasNote}
@@ -22,13 +22,13 @@ use Rattle.bs_top_files.proofs.TextLemmas.{IsRightFault, right_parts, right_faul
 use Rattle.bs_flat_meaning.specs.declared.fault.FlatFault.{FlatFault}
 use Rattle.bs_flat_meaning.specs.declared.fault.FlatFault.TheVariants as flat
 use Rattle.bs_flat_meaning.specs.Reading.{IsAnswer}
-use Rattle.bs_top_plan.specs.declared.file.File.TheVariants as files
+use Rattle.bs_outside.specs.declared.file.File.TheVariants as files
 use Rattle.bs_note_files.specs.Kinds.{mistaken}
 use Rattle.bs_top_files.specs.Noting.{checked_noted, netlist_noted, netlist_note_reason, parsed_noted}
-use Rattle.bs_top_plan.proofs.TellingLemmas.{word_both, both_want as want_both}
-use Rattle.bs_top_plan.specs.Diagnostic.{made, both_of, word_refusal, refusal_in, note_refusal}
-use Rattle.bs_top_plan.specs.declared.diagnostic.Unread.{Unread}
-use Rattle.bs_top_plan.specs.declared.diagnostic.Unread.TheVariants as U
+use Rattle.bs_outside.proofs.TellingLemmas.{word_both, both_want as want_both}
+use Rattle.bs_outside.specs.Diagnostic.{made, both_of, word_refusal, refusal_in, note_refusal}
+use Rattle.bs_outside.specs.declared.diagnostic.Unread.{Unread}
+use Rattle.bs_outside.specs.declared.diagnostic.Unread.TheVariants as U
 
 -- ---- the note
 

@@ -7,9 +7,9 @@ use Rattle.bs_net.proofs.CallerLemmas.{passes_is, refused_fails}
 use Rattle.bs_flat_meaning.specs.declared.fault.FlatFault.{FlatFault}
 use Rattle.bs_flat_meaning.specs.declared.fault.FlatFault.TheVariants as flat
 use Rattle.bs_flat_meaning.specs.Reading.{IsAnswer}
-use Rattle.bs_top_plan.specs.declared.walk.Refusal.{Refusal}
-use Rattle.bs_top_plan.specs.declared.walk.Refusal.TheVariants as Q
-use Rattle.bs_top_plan.specs.Walks.{Reads}
+use Rattle.bs_outside.specs.declared.walk.Refusal.{Refusal}
+use Rattle.bs_outside.specs.declared.walk.Refusal.TheVariants as Q
+use Rattle.bs_outside.specs.Walks.{Reads}
 use Rattle.bs_top_files.specs.Refusals.{CheckSays, HasCheckWords, HasWords, TextFault, flat_words, in_rings, text_reason, with_one, with_reason}
 use Rattle.bs_top_files.specs.Readings.{checked_in, checked_of, netlist_in, text_in}
 use Rattle.bs_top_files.proofs.TextLemmas.{IsRightFault, right_parts, right_faults}

@@ -7,8 +7,8 @@ use Rattle.bs_flat_meaning.specs.declared.fault.FlatFault.TheVariants as flat
 use Rattle.bs_scan.specs.declared.fault.ChoiceFault.TheVariants as choice
 use Rattle.bs_scan.specs.declared.fault.DumpFault.TheVariants as dump
 use Rattle.bs_stim.specs.declared.fault.StimFault.TheVariants as stimulus
-use Rattle.bs_top_plan.specs.declared.file.File.TheVariants.{Netlist, Signature, Stimulus, Dump, Report}
-use Rattle.bs_top_plan.specs.Files.{refusal_line}
+use Rattle.bs_outside.specs.declared.file.File.TheVariants.{Netlist, Signature, Stimulus, Dump, Report}
+use Rattle.bs_outside.specs.PlanFiles.{refusal_line}
 use Rattle.bs_top_files.specs.Refusals.{flat_words, netlist_text_words, signature_words, stimulus_words, dump_words, range_words, too_large_words}
 
 empty_netlist : refusal_line Netlist (netlist_text_words (verilog.Syntax 0)) ≡ codes "refused netlist Syntax 0\n"

@@ -8,8 +8,8 @@ use Rattle.bs_scan.specs.Crash.{Recording, recording_of}
 use Rattle.bs_scan.specs.Moments.{Moment}
 use Rattle.bs_scan.specs.declared.dump.Dump.{Dump}
 use Rattle.bs_report.specs.declared.report.Report.{Report}
-use Rattle.bs_top_plan.specs.declared.file.File.TheVariants as files
-use Rattle.bs_top_plan.specs.Plan.{Plan, end, ◌>>=◌, fetched, read_as}
+use Rattle.bs_outside.specs.declared.file.File.TheVariants as files
+use Rattle.bs_outside.specs.Plan.{Plan, end, ◌>>=◌, fetched, read_as}
 use Rattle.bs_top_files.specs.Refusals.{Case}
 use Rattle.bs_top_files.specs.Readings.{netlist_in, signature_in, stimulus_in, dump_in, moment_in, report_read, size_in}
 

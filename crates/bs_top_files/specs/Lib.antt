@@ -8,3 +8,7 @@ pub mod NoteCases
 pub mod Noting
 pub mod Looking
 pub mod Steps
+-- What a text is answered with.
+pub mod Answers
+-- What its modules are answered with.
+pub mod Modules

@@ -5,8 +5,8 @@ use Rattle.bs_stim.specs.Runs.{Stimulus}
 use Rattle.bs_scan.specs.Choice.{Chosen}
 use Rattle.bs_scan.specs.declared.dump.Dump.{Dump}
 use Rattle.bs_report.specs.declared.report.Report.{Report}
-use Rattle.bs_top_plan.specs.declared.file.File.TheVariants as files
-use Rattle.bs_top_plan.specs.Plan.{Plan, end, ◌>>=◌, fetched, read_as}
+use Rattle.bs_outside.specs.declared.file.File.TheVariants as files
+use Rattle.bs_outside.specs.Plan.{Plan, end, ◌>>=◌, fetched, read_as}
 use Rattle.bs_top_files.specs.Entry.{FileNames, Setup, MomentFiles, CrashFiles, AuditFiles, input_width}
 use Rattle.bs_top_files.specs.NoteCases.{NoteCase}
 use Rattle.bs_top_files.specs.Noting.{netlist_noted, signature_noted, stimulus_noted, dump_noted, moment_noted, report_noted, size_noted}

@@ -11,11 +11,11 @@ use Rattle.bs_scan.specs.declared.fault.ChoiceFault.{ChoiceFault}
 use Rattle.bs_scan.specs.declared.fault.DumpFault.{DumpFault}
 use Rattle.bs_stim.specs.declared.fault.StimFault.{StimFault}
 use Rattle.bs_report.specs.declared.fault.ReportFault.{ReportFault}
-use Rattle.bs_top_plan.specs.declared.file.File.{File}
-use Rattle.bs_top_plan.specs.declared.walk.Refusal.{Refusal}
-use Rattle.bs_top_plan.specs.declared.walk.Refusal.TheVariants as Q
-use Rattle.bs_top_plan.specs.Plan.{Reason, exactly, any_of, Says}
-use Rattle.bs_note_places.specs.Spots.{IsLineStart}
+use Rattle.bs_outside.specs.declared.file.File.{File}
+use Rattle.bs_outside.specs.declared.walk.Refusal.{Refusal}
+use Rattle.bs_outside.specs.declared.walk.Refusal.TheVariants as Q
+use Rattle.bs_outside.specs.Plan.{Reason, exactly, any_of, Says}
+use Rattle.bs_net_names.specs.Spots.{IsLineStart}
 use Rattle.bs_note_files.specs.declared.dump.Widths.{Widths}
 use Rattle.bs_note_files.specs.Checks.{IsCheckNote}
 use Rattle.bs_note_files.specs.Kinds.{mistaken_text}

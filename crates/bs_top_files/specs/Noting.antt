@@ -17,8 +17,8 @@ use Rattle.bs_stim.specs.declared.fault.StimFault.{StimFault}
 use Rattle.bs_report.specs.Reading.{report_in}
 use Rattle.bs_report.specs.declared.fault.ReportFault.{ReportFault}
 use Rattle.bs_report.specs.declared.report.Report.{Report}
-use Rattle.bs_top_plan.specs.declared.file.File.TheVariants as files
-use Rattle.bs_top_plan.specs.Plan.{Reason, exactly, any_of}
+use Rattle.bs_outside.specs.declared.file.File.TheVariants as files
+use Rattle.bs_outside.specs.Plan.{Reason, exactly, any_of}
 use Rattle.bs_top_files.specs.Refusals.{TextFault, with_one, in_rings}
 use Rattle.bs_top_files.specs.Readings.{choice_in, has_moment, is_drawable, is_known, text_in}
 use Rattle.bs_note_files.specs.declared.dump.Widths.{Widths}

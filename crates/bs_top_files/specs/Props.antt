@@ -3,8 +3,8 @@
 use Rattle.std.proofs.Common.{◌≡◌, inl, inr, ℕ, arith, Bool, true, false, List, [], subst}
 use Rattle.std.specs.List.{list_any}
 use Rattle.std.proofs.Props.{props}
-use Rattle.bs_seen.specs.declared.seen.Seen.{Seen}
-use Rattle.bs_seen.specs.Seen.{IsPartial, IsSeen}
+use Rattle.bs_scan.specs.declared.seen.Seen.{Seen}
+use Rattle.bs_scan.specs.Seen.{IsPartial, IsSeen}
 use Rattle.bs_scan.specs.Choice.{IsDepth}
 
 no_two : (d : ℕ) → d ≡ 1 → d ≡ 2 → ⊥

@@ -22,7 +22,7 @@ use Rattle.bs_flat_meaning.specs.Connecting.{ReadModule}
 use Rattle.bs_flat_meaning.specs.Reading.{as_verilog, read_modules, has_ring, flattened}
 use Rattle.bs_report.specs.declared.report.Report.{Report}
 use Rattle.bs_report.specs.Reading.{report_in}
-use Rattle.bs_top_plan.specs.Plan.{Reason}
+use Rattle.bs_outside.specs.Plan.{Reason}
 use Rattle.bs_top_files.specs.Refusals.{Case, TextFault, with_one, in_rings, with_fault, text_reason, check_reason, with_reason}
 use Rattle.bs_top_files.specs.Refusals.{signature_reason, stimulus_reason, dump_reason, partial_reason, range_reason, report_reason, too_large_reason}
 use Rattle.bs_top_files.specs.declared.limits.TheConstants.{MAX_WAVE_VALUES}

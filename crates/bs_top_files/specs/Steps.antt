@@ -2,7 +2,7 @@
 use Rattle.std.specs.Prelude.{ℕ, List}
 use Rattle.bs_net.specs.Parts.{Parts}
 use Rattle.bs_scan.specs.Choice.{Chosen}
-use Rattle.bs_top_plan.specs.Plan.{Plan, end, ◌>>=◌}
+use Rattle.bs_outside.specs.Plan.{Plan, end, ◌>>=◌}
 use Rattle.bs_top_files.specs.Entry.{FileNames, Setup, CrashFiles, AuditFiles, signature_of, stimulus_of, dump_of, report_of}
 use Rattle.bs_top_files.specs.Looking.{signature_looked, stimulus_looked, dump_looked, report_looked}
 use Rattle.bs_top_files.specs.NoteCases.{NoteCase}

@@ -3,9 +3,9 @@ ghost use Rattle.std.specs.Prelude.{◌≡◌, true, IfOk};
 ghost use Rattle.bs_scan.specs.Moments.{IsMoment};
 ghost use Rattle.bs_stim.specs.Runs.{inputs_of};
 ghost use Rattle.bs_note_calls.specs.Faults.{large_text, partial_text, range_text};
-ghost use Rattle.bs_top_plan.specs.Plan.{exactly};
-ghost use Rattle.bs_top_plan.specs.Diagnostic.{note_refusal, noted, word_refusal, worded};
-ghost use Rattle.bs_top_plan.specs.Walks.{Reads};
+ghost use Rattle.bs_outside.specs.Plan.{exactly};
+ghost use Rattle.bs_outside.specs.Diagnostic.{note_refusal, noted, word_refusal, worded};
+ghost use Rattle.bs_outside.specs.Walks.{Reads};
 ghost use Rattle.bs_top_files.specs.NoteCases.{HasNote, NoteSays};
 ghost use Rattle.bs_top_files.specs.Noting.{drawable_noted, moment_noted, size_noted};
 ghost use Rattle.bs_top_files.specs.Readings.{drawable_in, moment_in, size_in};
@@ -15,10 +15,10 @@ use crate::readings::{has_moment, is_drawable, is_known};
 use crate::refusals::{partial_refusal, range_refusal, too_large_refusal};
 use bs_net::Netlist;
 use bs_note_calls::{large_note, partial_note, range_note};
+use bs_outside::{Unread, both};
 use bs_report::Report;
 use bs_scan::Moment;
 use bs_stim::Runs;
-use bs_top_plan::{Unread, both};
 use std::alloc::Global;
 
 /// The diagnostic of a moment that no run has.

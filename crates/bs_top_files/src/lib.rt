@@ -1,21 +1,30 @@
-//! The walk over the files of a job: each is fetched, read and checked before the next, up to what they make ready or the first refusal.
+//! The walk over the files of a job: each is fetched, read and checked before the next, up to what they make
+//! ready or the first refusal; and the netlist of a text of one module or of several.
 //!
-//! Modules: `refusals` (the words behind a file's name), `netlist`, `texts`, `extent` (a reader each,
+//! Of files: `refusals` (the words behind a file's name), `netlist`, `texts`, `extent` (a reader each,
 //! `*_or_diagnostic`: a value, or the line and the note of one refusal, made of one reading), `ready`
 //! (`Setup`, `MomentFiles`, `CrashFiles`, `AuditFiles`: what is ready, with what is right of it), `loading`
-//! (`load_crash_files` and its kin: each file is fetched and read once, for both programs). Used above: `WalksDiagnosed CheckSays NoteSays ..`, that the code followed the
-//! plan of `specs/Entry` and, in the same fetches, the one of `specs/Looking`, whose refusals are the
-//! notes; `text_in` (`specs/Readings`), what a netlist's text is. A fault: a line in
-//! `specs/Refusals` and an arm in `refusals`. A file: its reading, its two plans and a walk.
+//! (`load_crash_files` and its kin: each file is fetched and read once, for both programs). Used above:
+//! `WalksDiagnosed CheckSays NoteSays ..`, that the code followed the plan of `specs/Entry` and, in the same
+//! fetches, the one of `specs/Looking`, whose refusals are the notes; `text_in` (`specs/Readings`), what a
+//! netlist's text is. A fault: a line in `specs/Refusals` and an arm in `refusals`. A file: its reading, its
+//! two plans and a walk.
+//!
+//! Of a netlist's text: `single` (a text of fewer than two modules, cells aside), `several` (modules, order,
+//! connections, flat netlist), `reader` (`read`). Used above: `read` answers exactly as bs_flat_meaning's
+//! `IsAnswer` says (`specs/Answers`). A refusal of several modules stands in the crate of its step.
 #![tactic(auto)]
 
 mod extent;
 mod limits;
 mod loading;
 mod netlist;
+mod reader;
 mod readings;
 mod ready;
 mod refusals;
+mod several;
+mod single;
 mod texts;
 
 pub use extent::{moment_or_diagnostic, partial_diagnostic, size_or_diagnostic};
@@ -25,6 +34,7 @@ pub use loading::{
     load_report, load_setup, load_signature, load_stimulus,
 };
 pub use netlist::netlist_or_diagnostic;
+pub use reader::read;
 pub use readings::{is_known, read_choice};
 pub use ready::{AuditFiles, CrashFiles, FileNames, MomentFiles, Setup};
 pub use refusals::worded;

@@ -4,7 +4,7 @@ ghost use Rattle.std.specs.Prelude.{◌≡◌, ◌≤◌, ◌+◌, length, IfOk}
 ghost use Rattle.bs_net.specs.Netlist.{circuit};
 ghost use Rattle.bs_report.specs.declared.limits.TheConstants.{MAX_STEPS};
 ghost use Rattle.bs_scan.specs.Crash.{DumpFits};
-ghost use Rattle.bs_top_plan.specs.Telling.{WalksDiagnosed};
+ghost use Rattle.bs_outside.specs.Telling.{WalksDiagnosed};
 ghost use Rattle.bs_top_files.specs.Entry.{audit_files_of, crash_files_of, drawn_of, dump_of, netlist_of, moment_files_of, report_of, setup_of, signature_of, stimulus_of};
 ghost use Rattle.bs_top_files.specs.Looking.{audit_files_looked, crash_files_looked, drawn_looked, dump_looked, netlist_looked, moment_files_looked};
 ghost use Rattle.bs_top_files.specs.Looking.{report_looked, setup_looked, signature_looked, stimulus_looked};
@@ -20,11 +20,10 @@ use crate::texts::{
     dump_or_diagnostic, report_or_diagnostic, signature_or_diagnostic, stimulus_or_diagnostic,
 };
 use bs_net::Netlist;
-use bs_outside::Shelf;
+use bs_outside::{File, Shelf, WalkStop, fetch_file, settle_diagnostic};
 use bs_report::Report;
 use bs_scan::{Choice, Dump};
 use bs_stim::Runs;
-use bs_top_plan::{File, WalkStop, fetch_file, settle_diagnostic};
 use std::alloc::Global;
 
 // ---- a file

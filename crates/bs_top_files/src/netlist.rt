@@ -3,13 +3,13 @@ ghost use Rattle.std.specs.Prelude.{◌≡◌, ◌≤◌, length, IfOk};
 ghost use Rattle.bs_net.specs.Check.{IsFault};
 ghost use Rattle.bs_net.specs.Netlist.{parts_of};
 ghost use Rattle.bs_flat_meaning.specs.declared.fault.FlatFault.TheVariants.{NoMemory as TextWant};
-ghost use Rattle.bs_top_plan.specs.declared.limits.TheConstants.{MAX_NETLIST_BYTES};
-ghost use Rattle.bs_top_plan.specs.declared.walk.Refusal.TheVariants.{NoMemory as Want};
-ghost use Rattle.bs_top_plan.specs.Plan.{any_of, Says};
-ghost use Rattle.bs_top_plan.specs.Walks.{Reads};
+ghost use Rattle.bs_outside.specs.declared.limits.TheConstants.{MAX_NETLIST_BYTES};
+ghost use Rattle.bs_outside.specs.declared.walk.Refusal.TheVariants.{NoMemory as Want};
+ghost use Rattle.bs_outside.specs.Plan.{any_of, Says};
+ghost use Rattle.bs_outside.specs.Walks.{Reads};
 ghost use Rattle.bs_top_files.specs.Readings.{checked_in, netlist_in};
 ghost use Rattle.bs_top_files.specs.Refusals.{CheckSays, flat_words, HasCheckWords, HasWords, with_one};
-ghost use Rattle.bs_top_plan.specs.Diagnostic.{note_refusal, noted, word_refusal, worded};
+ghost use Rattle.bs_outside.specs.Diagnostic.{note_refusal, noted, word_refusal, worded};
 ghost use Rattle.bs_top_files.specs.NoteCases.{HasNote, in_check, NoteSays};
 ghost use Rattle.bs_top_files.specs.Noting.{checked_noted, netlist_noted, netlist_note_reason};
 
@@ -18,7 +18,7 @@ use bs_bits::NoMemory;
 use bs_flat_meaning::FlatFault;
 use bs_net::{NetFault, Netlist, Raw, Refused};
 use bs_note_files::{check_note, design_note, mistaken, mistaken_note};
-use bs_top_plan::{File, Unread, both};
+use bs_outside::{File, Unread, both};
 use std::alloc::Global;
 
 /// The note on a text that is no netlist.
@@ -87,7 +87,7 @@ pub fn netlist_or_diagnostic(alloc: Global, path: &str, text: &[u8]) -> Result<N
     ensures words { Reads CheckSays (λ net. net.raw) (netlist_in text.now) (worded result) }
     ensures note { Reads NoteSays (λ net. net.raw) (netlist_noted path.now text.now) (noted result) }
 {
-    match bs_flat::read(alloc, text) {
+    match crate::reader::read(alloc, text) {
         Ok(raw) => check_or_diagnostic(alloc, path, text, raw),
         Err(fault) => Err(text_diagnostic(alloc, path, text, &fault)),
     }

@@ -3,7 +3,7 @@ ghost use Rattle.std.specs.Prelude.{◌≡◌, ◌≤◌, length};
 ghost use Rattle.std.specs.Bool.{OnTrue};
 ghost use Rattle.bs_bits.specs.Lines.{lines_of};
 ghost use Rattle.bs_bits.specs.Reading.{Answers};
-ghost use Rattle.bs_top_plan.specs.declared.limits.TheConstants.{MAX_SIGNATURE_BYTES};
+ghost use Rattle.bs_outside.specs.declared.limits.TheConstants.{MAX_SIGNATURE_BYTES};
 ghost use Rattle.bs_stim.specs.declared.limits.TheConstants.{MAX_CYCLES, MAX_RUNS};
 ghost use Rattle.bs_stim.specs.Runs.{run_at};
 ghost use Rattle.bs_top_files.specs.Readings.{choice_in, has_moment, is_drawable, is_known};

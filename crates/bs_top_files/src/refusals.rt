@@ -12,17 +12,17 @@ ghost use Rattle.bs_scan.specs.declared.fault.ChoiceFault.TheVariants.{NoMemory 
 ghost use Rattle.bs_scan.specs.declared.fault.DumpFault.TheVariants.{NoMemory as DumpWant};
 ghost use Rattle.bs_stim.specs.declared.fault.StimFault.TheVariants.{NoMemory as StimWant};
 ghost use Rattle.bs_report.specs.declared.fault.ReportFault.TheVariants.{NoMemory as ReportWant};
-ghost use Rattle.bs_top_plan.specs.declared.walk.Refusal.TheVariants.{NoMemory as Want};
+ghost use Rattle.bs_outside.specs.declared.walk.Refusal.TheVariants.{NoMemory as Want};
 ghost use Rattle.bs_top_files.specs.Refusals.{HasCheckWords, HasWords, check_words, count_word, dump_words, flat_words, gate_piece, key_of, name_piece, netlist_text_words};
 ghost use Rattle.bs_top_files.specs.Refusals.{partial_words, range_words, report_words, signature_words, stimulus_words, too_large_words, too_many_words, unsupported_words};
 
 use bs_bits::{List, NoMemory, push_number, push_piece};
 use bs_flat_meaning::FlatFault;
 use bs_net::{Count, NetFault, NetId, Netlist, Raw};
+use bs_outside::Refusal;
 use bs_report::ReportFault;
 use bs_scan::{ChoiceFault, DumpFault};
 use bs_stim::StimFault;
-use bs_top_plan::Refusal;
 use bs_verilog::{VerilogFault, What};
 use std::alloc::Global;
 

@@ -7,11 +7,11 @@ ghost use Rattle.bs_scan.specs.Crash.{DumpFits};
 ghost use Rattle.bs_scan.specs.declared.fault.ChoiceFault.TheVariants.{NoMemory as ChoiceWant};
 ghost use Rattle.bs_scan.specs.declared.fault.DumpFault.TheVariants.{NoMemory as DumpWant};
 ghost use Rattle.bs_stim.specs.declared.fault.StimFault.TheVariants.{NoMemory as StimWant};
-ghost use Rattle.bs_top_plan.specs.declared.limits.TheConstants.{MAX_REPORT_BYTES, MAX_SIGNATURE_BYTES, MAX_STIMULUS_BYTES};
-ghost use Rattle.bs_top_plan.specs.declared.walk.Refusal.TheVariants.{NoMemory as Want};
-ghost use Rattle.bs_top_plan.specs.Plan.{Says};
-ghost use Rattle.bs_top_plan.specs.Diagnostic.{note_refusal, noted, word_refusal, worded};
-ghost use Rattle.bs_top_plan.specs.Walks.{Reads};
+ghost use Rattle.bs_outside.specs.declared.limits.TheConstants.{MAX_REPORT_BYTES, MAX_SIGNATURE_BYTES, MAX_STIMULUS_BYTES};
+ghost use Rattle.bs_outside.specs.declared.walk.Refusal.TheVariants.{NoMemory as Want};
+ghost use Rattle.bs_outside.specs.Plan.{Says};
+ghost use Rattle.bs_outside.specs.Diagnostic.{note_refusal, noted, word_refusal, worded};
+ghost use Rattle.bs_outside.specs.Walks.{Reads};
 ghost use Rattle.bs_top_files.specs.Entry.{input_width};
 ghost use Rattle.bs_top_files.specs.NoteCases.{HasNote, NoteSays};
 ghost use Rattle.bs_top_files.specs.Noting.{dump_note_reason, dump_noted, report_note_reason, report_noted, signature_note_reason, signature_noted};
@@ -26,10 +26,10 @@ use bs_net::Netlist;
 use bs_note_files::{
     Widths, dump_note, mistaken, mistaken_note, report_note, signature_note, stimulus_note,
 };
+use bs_outside::{File, Unread, both};
 use bs_report::{Report, ReportFault};
 use bs_scan::{Choice, ChoiceFault, Dump, DumpFault};
 use bs_stim::{Runs, StimFault};
-use bs_top_plan::{File, Unread, both};
 use std::alloc::Global;
 
 // ---- the signature

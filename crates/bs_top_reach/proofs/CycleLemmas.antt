@@ -1,11 +1,11 @@
 -- What a walk made ready has as many cycles as were asked for.
 use Rattle.std.proofs.Common.{◌≡◌, inl, inr, ℕ, Bool, List, Result, Ok, Err, ap}
-use Rattle.bs_seen.specs.declared.seen.Seen.{Seen}
+use Rattle.bs_scan.specs.declared.seen.Seen.{Seen}
 use Rattle.bs_net.specs.Parts.{Parts}
 use Rattle.bs_outside.specs.Calls.{FetchCall}
-use Rattle.bs_top_plan.specs.declared.file.File.TheVariants as files
-use Rattle.bs_top_plan.specs.Plan.{Tells, Counts, Ends, PlanOutcome, ready, refused, faulted, Reason, ◌>>=◌, end, read_as}
-use Rattle.bs_top_plan.specs.Telling.{WalksDiagnosed}
+use Rattle.bs_outside.specs.declared.file.File.TheVariants as files
+use Rattle.bs_outside.specs.Plan.{Tells, Counts, Ends, PlanOutcome, ready, refused, faulted, Reason, ◌>>=◌, end, read_as}
+use Rattle.bs_outside.specs.Telling.{WalksDiagnosed}
 use Rattle.bs_top_files.specs.NoteCases.{NoteCase, NoteSays}
 use Rattle.bs_top_files.specs.Readings.{netlist_in}
 use Rattle.bs_top_files.specs.Refusals.{Case, CheckSays}

@@ -5,7 +5,7 @@ use Rattle.std.specs.Fmt.{digits}
 use Rattle.bs_report.specs.declared.report.Stop.TheVariants as stops
 use Rattle.bs_evidence.specs.Reading.{answer_in}
 use Rattle.bs_evidence.specs.Shown.{execution_report}
-use Rattle.bs_top_plan.specs.Plan.{exactly}
+use Rattle.bs_outside.specs.Plan.{exactly}
 use Rattle.bs_top_reach.specs.Readings.{answer_read, is_answer, trace_read}
 
 -- an execution of one cycle, from 0 to 1

@@ -3,14 +3,14 @@ use Rattle.std.proofs.Common.{◌≡◌, ℕ, true, List, [], length, Result, Ok
 use Rattle.std.specs.Prelude.{IfOk}
 use Rattle.std.specs.declared.alloc.Global.{Global}
 use Rattle.bs_bits.specs.declared.memory.NoMemory.{NoMemory}
-use Rattle.bs_seen.specs.declared.seen.Seen.{Seen}
-use Rattle.bs_top_plan.specs.declared.diagnostic.Unread.{Unread}
-use Rattle.bs_top_plan.specs.declared.walk.Refusal.{Refusal}
-use Rattle.bs_top_plan.specs.declared.walk.Refusal.TheVariants as Q
-use Rattle.bs_top_plan.specs.Plan.{Reason}
-use Rattle.bs_top_plan.specs.Diagnostic.{both_of, note_refusal, word_refusal}
-use Rattle.bs_top_plan.specs.Walks.{Reads}
-use Rattle.bs_top_plan.proofs.TellingLemmas.{word_both}
+use Rattle.bs_scan.specs.declared.seen.Seen.{Seen}
+use Rattle.bs_outside.specs.declared.diagnostic.Unread.{Unread}
+use Rattle.bs_outside.specs.declared.walk.Refusal.{Refusal}
+use Rattle.bs_outside.specs.declared.walk.Refusal.TheVariants as Q
+use Rattle.bs_outside.specs.Plan.{Reason}
+use Rattle.bs_outside.specs.Diagnostic.{both_of, note_refusal, word_refusal}
+use Rattle.bs_outside.specs.Walks.{Reads}
+use Rattle.bs_outside.proofs.TellingLemmas.{word_both}
 use Rattle.bs_top_files.specs.NoteCases.{NoteSays}
 use Rattle.bs_top_files.specs.Refusals.{CheckSays, Case}
 use Rattle.bs_net.specs.Netlist.{circuit_of}

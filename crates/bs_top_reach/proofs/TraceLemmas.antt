@@ -3,10 +3,10 @@ use Rattle.std.proofs.Common.{◌≡◌, ℕ, Bool, true, false, List, Option, S
 use Rattle.std.specs.Prelude.{if◌then◌else◌}
 use Rattle.bs_bits.specs.Reading.{◌>>=◌}
 use Rattle.bs_report.specs.declared.report.Report.{Report}
-use Rattle.bs_top_plan.specs.declared.walk.Refusal.{Refusal}
-use Rattle.bs_top_plan.specs.declared.walk.Refusal.TheVariants as Q
-use Rattle.bs_top_plan.specs.Plan.{Reason, exactly}
-use Rattle.bs_top_plan.specs.Walks.{Reads}
+use Rattle.bs_outside.specs.declared.walk.Refusal.{Refusal}
+use Rattle.bs_outside.specs.declared.walk.Refusal.TheVariants as Q
+use Rattle.bs_outside.specs.Plan.{Reason, exactly}
+use Rattle.bs_outside.specs.Walks.{Reads}
 use Rattle.bs_top_files.specs.NoteCases.{HasNote, NoteCase, NoteSays}
 use Rattle.bs_top_files.specs.Refusals.{Case, CheckSays, HasWords}
 use Rattle.bs_top_reach.specs.Readings.{report_or}

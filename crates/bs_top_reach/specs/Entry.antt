@@ -2,8 +2,8 @@
 use Rattle.std.specs.Prelude.{ℕ, List}
 use Rattle.bs_report.specs.declared.report.Report.{Report}
 use Rattle.bs_reach.specs.declared.reach.Reach.{Reach}
-use Rattle.bs_top_plan.specs.declared.file.File.TheVariants as files
-use Rattle.bs_top_plan.specs.Plan.{Plan, ◌>>=◌, fetched, read_as}
+use Rattle.bs_outside.specs.declared.file.File.TheVariants as files
+use Rattle.bs_outside.specs.Plan.{Plan, ◌>>=◌, fetched, read_as}
 use Rattle.bs_top_files.specs.NoteCases.{NoteCase}
 use Rattle.bs_top_files.specs.Refusals.{Case}
 use Rattle.bs_top_reach.specs.Readings.{answer_noted, answer_read, trace_noted, trace_read}

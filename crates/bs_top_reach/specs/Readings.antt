@@ -6,7 +6,7 @@ use Rattle.bs_report.specs.declared.report.Report.{Report}
 use Rattle.bs_reach.specs.declared.reach.Reach.{Reach}
 use Rattle.bs_evidence.specs.Reading.{answer_in}
 use Rattle.bs_evidence.specs.Shown.{execution_report}
-use Rattle.bs_top_plan.specs.Plan.{Reason, exactly}
+use Rattle.bs_outside.specs.Plan.{Reason, exactly}
 use Rattle.bs_top_files.specs.NoteCases.{NoteCase}
 use Rattle.bs_top_files.specs.Noting.{noted_by, report_noted}
 use Rattle.bs_top_files.specs.Readings.{report_read}

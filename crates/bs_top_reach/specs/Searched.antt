@@ -4,7 +4,7 @@ use Rattle.std.specs.Prelude.{ℕ, List}
 use Rattle.bs_reach.specs.declared.reach.Reach.{Reach}
 use Rattle.bs_top_reach.specs.Shown.{target_in}
 use Rattle.bs_top_reach.specs.Target.{Target, target_looked, target_of}
-use Rattle.bs_top_plan.specs.Plan.{Plan, end, ◌>>=◌}
+use Rattle.bs_outside.specs.Plan.{Plan, end, ◌>>=◌}
 use Rattle.bs_top_files.specs.NoteCases.{NoteCase}
 use Rattle.bs_top_files.specs.Refusals.{Case}
 use Rattle.bs_top_reach.specs.Entry.{answer_looked, answer_of}

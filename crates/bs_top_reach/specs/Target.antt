@@ -1,11 +1,11 @@
 -- The netlist, the state and the size of a search, one after the other (docs/FORMATS.md, "Refusal lines").
 use Rattle.std.specs.Prelude.{ℕ, ◌*◌, ◌==◌, nat_le, Bool, true, List, [], length, codes, Option, Some, None, Result, Ok, Err, if◌then◌else◌}
-use Rattle.bs_seen.specs.declared.seen.Seen.{Seen}
-use Rattle.bs_seen.specs.SeenText.{seen_of}
+use Rattle.bs_scan.specs.declared.seen.Seen.{Seen}
+use Rattle.bs_scan.specs.SeenText.{seen_of}
 use Rattle.bs_net.specs.Netlist.{circuit_of}
 use Rattle.bs_net.specs.Parts.{Parts}
-use Rattle.bs_top_plan.specs.declared.file.File.TheVariants as files
-use Rattle.bs_top_plan.specs.Plan.{Reason, exactly, Plan, end, ◌>>=◌, read_as}
+use Rattle.bs_outside.specs.declared.file.File.TheVariants as files
+use Rattle.bs_outside.specs.Plan.{Reason, exactly, Plan, end, ◌>>=◌, read_as}
 use Rattle.bs_encode.specs.Transition.{variables}
 use Rattle.bs_reach_unrolled.specs.declared.limits.TheConstants.{MAX_FRAME_VARIABLES}
 use Rattle.bs_top_files.specs.Entry.{netlist_of}

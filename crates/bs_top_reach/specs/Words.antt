@@ -3,7 +3,7 @@ use Rattle.std.specs.Prelude.{ℕ, List, [], codes}
 use Rattle.bs_report.specs.declared.fault.ReportFault.{ReportFault}
 use Rattle.bs_report.specs.declared.fault.ReportFault.TheVariants as faults
 use Rattle.bs_note_files.specs.Notes.{Saying, saying, file_text}
-use Rattle.bs_top_plan.specs.Plan.{Reason, exactly, any_of}
+use Rattle.bs_outside.specs.Plan.{Reason, exactly, any_of}
 use Rattle.bs_top_files.specs.NoteCases.{NoteCase, at_line}
 
 abbrev pub answer_saying : Saying

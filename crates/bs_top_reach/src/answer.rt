@@ -3,11 +3,11 @@ ghost use Rattle.std.specs.Prelude.{◌≡◌, ◌≤◌, length, IfOk};
 ghost use Rattle.bs_note_files.specs.Notes.{said};
 ghost use Rattle.bs_report.specs.declared.fault.ReportFault.TheVariants.{NoMemory as ReportWant};
 ghost use Rattle.bs_evidence.specs.ReadingLaw.{HasAnswerText};
-ghost use Rattle.bs_top_plan.specs.declared.limits.TheConstants.{MAX_REPORT_BYTES};
-ghost use Rattle.bs_top_plan.specs.declared.walk.Refusal.TheVariants.{NoMemory as Want};
-ghost use Rattle.bs_top_plan.specs.Plan.{Says};
-ghost use Rattle.bs_top_plan.specs.Diagnostic.{note_refusal, noted, word_refusal, worded};
-ghost use Rattle.bs_top_plan.specs.Walks.{Reads};
+ghost use Rattle.bs_outside.specs.declared.limits.TheConstants.{MAX_REPORT_BYTES};
+ghost use Rattle.bs_outside.specs.declared.walk.Refusal.TheVariants.{NoMemory as Want};
+ghost use Rattle.bs_outside.specs.Plan.{Says};
+ghost use Rattle.bs_outside.specs.Diagnostic.{note_refusal, noted, word_refusal, worded};
+ghost use Rattle.bs_outside.specs.Walks.{Reads};
 ghost use Rattle.bs_top_files.specs.NoteCases.{HasNote, IsNoteAtLine, NoteSays};
 ghost use Rattle.bs_top_files.specs.Refusals.{CheckSays, HasWords, report_words};
 ghost use Rattle.bs_top_reach.specs.Readings.{answer_noted, answer_read};
@@ -18,9 +18,9 @@ use crate::refusals::answer_refusal;
 use bs_bits::NoMemory;
 use bs_evidence::read_answer;
 use bs_note_files::{Message, file_note};
+use bs_outside::{Unread, both};
 use bs_reach::Reach;
 use bs_report::ReportFault;
-use bs_top_plan::{Unread, both};
 use std::alloc::Global;
 
 /// What is said of a line that may not stand in its place.

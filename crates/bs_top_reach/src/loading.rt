@@ -2,17 +2,16 @@
 ghost use Rattle.std.specs.Prelude.{◌≡◌, IfOk};
 ghost use Rattle.bs_evidence.specs.ReadingLaw.{HasAnswerText};
 ghost use Rattle.bs_evidence.specs.Shown.{HasTrace};
-ghost use Rattle.bs_top_plan.specs.Telling.{WalksDiagnosed};
+ghost use Rattle.bs_outside.specs.Telling.{WalksDiagnosed};
 ghost use Rattle.bs_top_files.specs.NoteCases.{NoteSays};
 ghost use Rattle.bs_top_files.specs.Refusals.{CheckSays};
 ghost use Rattle.bs_top_reach.specs.Entry.{answer_looked, answer_of, trace_looked, trace_of};
 
 use crate::answer::answer_or_diagnostic;
 use crate::trace::trace_or_diagnostic;
-use bs_outside::Shelf;
+use bs_outside::{File, Shelf, WalkStop, fetch_file, settle_diagnostic};
 use bs_reach::Reach;
 use bs_report::Report;
-use bs_top_plan::{File, WalkStop, fetch_file, settle_diagnostic};
 use std::alloc::Global;
 
 /// The answer of a search for a state.

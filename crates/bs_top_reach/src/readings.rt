@@ -2,23 +2,23 @@
 ghost use Rattle.std.specs.Prelude.{◌≡◌, ◌*◌, ◌≤◌, [], length, nat_le, true, Some, IfOk};
 ghost use Rattle.std.specs.Bool.{OnTrue};
 ghost use Rattle.bs_net.specs.Netlist.{circuit};
-ghost use Rattle.bs_top_plan.specs.Walks.{Reads};
+ghost use Rattle.bs_outside.specs.Walks.{Reads};
 ghost use Rattle.bs_encode.specs.Transition.{variables};
 ghost use Rattle.bs_reach_unrolled.specs.declared.limits.TheConstants.{MAX_FRAME_VARIABLES};
 ghost use Rattle.bs_top_files.specs.Refusals.{CheckSays};
 ghost use Rattle.bs_note_calls.specs.Searches.{room_text};
 ghost use Rattle.bs_top_files.specs.NoteCases.{NoteSays};
-ghost use Rattle.bs_top_plan.specs.Diagnostic.{noted, worded};
+ghost use Rattle.bs_outside.specs.Diagnostic.{noted, worded};
 ghost use Rattle.bs_top_reach.specs.Target.{fitting, room_in, room_noted, state_in, state_noted};
 
 use bs_bits::NoMemory;
 use bs_net::Netlist;
 use bs_note_calls::{room_note, state_note};
+use bs_outside::{Refusal, Unread, both};
 use bs_reach::size;
 use bs_reach_unrolled::MAX_FRAME_VARIABLES;
-use bs_seen::Seen;
+use bs_scan::Seen;
 use bs_top_files::worded;
-use bs_top_plan::{Refusal, Unread, both};
 use std::alloc::Global;
 
 /// Bits that are a state of the netlist, known or not: one for each flip-flop.

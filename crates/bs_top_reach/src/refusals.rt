@@ -1,13 +1,13 @@
 //! The words of a refused answer.
 ghost use Rattle.std.specs.Prelude.{◌≡◌, ◌++◌, codes, decimal, IfOk};
 ghost use Rattle.bs_report.specs.declared.fault.ReportFault.TheVariants.{NoMemory as ReportWant};
-ghost use Rattle.bs_top_plan.specs.declared.walk.Refusal.TheVariants.{NoMemory as Want};
+ghost use Rattle.bs_outside.specs.declared.walk.Refusal.TheVariants.{NoMemory as Want};
 ghost use Rattle.bs_top_files.specs.Refusals.{HasWords, report_words};
 
 use bs_bits::{NoMemory, push_number, push_piece};
+use bs_outside::Refusal;
 use bs_report::ReportFault;
 use bs_top_files::worded;
-use bs_top_plan::Refusal;
 use std::alloc::Global;
 
 /// The words of a refused line.

@@ -3,7 +3,7 @@ ghost use Rattle.std.specs.Prelude.{◌≡◌, IfOk};
 ghost use Rattle.bs_evidence.specs.ReadingLaw.{HasAnswerText};
 ghost use Rattle.bs_top_reach.specs.Shown.{target_in};
 ghost use Rattle.bs_top_reach.specs.Target.{target_looked, target_of};
-ghost use Rattle.bs_top_plan.specs.Telling.{WalksDiagnosed};
+ghost use Rattle.bs_outside.specs.Telling.{WalksDiagnosed};
 ghost use Rattle.bs_top_files.specs.NoteCases.{NoteSays};
 ghost use Rattle.bs_top_files.specs.Refusals.{CheckSays};
 ghost use Rattle.bs_top_reach.specs.Searched.{answer_files_in, answer_files_looked, answer_files_of, searched_looked, searched_of};
@@ -12,9 +12,8 @@ use crate::loading::load_answer;
 use crate::ready::AnswerFiles;
 use crate::target::Target;
 use crate::walk::load_target;
-use bs_outside::Shelf;
+use bs_outside::{Shelf, WalkStop};
 use bs_reach::Reach;
-use bs_top_plan::WalkStop;
 use std::alloc::Global;
 
 /// What was searched in so many cycles.

@@ -5,7 +5,7 @@ ghost use Rattle.bs_encode.specs.Transition.{variables};
 ghost use Rattle.bs_reach_unrolled.specs.declared.limits.TheConstants.{MAX_FRAME_VARIABLES};
 
 use bs_net::Netlist;
-use bs_seen::Seen;
+use bs_scan::Seen;
 
 /// A netlist, what is known of a state with a bit for each of its flip-flops, and the most cycles in which a state that shows it is to be
 /// reached.

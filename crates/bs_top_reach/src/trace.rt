@@ -2,10 +2,10 @@
 ghost use Rattle.std.specs.Prelude.{◌≡◌, ◌≤◌, length, IfOk};
 ghost use Rattle.bs_evidence.specs.ReadingLaw.{HasAnswerText};
 ghost use Rattle.bs_evidence.specs.Shown.{HasTrace};
-ghost use Rattle.bs_top_plan.specs.declared.limits.TheConstants.{MAX_REPORT_BYTES};
-ghost use Rattle.bs_top_plan.specs.Plan.{exactly};
-ghost use Rattle.bs_top_plan.specs.Diagnostic.{note_refusal, noted, word_refusal, worded};
-ghost use Rattle.bs_top_plan.specs.Walks.{Reads};
+ghost use Rattle.bs_outside.specs.declared.limits.TheConstants.{MAX_REPORT_BYTES};
+ghost use Rattle.bs_outside.specs.Plan.{exactly};
+ghost use Rattle.bs_outside.specs.Diagnostic.{note_refusal, noted, word_refusal, worded};
+ghost use Rattle.bs_outside.specs.Walks.{Reads};
 ghost use Rattle.bs_top_files.specs.NoteCases.{HasNote, NoteSays};
 ghost use Rattle.bs_top_files.specs.Refusals.{CheckSays, HasWords};
 ghost use Rattle.bs_top_reach.specs.Readings.{executed_noted, executed_read, execution_noted, execution_read, is_answer, trace_noted, trace_read};
@@ -15,10 +15,10 @@ use crate::answer::answer_or_diagnostic;
 use bs_bits::NoMemory;
 use bs_evidence::execution_report;
 use bs_note_files::file_note;
+use bs_outside::{Unread, both};
 use bs_reach::Reach;
 use bs_report::Report;
 use bs_top_files::{report_or_diagnostic, worded};
-use bs_top_plan::{Unread, both};
 use std::alloc::Global;
 
 /// Whether the first line of a text begins as that of an answer.

@@ -3,17 +3,16 @@ ghost use Rattle.std.specs.Prelude.{◌≡◌, length};
 ghost use Rattle.bs_net.specs.Netlist.{circuit};
 ghost use Rattle.bs_top_files.specs.Refusals.{CheckSays};
 ghost use Rattle.bs_top_files.specs.NoteCases.{NoteSays};
-ghost use Rattle.bs_top_plan.specs.Telling.{WalksDiagnosed};
+ghost use Rattle.bs_outside.specs.Telling.{WalksDiagnosed};
 ghost use Rattle.bs_top_reach.specs.Target.{sized_looked, sized_step, stated_looked, stated_step, target_looked, target_of};
 ghost use Rattle.bs_top_reach.specs.Shown.{target_in};
 
 use crate::readings::{room_or_diagnostic, state_or_diagnostic};
 use crate::target::Target;
 use bs_net::Netlist;
-use bs_outside::Shelf;
-use bs_seen::Seen;
+use bs_outside::{File, Shelf, WalkStop, settle_diagnostic};
+use bs_scan::Seen;
 use bs_top_files::load_netlist;
-use bs_top_plan::{File, WalkStop, settle_diagnostic};
 use std::alloc::Global;
 
 /// Drops a value, which a walk that stops lets go.

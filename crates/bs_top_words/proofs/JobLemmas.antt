@@ -10,9 +10,9 @@ use Rattle.std.proofs.lemmas.Slice.Eq.{bytes_eq-Decides}
 use Rattle.std.proofs.lemmas.Bool.{and_from, and_parts, eqb-true}
 use Rattle.bs_bits.specs.Text.{bits_of, digit_of, bits_text}
 use Rattle.bs_bits.proofs.TextLemmas.{bits_again}
-use Rattle.bs_seen.specs.declared.seen.Seen.{Seen}
-use Rattle.bs_seen.specs.SeenText.{filled, filled_in, free_in, marked, seen_of, seen_text}
-use Rattle.bs_seen.proofs.TextLemmas.{partly_text, seen_exact}
+use Rattle.bs_scan.specs.declared.seen.Seen.{Seen}
+use Rattle.bs_scan.specs.SeenText.{filled, filled_in, free_in, marked, seen_of, seen_text}
+use Rattle.bs_scan.proofs.TextLemmas.{partly_text, seen_exact}
 use Rattle.bs_stim.specs.declared.limits.TheConstants.{MAX_RUNS, MAX_CYCLES}
 use Rattle.bs_top_words.specs.declared.limits.TheConstants.{DEFAULT_STEPS, DEFAULT_CANDIDATES, DEFAULT_CONFLICTS, MAX_BOUND}
 use Rattle.bs_top_words.specs.declared.options.BudgetKind.{BudgetKind}

@@ -25,6 +25,6 @@ pub use job::{AuditJob, DumpJob, Job, ReachJob, RunJob, read_words};
 pub use law::spelled_jobs_are_read;
 pub use limits::{
     DEFAULT_CANDIDATES, DEFAULT_CONFLICTS, DEFAULT_STEPS, MAX_BITS, MAX_BOUND, MAX_CANDIDATES,
-    MAX_CONFLICTS, MAX_STEPS,
+    MAX_CONFLICTS, MAX_STEPS, VERSION,
 };
 pub use options::{BudgetKind, number_between};

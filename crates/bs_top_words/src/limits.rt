@@ -1,5 +1,8 @@
-//! The greatest budgets of a run and of a search for a state, and the budgets that are taken where none is given (docs/FORMATS.md,
+//! The version of the programs, the greatest budgets of a run and of a search for a state, and the budgets that are taken where none is given (docs/FORMATS.md,
 //! "Command words").
+
+/// The version of both programs.
+pub const VERSION: u64 = 1;
 
 /// How many steps a run may make.
 pub const MAX_STEPS: u64 = 65_536;

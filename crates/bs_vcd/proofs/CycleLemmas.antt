@@ -9,7 +9,7 @@ use Rattle.std.proofs.lemmas.Option.{get_or_from_slice_get, slice_get_within}
 use Rattle.bs_bits.specs.Reading.{◌>>=◌}
 use Rattle.bs_net_names.specs.Keys.{key_parts}
 use Rattle.bs_vcd_header.specs.declared.fault.VcdFault.{VcdFault}
-use Rattle.bs_vcd_header.specs.declared.fault.VcdFault.TheVariants.{Late, NoClock, NoCycle}
+use Rattle.bs_vcd_header.specs.declared.fault.VcdFault.TheVariants.{Late, NoClock, NoCycle, NoInput}
 use Rattle.bs_vcd_header.specs.declared.sources.BitSource.{BitSource}
 use Rattle.bs_vcd_header.specs.Header.{HeaderDeclarations, header_of}
 use Rattle.bs_vcd_header.specs.Sources.{input_at, inputs_from, or_fault, scope_of, source_in}
@@ -21,8 +21,9 @@ use Rattle.bs_vcd.specs.declared.sampling.Unknowns.TheVariants.{Refused, Low, Ma
 use Rattle.bs_vcd.specs.History.{History, history_of}
 use Rattle.bs_vcd.specs.Levels.{Known, is_bit, is_unknown, known_by, level}
 use Rattle.bs_vcd.specs.Sampled.{SamplingRequest, Cut, asked_line, is_within, line_by, line_or, lines_asked, numbered_lines, stops_of, timed_lines, unknowns_of, or_fault as or_end}
-use Rattle.bs_vcd.specs.Stimulus.{ClockAndInputs, sampling_of}
-use Rattle.bs_vcd.specs.Cycles.{begin_in, cycle_ends, cycle_in, is_late, states_at, states_by, states_of, states_when, window, window_of}
+use Rattle.bs_vcd.specs.Found.{found_inputs, none_found, or_nowhere, some_found, sources_of}
+use Rattle.bs_vcd.specs.Stimulus.{ClockAndInputs, found_sampling, sampling_of}
+use Rattle.bs_vcd.specs.Cycles.{begin_in, cycle_ends, cycle_in, is_late, sampling_by, states_at, states_by, states_of, states_when, window, window_of}
 
 abbrev Lines : Type 0
 Lines = List (List Bool)
@@ -243,14 +244,49 @@ sampling_each d scope clock keys =
     gives_then (IsLong (length keys)) R (inputs_from 0 d path keys) _ (sources_each 0 d path keys)
     (λ inputs e. gives_ok R (record { clock = source; inputs = inputs }) e)))
 
+-- of names of which some may be missing
+some_each : (d : HeaderDeclarations) (path : List ℕ) (keys : List (List ℕ)) →
+    Gives (λ (xs : List (Option BitSource)). length xs ≡ length keys) (some_found (sources_of d path keys))
+some_each d path keys = by (none_found (sources_of d path keys))
+  where
+    by : (b : Bool) → Gives (λ (xs : List (Option BitSource)). length xs ≡ length keys) (cond b (Err (NoInput 0)) (Ok (sources_of d path keys)))
+    by true = gives_err (λ (xs : List (Option BitSource)). length xs ≡ length keys) (NoInput 0)
+    by false =
+        gives_ok (λ (xs : List (Option BitSource)). length xs ≡ length keys) (sources_of d path keys)
+        (length-map keys (λ key. source_in d.paths path (key_parts key) d.variables))
+
+found_each : (d : HeaderDeclarations) (path : List ℕ) (keys : List (List ℕ)) → Gives (IsLong (length keys)) (found_inputs d path keys)
+found_each d path keys =
+    gives_then (λ (xs : List (Option BitSource)). length xs ≡ length keys) (IsLong (length keys)) (some_found (sources_of d path keys))
+    (λ sources. Ok (map or_nowhere sources)) (some_each d path keys)
+    (λ sources e. gives_ok (IsLong (length keys)) (map or_nowhere sources) (length-map sources or_nowhere ∙ e))
+
+found_sampling_each : (d : HeaderDeclarations) (scope : Option (List ℕ)) (clock : List ℕ) (keys : List (List ℕ)) →
+    Gives (λ (s : ClockAndInputs). length s.inputs ≡ length keys) (found_sampling d scope clock keys)
+found_sampling_each d scope clock keys =
+    let R : ClockAndInputs → Type 0 = λ (s : ClockAndInputs). length s.inputs ≡ length keys in
+    gives_then (λ _. Unit {0}) R (or_fault NoClock (scope_of scope (key_parts clock) d)) _ (gives_any (or_fault NoClock (scope_of scope (key_parts clock) d)))
+    (λ path u.
+    gives_then (λ _. Unit {0}) R (or_fault NoClock (source_in d.paths path (key_parts clock) d.variables)) _
+    (gives_any (or_fault NoClock (source_in d.paths path (key_parts clock) d.variables)))
+    (λ source v.
+    gives_then (IsLong (length keys)) R (found_inputs d path keys) _ (found_each d path keys)
+    (λ inputs e. gives_ok R (record { clock = source; inputs = inputs }) e)))
+
+sampling_by_each : (u : Unknowns) (d : HeaderDeclarations) (scope : Option (List ℕ)) (clock : List ℕ) (keys : List (List ℕ)) →
+    Gives (λ (s : ClockAndInputs). length s.inputs ≡ length keys) (sampling_by u d scope clock keys)
+sampling_by_each Refused d scope clock keys = sampling_each d scope clock keys
+sampling_by_each Low d scope clock keys = found_sampling_each d scope clock keys
+sampling_by_each Marked d scope clock keys = found_sampling_each d scope clock keys
+
 states_are : (u : Unknowns) (text : List ℕ) (scope : Option (List ℕ)) (clock : List ℕ) (keys : List (List ℕ)) (at : When) (back : ℕ) →
     Gives (AreStates (length keys)) (states_by u text scope clock keys at back)
 states_are u text scope clock keys at back =
     let R = AreStates (length keys) in
     gives_then (λ _. Unit {0}) R (header_of (tokens_from 1 text)) (λ h. states_of u h scope clock keys at back) (gives_any (header_of (tokens_from 1 text)))
     (λ h w.
-    gives_then (λ (s : ClockAndInputs). length s.inputs ≡ length keys) R (sampling_of h.declared scope clock keys) (λ s. states_when u s (history_of h.rest) at back)
-    (sampling_each h.declared scope clock keys)
+    gives_then (λ (s : ClockAndInputs). length s.inputs ≡ length keys) R (sampling_by u h.declared scope clock keys) (λ s. states_when u s (history_of h.rest) at back)
+    (sampling_by_each u h.declared scope clock keys)
     (λ s e. subst (λ (n : ℕ). Gives (AreStates n) (states_when u s (history_of h.rest) at back)) e (when_wide u s (history_of h.rest) at back)))
 
 pub states_some : (u : Unknowns) (text : List ℕ) (scope : Option (List ℕ)) (clock : List ℕ) (keys : List (List ℕ)) (at : When) (back : ℕ) (states : List (List Bool)) →

@@ -2,3 +2,4 @@ pub mod LevelLemmas
 pub mod SamplingLemmas
 pub mod TakingLemmas
 pub mod CycleLemmas
+pub mod FoundLemmas

@@ -6,7 +6,7 @@ use Rattle.bs_bits.specs.Reading.{◌>>=◌}
 use Rattle.bs_vcd_header.specs.declared.fault.VcdFault.{VcdFault}
 use Rattle.bs_vcd_header.specs.declared.fault.VcdFault.TheVariants.{Late, NoCycle, NoTime}
 use Rattle.bs_vcd_header.specs.declared.sources.BitSource.{BitSource}
-use Rattle.bs_vcd_header.specs.Header.{Header, HeaderState, header_of, header_from}
+use Rattle.bs_vcd_header.specs.Header.{Header, HeaderDeclarations, HeaderState, header_of, header_from}
 use Rattle.bs_vcd_header.specs.Tokens.{VcdToken, tokens_from}
 use Rattle.bs_vcd.specs.declared.cycles.When.{When}
 use Rattle.bs_vcd.specs.declared.cycles.When.TheVariants.{Time, Cycle}
@@ -17,7 +17,7 @@ use Rattle.bs_vcd.specs.declared.sampling.Unknowns.TheVariants.{Refused, Low, Ma
 use Rattle.bs_vcd.specs.declared.cycles.MarkedStates.{MarkedStates}
 use Rattle.bs_vcd.specs.History.{History, history_of}
 use Rattle.bs_vcd.specs.Sampled.{SamplingRequest, lines_asked}
-use Rattle.bs_vcd.specs.Stimulus.{ClockAndInputs, sampling_of}
+use Rattle.bs_vcd.specs.Stimulus.{ClockAndInputs, found_sampling, lacks_of, sampling_of}
 
 -- the edges up to a time
 abbrev pub edges_until : BitSource → ℕ → SamplingRequest
@@ -64,8 +64,14 @@ states_at u s h back cycle = lines_asked (cycle_ends u s cycle back) h >>= λ sa
 abbrev pub states_when : Unknowns → ClockAndInputs → History → When → ℕ → Result (List (List Bool)) VcdFault
 states_when u s h at back = cycle_in s.clock h at >>= λ cycle. states_at u s h back cycle
 
+-- the clock, and these names: each of them is there, unless bits may be unknown
+abbrev pub sampling_by : Unknowns → HeaderDeclarations → Option (List ℕ) → List ℕ → List (List ℕ) → Result ClockAndInputs VcdFault
+sampling_by Refused d scope clock keys = sampling_of d scope clock keys
+sampling_by Low d scope clock keys = found_sampling d scope clock keys
+sampling_by Marked d scope clock keys = found_sampling d scope clock keys
+
 abbrev pub states_of : Unknowns → Header → Option (List ℕ) → List ℕ → List (List ℕ) → When → ℕ → Result (List (List Bool)) VcdFault
-states_of u h scope clock keys at back = sampling_of h.declared scope clock keys >>= λ s. states_when u s (history_of h.rest) at back
+states_of u h scope clock keys at back = sampling_by u h.declared scope clock keys >>= λ s. states_when u s (history_of h.rest) at back
 
 -- The bits of these names in a scope at the end of a cycle, and before them those of so many cycles before it, or of as many as there
 -- are. Or the first fault: of the declarations, of the names, or of the value changes. What the last of them are where some bits are not
@@ -86,9 +92,18 @@ states_in text scope clock keys at back = states_by Refused text scope clock key
 abbrev pub marks_in : List ℕ → Option (List ℕ) → List ℕ → List (List ℕ) → When → Result (List Bool) VcdFault
 marks_in text scope clock keys at = states_by Marked text scope clock keys at 0 >>= λ lines. Ok (slice_index_or lines 0 [])
 
--- the same, where each bit before the last state is to be known: in the last state 0 stands for one that is not, and a mark for each
+-- how many of these names no variable has, where so much is read of the declarations
+abbrev pub lacks_from : HeaderState → List VcdToken → Option (List ℕ) → List ℕ → List (List ℕ) → Result ℕ VcdFault
+lacks_from b tokens scope clock keys = header_from b tokens >>= λ h. lacks_of h.declared scope clock keys
+
+abbrev pub lacks_in : List ℕ → Option (List ℕ) → List ℕ → List (List ℕ) → Result ℕ VcdFault
+lacks_in text scope clock keys = header_of (tokens_from 1 text) >>= λ h. lacks_of h.declared scope clock keys
+
+-- The same, where each bit before the last state is to be known: in the last state 0 stands for one that is not, and a mark for each. So
+-- it does for a name that no variable has, and it is told how many there are; but one name is to be found.
 abbrev pub marked_in : List ℕ → Option (List ℕ) → List ℕ → List (List ℕ) → When → ℕ → Result MarkedStates VcdFault
 marked_in text scope clock keys at back = do
   states ← states_by Low text scope clock keys at back
   marks ← marks_in text scope clock keys at
-  Ok record { states = states; marks = marks }
+  lacks ← lacks_in text scope clock keys
+  Ok record { states = states; marks = marks; lacks = lacks }

@@ -10,6 +10,7 @@ use Rattle.bs_vcd_header.specs.Sources.{inputs_from, or_fault, scope_of, source_
 use Rattle.bs_vcd_header.specs.Tokens.{VcdToken, tokens_from}
 use Rattle.bs_vcd.specs.declared.edges.ClockAndInputs.{ClockAndInputs as CodeClockAndInputs}
 use Rattle.bs_vcd.specs.declared.sampling.SampledLines.{SampledLines}
+use Rattle.bs_vcd.specs.Found.{found_inputs, lacking, sources_of}
 use Rattle.bs_vcd.specs.History.{history_of}
 use Rattle.bs_vcd.specs.Sampled.{sampled}
 
@@ -28,6 +29,18 @@ sampling_of d scope clock keys = do
   source ← or_fault NoClock (source_in d.paths path (key_parts clock) d.variables)
   inputs ← inputs_from 0 d path keys
   Ok record { clock = source; inputs = inputs }
+
+-- the same, where some of these names may be missing
+abbrev pub found_sampling : HeaderDeclarations → Option (List ℕ) → List ℕ → List (List ℕ) → Result ClockAndInputs VcdFault
+found_sampling d scope clock keys = do
+  path ← or_fault NoClock (scope_of scope (key_parts clock) d)
+  source ← or_fault NoClock (source_in d.paths path (key_parts clock) d.variables)
+  inputs ← found_inputs d path keys
+  Ok record { clock = source; inputs = inputs }
+
+-- how many of these names are missing
+abbrev pub lacks_of : HeaderDeclarations → Option (List ℕ) → List ℕ → List (List ℕ) → Result ℕ VcdFault
+lacks_of d scope clock keys = or_fault NoClock (scope_of scope (key_parts clock) d) >>= λ path. Ok (lacking (sources_of d path keys))
 
 -- the lines of a clock's rising edges by what is declared and the words behind that
 abbrev pub edges_of : Header → Option (List ℕ) → List ℕ → List (List ℕ) → Result SampledLines VcdFault

@@ -2,14 +2,14 @@
 ghost use Rattle.std.specs.Prelude.{◌≡◌, ◌<◌, ◌≤◌, ◌+◌, ◌^◌, ◌∷◌, ◌++◌, [], drop, length, map, option_map, slice_index_or, take, All, IfOk, OnOk};
 ghost use Rattle.bs_bits.specs.Reading.{Answers};
 ghost use Rattle.bs_vcd_header.specs.declared.fault.VcdFault.TheVariants.{NoMemory as Want};
-ghost use Rattle.bs_vcd_header.specs.Header.{begun_in, header_in};
+ghost use Rattle.bs_vcd_header.specs.Header.{begun_in, declared_in, header_in};
 ghost use Rattle.bs_vcd_header.specs.Tokens.{tokens_from};
-ghost use Rattle.bs_vcd.specs.Cycles.{begin_in, cycle_ends, cycle_in, edges_counted, edges_until, is_late, marked_in, marks_in, states_at, states_by, states_from, states_in, states_of, states_when, window};
+ghost use Rattle.bs_vcd.specs.Cycles.{begin_in, cycle_ends, cycle_in, edges_counted, edges_until, is_late, lacks_from, lacks_in, marked_in, marks_in, sampling_by, states_at, states_by, states_from, states_in, states_of, states_when, window};
 ghost use Rattle.bs_vcd.specs.History.{history_of};
 ghost use Rattle.bs_vcd.specs.Sampled.{lines_asked};
 ghost use Rattle.bs_vcd.specs.Stimulus.{sampling_in};
 
-use crate::edges::{ClockAndInputs, sampling_of};
+use crate::edges::{ClockAndInputs, found_sampling, lacks_of, sampling_of};
 use crate::sampling::{LineSpan, SampledLines, SamplingRequest, Unknowns, watch_lines};
 use bs_bits::{Bits, List, NoMemory};
 use bs_vcd_header::{
@@ -200,6 +200,24 @@ fn states_when(
     Ok(states)
 }
 
+/// The clock, and these names: each of them is there, unless bits may be unknown.
+fn sampling_by(
+    alloc: Global,
+    unknowns: Unknowns,
+    declared: &HeaderDeclarations<'_>,
+    scope: Option<&[u8]>,
+    clock: &[u8],
+    keys: &[&[u8]],
+) -> Result<ClockAndInputs, VcdFault>
+    ensures { Answers Want sampling_in result (sampling_by unknowns (declared_in declared.now) (option_map (λ path. path.now) scope.entry) clock.now (map (λ key. key.now) keys.now)) }
+{
+    match unknowns {
+        Unknowns::Refused => sampling_of(alloc, declared, scope, clock, keys),
+        Unknowns::Low => found_sampling(alloc, declared, scope, clock, keys),
+        Unknowns::Marked => found_sampling(alloc, declared, scope, clock, keys),
+    }
+}
+
 /// The same by what is declared and the text behind that.
 fn states_of(
     alloc: Global,
@@ -215,7 +233,7 @@ fn states_of(
     requires { behind.line + length behind.rest.now < 2 ^ 64 }
     ensures { Answers Want (λ states. states) result (states_of unknowns (header_in behind.entry declared.now) (option_map (λ path. path.now) scope.entry) clock.now (map (λ key. key.now) keys.now) at back) }
 {
-    let sampling = sampling_of(alloc, declared, scope, clock, keys)?;
+    let sampling = sampling_by(alloc, unknowns, declared, scope, clock, keys)?;
     let states = states_when(alloc, unknowns, &sampling, behind, at, back)?;
     Ok(states)
 }
@@ -312,11 +330,12 @@ pub fn states(
     read_states(alloc, Unknowns::Refused, text, scope, clock, keys, at, back)
 }
 
-/// States, and whether each bit of the last one is not known.
+/// States, whether each bit of the last one is not known, and how many of its names no variable has.
 #[derive(Drop)]
 pub struct MarkedStates {
     pub states: List<Bits>,
     pub marks: Bits,
+    pub lacks: usize,
 }
 
 /// The first of some lines.
@@ -345,8 +364,41 @@ fn marks(
     Ok(marks)
 }
 
-/// The same as `states`, where bits at the end of the cycle may be unknown: these are 0, and a mark for each bit says whether it is not
-/// known. It takes one pass more, and for a time two.
+/// How many of these names no variable has, where so much is read of the declarations.
+fn lacks_from<'a>(
+    alloc: Global,
+    text: &'a [u8],
+    scope: Option<&[u8]>,
+    clock: &[u8],
+    keys: &[&[u8]],
+    begun: &mut HeaderState<'a>,
+) -> Result<usize, VcdFault>
+    requires { length text.now < 2 ^ 63 }
+    ensures { Answers Want (λ count. count) result (lacks_from (begun_in begun.old) (tokens_from 1 text.now) (option_map (λ path. path.now) scope.entry) clock.now (map (λ key. key.now) keys.now)) }
+{
+    let _behind = take_words(alloc, 1, text, begun)?;
+    let count = lacks_of(alloc, &begun.declared, scope, clock, keys)?;
+    Ok(count)
+}
+
+/// How many of these names no variable has.
+fn lacks(
+    alloc: Global,
+    text: &[u8],
+    scope: Option<&[u8]>,
+    clock: &[u8],
+    keys: &[&[u8]],
+) -> Result<usize, VcdFault>
+    requires { length text.now < 2 ^ 63 }
+    ensures { Answers Want (λ count. count) result (lacks_in text.now (option_map (λ path. path.now) scope.entry) clock.now (map (λ key. key.now) keys.now)) }
+{
+    let mut begun = nothing(alloc)?;
+    let count = lacks_from(alloc, text, scope, clock, keys, &mut begun)?;
+    Ok(count)
+}
+
+/// The same as `states`, where bits at the end of the cycle may be unknown, and names may be missing of which no variable has them, but not
+/// all: these bits are 0, and a mark for each bit says whether it is not known. It takes one pass more, and for a time two.
 pub fn marked_states(
     alloc: Global,
     text: &[u8],
@@ -363,5 +415,10 @@ pub fn marked_states(
 {
     let states = read_states(alloc, Unknowns::Low, text, scope, clock, keys, at, back)?;
     let marks = marks(alloc, text, scope, clock, keys, at)?;
-    Ok(MarkedStates { states, marks })
+    let lacks = lacks(alloc, text, scope, clock, keys)?;
+    Ok(MarkedStates {
+        states,
+        marks,
+        lacks,
+    })
 }

@@ -1,14 +1,17 @@
 //! A run of a stimulus out of the text of a VCD.
-ghost use Rattle.std.specs.Prelude.{◌≡◌, ◌<◌, ◌+◌, ◌^◌, length, map, option_map};
+ghost use Rattle.std.specs.Prelude.{◌≡◌, ◌<◌, ◌+◌, ◌^◌, length, map, option_map, IfOk};
 ghost use Rattle.bs_bits.specs.Reading.{Answers};
 ghost use Rattle.bs_net_names.specs.Keys.{parts_in};
 ghost use Rattle.bs_vcd_header.specs.declared.fault.VcdFault.TheVariants.{NoClock, NoMemory as Want};
 ghost use Rattle.bs_vcd_header.specs.Header.{begun_in, declared_in, header_from, header_in};
 ghost use Rattle.bs_vcd_header.specs.Sources.{inputs_from, or_fault, scope_of, source_in};
 ghost use Rattle.bs_vcd_header.specs.Tokens.{tokens_from};
-ghost use Rattle.bs_vcd.specs.Stimulus.{edges_of, read_from, sampling_in, sampling_of, stimulus_in};
+ghost use Rattle.bs_vcd.specs.Found.{lacking, sources_of};
+ghost use Rattle.bs_vcd.specs.Stimulus.{edges_of, found_sampling, lacks_of, read_from, sampling_in, sampling_of, stimulus_in};
 
+use crate::found::{found_inputs, lacking, sources_of};
 use crate::sampling::{SampledLines, sample};
+use bs_bits::NoMemory;
 use bs_net_names::{KeyParts, key_parts};
 use bs_vcd_header::{
     Behind, BitSource, HeaderDeclarations, HeaderState, VcdFault, nothing, scope_of, source_in,
@@ -70,6 +73,56 @@ pub fn sampling_of(
         clock: source,
         inputs,
     })
+}
+
+/// The same, where some of these names may be missing.
+pub fn found_sampling(
+    alloc: Global,
+    declared: &HeaderDeclarations<'_>,
+    scope: Option<&[u8]>,
+    clock: &[u8],
+    keys: &[&[u8]],
+) -> Result<ClockAndInputs, VcdFault>
+    ensures { Answers Want sampling_in result (found_sampling (declared_in declared.now) (option_map (λ path. path.now) scope.entry) clock.now (map (λ key. key.now) keys.now)) }
+{
+    let clock = key_parts(clock);
+    let path = clock_scope(scope, clock, declared)?;
+    let source = clock_source(declared, path, clock)?;
+    let inputs = found_inputs(alloc, declared, path, keys)?;
+    Ok(ClockAndInputs {
+        clock: source,
+        inputs,
+    })
+}
+
+/// How many of these names no variable has in the scope with a path.
+fn lacks_in_path(
+    alloc: Global,
+    declared: &HeaderDeclarations<'_>,
+    path: &[u8],
+    keys: &[&[u8]],
+) -> Result<usize, NoMemory>
+    ensures { IfOk result (λ count. count ≡ lacking (sources_of (declared_in declared.now) path.now (map (λ key. key.now) keys.now))) }
+{
+    let sources = sources_of(alloc, declared, path, keys)?;
+    let count = lacking(sources.as_slice());
+    Ok(count)
+}
+
+/// How many of these names are missing in the clock's scope.
+pub fn lacks_of(
+    alloc: Global,
+    declared: &HeaderDeclarations<'_>,
+    scope: Option<&[u8]>,
+    clock: &[u8],
+    keys: &[&[u8]],
+) -> Result<usize, VcdFault>
+    ensures { Answers Want (λ count. count) result (lacks_of (declared_in declared.now) (option_map (λ path. path.now) scope.entry) clock.now (map (λ key. key.now) keys.now)) }
+{
+    let clock = key_parts(clock);
+    let path = clock_scope(scope, clock, declared)?;
+    let count = lacks_in_path(alloc, declared, path, keys)?;
+    Ok(count)
 }
 
 /// The lines of a clock's rising edges by what is declared and the text behind that.

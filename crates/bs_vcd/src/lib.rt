@@ -1,7 +1,8 @@
 //! Lines of bits out of the value changes that a simulator dumps (VCD).
 //!
 //! Modules: `changes` (what comes of a word), `levels`, `sampling` (from word to word), `edges` (`stimulus`, the inputs just before each
-//! rising edge of a clock), `cycles` (`states`, what stands at the end of a cycle and of those before it). Used above: `stimulus`
+//! rising edge of a clock), `cycles` (`states`, what stands at the end of a cycle and of those before it), `found`
+//! (names of which some may be missing). Used above: `stimulus`
 //! answers `stimulus_in` (`specs/Stimulus`): the lines of all edges, a filter over the moments of the text (`specs/Sampled`), or the
 //! first fault; `states` answers `states_in` (`specs/Cycles`), and `marked_states`, where bits may be unknown, `marked_in`. The declarations are read by `bs_vcd_header`.
 #![tactic(auto)]
@@ -9,11 +10,13 @@
 mod changes;
 mod cycles;
 mod edges;
+mod found;
 mod levels;
 mod sampling;
 
 pub use changes::{ValueChange, WordEffect, WordPlace, word_step};
 pub use cycles::{MarkedStates, When, begin_in, marked_states, states};
 pub use edges::{clock_scope, clock_source, stimulus};
+pub use found::{found_sources, is_found};
 pub use levels::{apply, level, rises};
 pub use sampling::SampledLines;

@@ -4,3 +4,15 @@ pub mod ReaderLemmas
 pub mod SpellingLemmas
 pub mod NamedLemmas
 pub mod Examples
+pub mod Sound
+pub mod Shown
+pub mod TermsSound
+pub mod PartsSound
+pub mod Extends
+pub mod ModulesSound
+pub mod Bridge
+pub mod Next
+pub mod TermsComplete
+pub mod PartsComplete
+pub mod ModulesComplete
+pub mod LawLemmas

@@ -5,7 +5,7 @@
 //! `listing` (a list with commas), `terms`, `declarations`, `parts`, `modules` (the whole text),
 //! `fault`. Used above: `syntax` gives exactly `syntax_of`. To change a form open the definition of
 //! its name in `specs/Terms`, `Declarations`, `Parts` or `Modules`, the function of the same name,
-//! and its production in bs_verilog_grammar; what is left out, `specs/Unsupported`.
+//! and its production in bs_verilog; what is left out, `specs/Unsupported`.
 #![tactic(auto)]
 
 mod declarations;

@@ -12,8 +12,8 @@ use Rattle.std.proofs.lemmas.Map.Steps.{length-le_from_distinct_below}
 use Rattle.bs_clause.specs.Literal.{Literal, negation, code_of}
 use Rattle.bs_clause.specs.Range.{HasVariables, IsWithin}
 use Rattle.bs_watch.specs.declared.cause.Cause.{Cause}
-use Rattle.bs_solve_order.specs.Open.{HoldsOpen, AreAllAssigned, is_assigned}
-use Rattle.bs_solve_order.proofs.CallerLemmas.{holds_assigned, holds_undone, neither}
+use Rattle.bs_arena.specs.Open.{HoldsOpen, AreAllAssigned, is_assigned}
+use Rattle.bs_arena.proofs.CallerLemmas.{holds_assigned, holds_undone, neither}
 use Rattle.bs_watch.specs.Trail.{IsOpenOn, IsAssignedOn, IsValueOn, AreAssignedBelow}
 use Rattle.bs_watch.specs.Places.{Place, AreApart, IsPlaceOf, IsOnLevel, IsImpliedBy, HasNoReason, literals_of, variable_of, renamed_place}
 use Rattle.bs_watch.specs.Tables.{IsTrail, AreDistinct, HasValues, no_cause, cause_of, place_with, places_in, value_of, renamed_cause}

@@ -7,7 +7,7 @@ use Rattle.bs_clause.specs.Range.{HasVariables}
 use Rattle.bs_arena.specs.Renaming.{new_name}
 use Rattle.bs_watch.specs.Places.{Place}
 use Rattle.bs_watch.specs.declared.cause.Cause.{Cause}
-use Rattle.bs_solve_order.specs.Open.{HoldsOpen}
+use Rattle.bs_arena.specs.Open.{HoldsOpen}
 
 -- the cause that stands where there is none
 abbrev pub no_cause : Cause

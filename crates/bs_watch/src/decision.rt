@@ -1,10 +1,10 @@
 //! The order of decisions of a trail: the variables that may be open, the most active one first.
 ghost use Rattle.std.specs.Prelude.{◌≡◌, ◌+◌, ◌*◌, ◌^◌, ◌<◌, ◌≤◌, [], ◌∷◌, ◌++◌, length, true, false, replicate, slice_set};
 ghost use Rattle.std.specs.Prelude.{IfOk, IfSome, IfNone, OnOk, OnErr};
-ghost use Rattle.bs_solve_order.specs.Open.{HoldsOpen, AreAllAssigned, is_assigned};
+ghost use Rattle.bs_arena.specs.Open.{HoldsOpen, AreAllAssigned, is_assigned};
 
+use bs_arena::Order;
 use bs_clause::{NoMemory, Var};
-use bs_solve_order::Order;
 use std::alloc::Global;
 
 /// The variables 1 to a number, none of which waits.

@@ -14,9 +14,8 @@ use crate::tables::{
     make_room, no_causes, no_values, note_phase, push_cause, push_literal, push_values, set_cause,
     set_value,
 };
-use bs_arena::{Ref, Renaming};
+use bs_arena::{Order, Ref, Renaming};
 use bs_clause::{Lit, NoMemory, Var};
-use bs_solve_order::Order;
 use std::alloc::Global;
 use std::marker::Model;
 

@@ -1,6 +1,6 @@
 use Rattle.std.specs.Prelude.{option_map, IfOk}
 use Rattle.std.proofs.Common.{◌≡◌, length, map, subst, sym, Some}
-use Rattle.bs_seen.specs.declared.seen.Seen.{Seen}
+use Rattle.bs_scan.specs.declared.seen.Seen.{Seen}
 use Rattle.bs_net.specs.Netlist.{circuit}
 use Rattle.bs_scan.specs.Choice.{depth_of}
 use Rattle.bs_encode.specs.Depth.{basis_of}

@@ -1,5 +1,5 @@
 use Rattle.std.proofs.Common.{◌≡◌}
-use Rattle.bs_lanes_planes.specs.Planes.{lane}
+use Rattle.bs_lanes.specs.Planes.{lane}
 use Rattle.bs_chip.specs.Hashes.{hash_of}
 use Rattle.bs_chip.proofs.hashes.lane_hash.Given as goal
 

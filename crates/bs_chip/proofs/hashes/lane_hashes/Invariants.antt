@@ -1,4 +1,4 @@
-use Rattle.bs_lanes_planes.specs.Planes.{lane}
+use Rattle.bs_lanes.specs.Planes.{lane}
 use Rattle.bs_chip.specs.Hashes.{hash_of, ListsEach}
 use Rattle.bs_chip.proofs.hashes.lane_hashes.Given as goal
 

@@ -1,7 +1,7 @@
 use Rattle.std.proofs.Common.{◌≡◌, ◌∙◌, ◌-◌, ℕ, [], length, get_or, ap, arith, sym}
 use Rattle.bs_net.specs.Circuit.{Circuit}
-use Rattle.bs_lanes_planes.specs.Planes.{lane}
-use Rattle.bs_lanes_planes.proofs.PlaneLemmas.{length_lane}
+use Rattle.bs_lanes.specs.Planes.{lane}
+use Rattle.bs_lanes.proofs.PlaneLemmas.{length_lane}
 use Rattle.bs_scan.specs.Choice.{depth_of}
 use Rattle.bs_scan.specs.Moments.{Run, run_of, state_at}
 use Rattle.bs_scan.specs.Register.{Register}

@@ -1,8 +1,8 @@
 use Rattle.std.proofs.Common.{◌≡◌, ◌∙◌, ap, List, map}
 use Rattle.bs_net.specs.declared.net.Flop.{Flop}
 use Rattle.bs_net.specs.Netlist.{circuit}
-use Rattle.bs_net_marks.specs.declared.mark.Mark.{Mark}
-use Rattle.bs_net_marks.specs.Marks.{flop_mark, is_known}
+use Rattle.bs_net_facts.specs.declared.mark.Mark.{Mark}
+use Rattle.bs_net_facts.specs.Marks.{flop_mark, is_known}
 use Rattle.bs_chip_forward.proofs.IndependentLemmas.{known_independent}
 use Rattle.bs_chip_forward.proofs.flops.independent_flops.Goals as goal
 

@@ -1,5 +1,5 @@
 use Rattle.std.proofs.Common.{◌≡◌, map, take}
-use Rattle.bs_net_marks.specs.Marks.{flop_mark, is_known}
+use Rattle.bs_net_facts.specs.Marks.{flop_mark, is_known}
 use Rattle.bs_chip_forward.proofs.flops.known_flops.Given as goal
 
 abbrev pub invariant-flops : goal.invariant-flops

@@ -1,5 +1,5 @@
 use Rattle.std.proofs.Common.{◌∙◌, ◌*◌, ℕ, List, ap, length, subst}
-use Rattle.bs_lanes_planes.specs.Planes.{lane}
+use Rattle.bs_lanes.specs.Planes.{lane}
 use Rattle.bs_chip.specs.Hashes.{hash_of, ListsEach}
 use Rattle.bs_chip_forward.proofs.ForwardLemmas.{parities_told}
 use Rattle.bs_chip_forward.proofs.groups.parity_hashes.Goals as goal

@@ -6,7 +6,7 @@ use Rattle.bs_net.specs.declared.net.Const.{Const}
 use Rattle.bs_net.specs.declared.net.Gate.{Gate}
 use Rattle.bs_net.specs.Netlist.{circuit}
 use Rattle.bs_net.proofs.NetlistLemmas.{without_placed, order_below}
-use Rattle.bs_net_marks.specs.Marks.{StayHeld, AreSettled, AreShown}
+use Rattle.bs_net_facts.specs.Marks.{StayHeld, AreSettled, AreShown}
 use Rattle.bs_chip_forward.specs.Marked.{ShowSame, ShowInput}
 use Rattle.bs_chip_forward.proofs.IndependentLemmas.{all_marked}
 use Rattle.bs_chip_forward.proofs.nets.mark_all.Goals as goal

@@ -1,4 +1,4 @@
-use Rattle.bs_net_marks.specs.Marks.{StayHeld}
+use Rattle.bs_net_facts.specs.Marks.{StayHeld}
 use Rattle.bs_chip_forward.specs.Marked.{ShowSame}
 use Rattle.bs_chip_forward.proofs.nets.mark_states.Given as goal
 

@@ -1,5 +1,5 @@
 use Rattle.std.proofs.Common.{◌≡◌, ◌++◌, ◌∙◌, List, ap, sym, append-nil, rules}
-use Rattle.bs_seen.specs.Seen.{kept_one}
+use Rattle.bs_scan.specs.Seen.{kept_one}
 use Rattle.bs_encode.specs.Tables.{lit}
 use Rattle.bs_clause.specs.Literal.{Literal}
 use Rattle.bs_encode.proofs.SignLemmas.{nothing_known, seen_step}

@@ -1,5 +1,5 @@
 use Rattle.std.proofs.Common.{◌≡◌, ◌++◌, take}
-use Rattle.bs_seen.specs.Seen.{kept}
+use Rattle.bs_scan.specs.Seen.{kept}
 use Rattle.bs_encode.specs.Assuming.{signed}
 use Rattle.bs_encode.proofs.signs.push_partial.Given as goal
 

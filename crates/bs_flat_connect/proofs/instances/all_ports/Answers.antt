@@ -1,5 +1,5 @@
 use Rattle.std.proofs.Common.{List, ◌+◌, sym, subst, take}
-use Rattle.bs_flat_wiring.specs.declared.ports.Ports.{Ports}
+use Rattle.bs_flat_connect.specs.declared.ports.Ports.{Ports}
 use Rattle.bs_flat_connect.specs.Instances.{AreAllPorts}
 use Rattle.bs_flat_connect.proofs.ChildLemmas.{ports_more}
 use Rattle.bs_flat_connect.proofs.instances.all_ports.Goals as goal

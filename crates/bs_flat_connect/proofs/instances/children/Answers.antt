@@ -2,7 +2,7 @@ use Rattle.std.proofs.Common.{◌++◌, ◌∷◌, [], ◌+◌, ◌<◌, List, R
 use Rattle.std.proofs.lemmas.List.{take_more, map-append}
 use Rattle.bs_flat_nets.specs.Blocks.{numbers_of}
 use Rattle.bs_flat_nets.specs.declared.blocks.Child.{Child}
-use Rattle.bs_flat_wiring.specs.declared.ports.Ports.{Ports}
+use Rattle.bs_flat_connect.specs.declared.ports.Ports.{Ports}
 use Rattle.bs_flat_connect.specs.declared.fault.Fault.{Fault}
 use Rattle.bs_flat_connect.specs.Instances.{TellsChild, TellsChildren}
 use Rattle.bs_flat_connect.proofs.LoopLemmas.{fails}

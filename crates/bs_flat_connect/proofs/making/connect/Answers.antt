@@ -1,7 +1,7 @@
 use Rattle.std.proofs.Common.{◌≡◌, Ok, Err, ap, sym, subst, ◌∙◌, length, map, arith}
 use Rattle.std.proofs.lemmas.List.{length-map}
 use Rattle.bs_flat_meaning.specs.declared.fault.FlatFault.{FlatFault}
-use Rattle.bs_flat_order.specs.Numbers.{numbers_of as numbers_in}
+use Rattle.bs_flat_meaning.specs.ModuleNumbers.{numbers_of as numbers_in}
 use Rattle.bs_flat_connect.specs.Connecting.{ConnectsTo}
 use Rattle.bs_flat_connect.proofs.MakeLemmas.{connects_to, lengths_same, are_there}
 use Rattle.bs_flat_connect.proofs.making.connect.Goals as goal

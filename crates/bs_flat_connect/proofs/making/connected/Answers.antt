@@ -3,7 +3,7 @@ use Rattle.std.specs.List.{All}
 use Rattle.bs_flat_meaning.specs.declared.statements.Written.{Written}
 use Rattle.bs_flat_nets.specs.declared.blocks.FlatModule.{FlatModule}
 use Rattle.bs_flat_modules.specs.declared.owns.Own.{Own}
-use Rattle.bs_flat_wiring.specs.declared.ports.Ports.{Ports}
+use Rattle.bs_flat_connect.specs.declared.ports.Ports.{Ports}
 use Rattle.bs_flat_connect.specs.declared.fault.Fault.{Fault}
 use Rattle.bs_flat_connect.specs.Instances.{AreAllPorts}
 use Rattle.bs_flat_connect.specs.Connecting.{TellsBlocks, Connects}

@@ -1,6 +1,6 @@
 use Rattle.std.proofs.Common.{◌≡◌, ◌++◌, ◌∷◌, ◌+◌, [], List, Option, drop, ap, sym, ◌∙◌}
 use Rattle.std.specs.Prelude.{slice_get}
-use Rattle.bs_flat_wiring.specs.declared.ports.Port.{Port}
+use Rattle.bs_flat_connect.specs.declared.ports.Port.{Port}
 use Rattle.bs_flat_connect.specs.declared.matching.Matched.{Matched}
 use Rattle.bs_flat_connect.specs.Matching.{by_place, places_from}
 use Rattle.bs_flat_connect.proofs.MatchLemmas.{places_more, places_end}

@@ -1,4 +1,4 @@
-use Rattle.bs_draws.proofs.DrawLemmas.{after_two, after_three}
+use Rattle.bs_gen.proofs.DrawLemmas.{after_two, after_three}
 use Rattle.bs_gen.proofs.gates.push_drawn_gate.Goals as goal
 
 pub returns-clause-text : goal.returns-clause-text

@@ -1,6 +1,6 @@
 use Rattle.std.proofs.Common.{◌+◌, ◌*◌, arith}
 use Rattle.bs_gen.specs.Gates.{drawn_line, nth_drawn_line}
-use Rattle.bs_draws.proofs.DrawLemmas.{after_none, after_more}
+use Rattle.bs_gen.proofs.DrawLemmas.{after_none, after_more}
 use Rattle.bs_gen.proofs.EachLemmas.{each_none, drawn_step}
 use Rattle.bs_gen.proofs.gates.push_drawn_gates.Goals as goal
 

@@ -1,5 +1,5 @@
 use Rattle.std.proofs.Common.{◌≡◌, ◌++◌, ◌*◌}
-use Rattle.bs_draws.specs.Draws.{after}
+use Rattle.bs_gen.specs.Draws.{after}
 use Rattle.bs_gen.specs.Each.{each}
 use Rattle.bs_gen.specs.Gates.{nth_drawn_line}
 use Rattle.bs_gen.proofs.gates.push_drawn_gates.Given as goal

@@ -1,9 +1,9 @@
 use Rattle.std.proofs.Common.{ℕ, ◌+◌, arith}
 use Rattle.std.specs.Prelude.{decimal}
 use Rattle.rand_pcg.specs.Lcg.{Lcg}
-use Rattle.bs_draws.specs.Draws.{pick}
+use Rattle.bs_gen.specs.Draws.{pick}
 use Rattle.bs_gen.specs.Stimulus.{bit_text}
-use Rattle.bs_draws.proofs.DrawLemmas.{after_none, after_more}
+use Rattle.bs_gen.proofs.DrawLemmas.{after_none, after_more}
 use Rattle.bs_gen.proofs.EachLemmas.{each_none, drawn_step}
 use Rattle.bs_gen.proofs.stimulus.push_bits.Goals as goal
 

@@ -1,5 +1,5 @@
 use Rattle.std.proofs.Common.{◌≡◌, ◌++◌, ◌*◌}
-use Rattle.bs_draws.specs.Draws.{after}
+use Rattle.bs_gen.specs.Draws.{after}
 use Rattle.bs_gen.specs.Each.{each}
 use Rattle.bs_gen.specs.Stimulus.{nth_input_line}
 use Rattle.bs_gen.proofs.stimulus.push_inputs.Given as goal

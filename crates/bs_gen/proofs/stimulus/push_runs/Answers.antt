@@ -1,7 +1,7 @@
 use Rattle.std.proofs.Common.{ℕ, ◌+◌, ◌*◌, arith}
 use Rattle.rand_pcg.specs.Lcg.{Lcg}
 use Rattle.bs_gen.specs.Stimulus.{run_text, nth_run_text}
-use Rattle.bs_draws.proofs.DrawLemmas.{after_none, after_more}
+use Rattle.bs_gen.proofs.DrawLemmas.{after_none, after_more}
 use Rattle.bs_gen.proofs.EachLemmas.{each_none, drawn_step}
 use Rattle.bs_gen.proofs.stimulus.push_runs.Goals as goal
 

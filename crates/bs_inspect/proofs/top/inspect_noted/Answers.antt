@@ -1,6 +1,6 @@
-use Rattle.bs_top_plan.proofs.Clauses.{answered, answered_as_told, call_by_call, complete, complete_whole, read_counted, read_fault_of}
-use Rattle.bs_top_plan.proofs.Clauses.{refuses_first_of, words_only}
-use Rattle.bs_top_plan.proofs.Clauses.{calls_wanting}
+use Rattle.bs_outside.proofs.Clauses.{answered, answered_as_told, call_by_call, complete, complete_whole, read_counted, read_fault_of}
+use Rattle.bs_outside.proofs.Clauses.{refuses_first_of, words_only}
+use Rattle.bs_outside.proofs.Clauses.{calls_wanting}
 use Rattle.bs_top_answer.proofs.AnswerLemmas.{call_noted}
 use Rattle.bs_inspect_plans.specs.Work.{plan_of}
 use Rattle.bs_inspect_plans.proofs.WorkLemmas.{is_work}

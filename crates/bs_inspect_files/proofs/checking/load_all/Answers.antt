@@ -1,9 +1,9 @@
 use Rattle.std.proofs.Common.{List, Ok, ◌∙◌}
-use Rattle.bs_top_plan.specs.Plan.{Plan, end}
+use Rattle.bs_outside.specs.Plan.{Plan, end}
 use Rattle.bs_top_files.specs.NoteCases.{NoteCase}
 use Rattle.bs_top_files.specs.Refusals.{Case}
 use Rattle.bs_inspect_check.specs.declared.comparison.Comparison.{Comparison}
-use Rattle.bs_top_plan.proofs.TellingLemmas.{diagnosed_end, diagnosed_stop, diagnosed_then}
+use Rattle.bs_outside.proofs.TellingLemmas.{diagnosed_end, diagnosed_stop, diagnosed_then}
 use Rattle.bs_inspect_files.specs.Checked.{Checked}
 use Rattle.bs_inspect_files.proofs.checking.load_all.Goals as goal
 

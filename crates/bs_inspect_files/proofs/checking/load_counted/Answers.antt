@@ -1,12 +1,12 @@
 use Rattle.std.proofs.Common.{◌≡◌, ℕ, List, Ok, length, map, ◌∙◌}
-use Rattle.bs_top_plan.specs.Plan.{Plan}
+use Rattle.bs_outside.specs.Plan.{Plan}
 use Rattle.bs_top_files.specs.NoteCases.{NoteCase}
 use Rattle.bs_top_files.specs.Refusals.{Case}
 use Rattle.std.specs.Prelude.{Bool}
 use Rattle.bs_inspect_files.specs.Taken.{run_files_in}
-use Rattle.bs_top_plan.proofs.TellingLemmas.{diagnosed_read, diagnosed_stop, diagnosed_then}
+use Rattle.bs_outside.proofs.TellingLemmas.{diagnosed_read, diagnosed_stop, diagnosed_then}
 use Rattle.bs_inspect_files.specs.Checked.{all_step, all_step_looked, Checked, files_in}
-use Rattle.bs_top_plan.specs.declared.file.File.TheVariants as files
+use Rattle.bs_outside.specs.declared.file.File.TheVariants as files
 use Rattle.bs_inspect_files.proofs.CountLemmas.{settled_holds}
 use Rattle.bs_inspect_files.proofs.checking.load_counted.Goals as goal
 

@@ -1,7 +1,7 @@
 use Rattle.std.proofs.Common.{ℕ, List, [], Vec, map, refl}
 use Rattle.std.specs.declared.alloc.Global.{Global}
-use Rattle.bs_top_plan.specs.Plan.{Plan, end}
-use Rattle.bs_top_plan.proofs.TellingLemmas.{diagnosed_stop, diagnosed_then}
+use Rattle.bs_outside.specs.Plan.{Plan, end}
+use Rattle.bs_outside.proofs.TellingLemmas.{diagnosed_stop, diagnosed_then}
 use Rattle.bs_top_files.specs.NoteCases.{NoteCase}
 use Rattle.bs_top_files.specs.Refusals.{Case}
 use Rattle.bs_inspect_check.specs.declared.comparison.Comparison.{Comparison}

@@ -1,8 +1,8 @@
 use Rattle.std.proofs.Common.{ℕ, List, [], ◌∷◌, ◌++◌, ◌+◌, ◌≡◌, length, map, ◌∙◌, arith}
 use Rattle.bs_top_files.specs.NoteCases.{NoteCase}
 use Rattle.bs_top_files.specs.Refusals.{Case}
-use Rattle.bs_top_plan.specs.Plan.{Plan, end}
-use Rattle.bs_top_plan.proofs.TellingLemmas.{diagnosed_stop, diagnosed_then}
+use Rattle.bs_outside.specs.Plan.{Plan, end}
+use Rattle.bs_outside.proofs.TellingLemmas.{diagnosed_stop, diagnosed_then}
 use Rattle.bs_inspect_check.specs.declared.comparison.Comparison.{Comparison}
 use Rattle.bs_inspect_files.specs.Checked.{beside_in, one_looked, one_of}
 use Rattle.bs_inspect_values.proofs.WalkLemmas.{diagnosed_put, diagnosed_with}

@@ -1,4 +1,4 @@
-use Rattle.bs_top_plan.proofs.TellingLemmas.{diagnosed_read}
+use Rattle.bs_outside.proofs.TellingLemmas.{diagnosed_read}
 use Rattle.bs_inspect_files.proofs.loading.load_bits.Goals as goal
 
 pub returns : goal.returns

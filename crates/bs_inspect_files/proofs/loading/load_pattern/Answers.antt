@@ -1,5 +1,5 @@
 use Rattle.std.proofs.Common.{◌≡◌, ℕ, length, arith}
-use Rattle.bs_top_plan.proofs.TellingLemmas.{diagnosed_end, diagnosed_stop, diagnosed_then}
+use Rattle.bs_outside.proofs.TellingLemmas.{diagnosed_end, diagnosed_stop, diagnosed_then}
 use Rattle.bs_inspect_values.proofs.WalkLemmas.{diagnosed_with}
 use Rattle.bs_inspect_files.specs.FlopFiles.{bits_looked, bits_of}
 use Rattle.bs_inspect_files.proofs.loading.load_pattern.Goals as goal

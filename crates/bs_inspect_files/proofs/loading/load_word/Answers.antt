@@ -1,6 +1,6 @@
 use Rattle.std.proofs.Common.{ℕ, List, Bool, Option}
-use Rattle.bs_top_plan.specs.declared.file.File.TheVariants as files
-use Rattle.bs_top_plan.specs.Plan.{Plan, read_as}
+use Rattle.bs_outside.specs.declared.file.File.TheVariants as files
+use Rattle.bs_outside.specs.Plan.{Plan, read_as}
 use Rattle.bs_top_files.specs.NoteCases.{NoteCase}
 use Rattle.bs_top_files.specs.Refusals.{Case}
 use Rattle.bs_inspect_values.proofs.WalkLemmas.{diagnosed_with}

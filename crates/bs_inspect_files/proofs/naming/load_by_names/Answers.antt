@@ -1,11 +1,11 @@
 use Rattle.std.proofs.Common.{ℕ, List, Bor, Vec, Ok, map, ap, refl, ◌∙◌}
-use Rattle.bs_top_plan.specs.Plan.{Plan}
+use Rattle.bs_outside.specs.Plan.{Plan}
 use Rattle.bs_top_files.specs.NoteCases.{NoteCase}
 use Rattle.bs_top_files.specs.Refusals.{Case}
 use Rattle.bs_inspect_check.specs.declared.comparison.Comparison.{Comparison}
 use Rattle.bs_inspect_notes.specs.declared.name.Subject.TheVariants.{Flops}
-use Rattle.bs_top_plan.specs.declared.file.File.TheVariants as files
-use Rattle.bs_top_plan.proofs.TellingLemmas.{diagnosed_read, diagnosed_then}
+use Rattle.bs_outside.specs.declared.file.File.TheVariants as files
+use Rattle.bs_outside.proofs.TellingLemmas.{diagnosed_read, diagnosed_then}
 use Rattle.bs_inspect_values.specs.Saying.{names_noted}
 use Rattle.bs_inspect_values.specs.Simulated.{names_read}
 use Rattle.bs_inspect_files.specs.Checked.{all_looked, all_of, beside_in}

@@ -1,10 +1,10 @@
 use Rattle.std.proofs.Common.{ℕ, List, map, ◌∙◌}
-use Rattle.bs_top_plan.specs.Plan.{Plan}
+use Rattle.bs_outside.specs.Plan.{Plan}
 use Rattle.bs_top_files.specs.NoteCases.{NoteCase}
 use Rattle.bs_top_files.specs.Refusals.{Case}
 use Rattle.bs_inspect_check.specs.declared.comparison.Comparison.{Comparison}
 use Rattle.std.proofs.lemmas.Result.{err_from_is_err_and}
-use Rattle.bs_top_plan.proofs.TellingLemmas.{diagnosed_fetch_stop}
+use Rattle.bs_outside.proofs.TellingLemmas.{diagnosed_fetch_stop}
 use Rattle.bs_inspect_report.specs.Keys.{flop_keys}
 use Rattle.bs_inspect_files.specs.Checked.{beside_in, names_step, names_step_looked}
 use Rattle.bs_inspect_values.proofs.WalkLemmas.{diagnosed_fetch_then}

@@ -1,9 +1,9 @@
 use Rattle.std.proofs.Common.{ℕ, List, map, Some}
 use Rattle.bs_scan.specs.Choice.{Chosen}
-use Rattle.bs_top_plan.specs.Plan.{Plan}
+use Rattle.bs_outside.specs.Plan.{Plan}
 use Rattle.bs_top_files.specs.NoteCases.{NoteCase}
 use Rattle.bs_top_files.specs.Refusals.{Case}
-use Rattle.bs_top_plan.proofs.TellingLemmas.{diagnosed_stop, diagnosed_then}
+use Rattle.bs_outside.proofs.TellingLemmas.{diagnosed_stop, diagnosed_then}
 use Rattle.bs_inspect_files.specs.Paged.{PageFiles, chosen_step, chosen_step_looked}
 use Rattle.bs_inspect_files.proofs.paging.load_by_signature.Goals as goal
 

@@ -1,5 +1,5 @@
 use Rattle.std.proofs.lemmas.Result.{err_from_is_err_and}
-use Rattle.bs_top_plan.proofs.TellingLemmas.{diagnosed_end, diagnosed_read, diagnosed_stop, diagnosed_then}
+use Rattle.bs_outside.proofs.TellingLemmas.{diagnosed_end, diagnosed_read, diagnosed_stop, diagnosed_then}
 use Rattle.bs_inspect_files.proofs.tracing.load_picked.Goals as goal
 
 pub returns-in_err-trace_files : goal.returns-in_err-trace_files

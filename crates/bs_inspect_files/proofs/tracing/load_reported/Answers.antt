@@ -1,4 +1,4 @@
-use Rattle.bs_top_plan.proofs.TellingLemmas.{diagnosed_stop, diagnosed_then}
+use Rattle.bs_outside.proofs.TellingLemmas.{diagnosed_stop, diagnosed_then}
 use Rattle.bs_inspect_files.proofs.tracing.load_reported.Goals as goal
 
 pub returns-in-Ok : goal.returns-in-Ok

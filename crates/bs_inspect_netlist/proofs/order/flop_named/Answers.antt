@@ -2,7 +2,7 @@ use Rattle.std.proofs.Common.{ap, map, ◌∙◌}
 use Rattle.std.specs.List.{position}
 use Rattle.bs_net_names.specs.Keys.{KeyParts, parts_in}
 use Rattle.bs_net_names.specs.Rtl.{same_name}
-use Rattle.bs_inspect_netlist.proofs.OrderLemmas.{named_at}
+use Rattle.bs_scan.proofs.KeyLemmas.{named_at}
 use Rattle.bs_inspect_netlist.proofs.order.flop_named.Goals as goal
 
 pub returns : goal.returns

@@ -1,5 +1,5 @@
 use Rattle.std.proofs.Common.{length, arith}
-use Rattle.bs_lanes_planes.specs.Planes.{lane}
+use Rattle.bs_lanes.specs.Planes.{lane}
 use Rattle.bs_inspect_novel.proofs.ValueBitLemmas.{value_more}
 use Rattle.bs_inspect_novel.proofs.values.value_of.Goals as goal
 

@@ -1,5 +1,5 @@
 use Rattle.std.proofs.Common.{◌≡◌, length, take}
-use Rattle.bs_lanes_planes.specs.Planes.{lane}
+use Rattle.bs_lanes.specs.Planes.{lane}
 use Rattle.bs_inspect_novel.specs.Values.{value_in}
 use Rattle.bs_inspect_novel.proofs.values.value_of.Given as goal
 

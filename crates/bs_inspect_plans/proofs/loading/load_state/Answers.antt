@@ -1,5 +1,5 @@
 use Rattle.std.proofs.lemmas.Result.{err_from_is_err_and}
-use Rattle.bs_top_plan.proofs.TellingLemmas.{diagnosed_fetch_stop, diagnosed_reads}
+use Rattle.bs_outside.proofs.TellingLemmas.{diagnosed_fetch_stop, diagnosed_reads}
 use Rattle.bs_inspect_plans.specs.Readings.{state_noted, state_read}
 use Rattle.bs_inspect_plans.specs.Taken.{width_of}
 use Rattle.bs_inspect_plans.proofs.loading.load_state.Goals as goal

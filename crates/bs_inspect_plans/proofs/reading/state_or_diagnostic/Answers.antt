@@ -1,7 +1,7 @@
 use Rattle.std.proofs.Common.{ℕ, subst}
-use Rattle.bs_seen.specs.declared.seen.Seen.{Seen}
-use Rattle.bs_top_plan.specs.Diagnostic.{noted, worded}
-use Rattle.bs_top_plan.specs.Walks.{Reads}
+use Rattle.bs_scan.specs.declared.seen.Seen.{Seen}
+use Rattle.bs_outside.specs.Diagnostic.{noted, worded}
+use Rattle.bs_outside.specs.Walks.{Reads}
 use Rattle.bs_top_files.specs.NoteCases.{NoteSays}
 use Rattle.bs_top_files.specs.Refusals.{CheckSays}
 use Rattle.bs_inspect_plans.specs.Readings.{state_noted, state_read}

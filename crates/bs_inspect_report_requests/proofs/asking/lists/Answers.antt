@@ -15,7 +15,7 @@ returns-in-Ok g c =
     (walked_done (picked_of c.args.asked.now.netlist.now c.args.asked.now.report.now (map (λ s. s.now) slice))
     (picked_looked c.args.asked.now.netlist.now c.args.asked.now.report.now (map (λ s. s.now) slice)) (to_lists (map (λ s. s.now)
     slice))
-    (source_of (sources_of (request slice))) _ _ c.silent.ensures refl c.in-Ok.ensures c.tell_lists.ensures)
+    (source_of (sources_of (request slice))) _ _ c.silent-answer.ensures refl c.in-Ok.ensures c.tell_lists.ensures)
 
 pub returns-in-Err : goal.returns-in-Err
 returns-in-Err g c =

@@ -19,7 +19,7 @@ returns-in-Ok g c =
     noted_with request c.args.asked.now.only.items slice _ (sym c.as_slice-only.ensures.value)
     (walked_done (page_files_of c.args.asked.now.netlist.now signature c.args.asked.now.report.now (map (λ s. s.now) slice))
     (page_files_looked c.args.asked.now.netlist.now signature c.args.asked.now.report.now (map (λ s. s.now) slice))
-    work (source_of (sources_of (request slice))) _ _ c.silent.ensures refl c.in-Ok.ensures c.tell_page.ensures)
+    work (source_of (sources_of (request slice))) _ _ c.silent-answer.ensures refl c.in-Ok.ensures c.tell_page.ensures)
 
 pub returns-in-Err : goal.returns-in-Err
 returns-in-Err g c =

@@ -1,18 +1,17 @@
-use Rattle.std.proofs.Common.{refl}
 use Rattle.bs_top_reach.specs.Searched.{answer_files_looked, answer_files_of}
 use Rattle.bs_evidence.specs.declared.evidence.Format.TheVariants.{Proof}
 use Rattle.bs_inspect_words.specs.Asked.{lengths_in}
 use Rattle.bs_inspect_words.specs.Request.{ReachLrat as Asked}
 use Rattle.bs_inspect_plans.specs.Sources.{source_of, sources_of}
 use Rattle.bs_inspect_plans.specs.Work.{to_lengths}
-use Rattle.bs_inspect_plans.proofs.WorkLemmas.{walked_done, walked_stop}
+use Rattle.bs_inspect_plans.proofs.WorkLemmas.{walked_noted, walked_stop}
 use Rattle.bs_inspect_report_requests.proofs.asking.reach_lrat.Goals as goal
 
 pub returns-in-Ok : goal.returns-in-Ok
 returns-in-Ok g c =
-    walked_done (answer_files_of c.args.asked.now.netlist.now c.args.asked.now.state.now c.args.asked.now.answer.now)
+    walked_noted (answer_files_of c.args.asked.now.netlist.now c.args.asked.now.state.now c.args.asked.now.answer.now)
     (answer_files_looked c.args.asked.now.netlist.now c.args.asked.now.state.now c.args.asked.now.answer.now)
-    (to_lengths Proof c.args.asked.now.length) (source_of (sources_of (Asked (lengths_in c.args.asked.now)))) _ _ c.silent.ensures refl c.in-Ok.ensures.walks c.tell_lengths.ensures
+    (to_lengths Proof c.args.asked.now.length) (source_of (sources_of (Asked (lengths_in c.args.asked.now)))) _ _ c.rejected_noted-answer.ensures.reply c.rejected_noted-answer.ensures.note c.in-Ok.ensures.walks c.tell_lengths.ensures
 
 pub returns-in-Err : goal.returns-in-Err
 returns-in-Err g c =

@@ -10,7 +10,7 @@ use Rattle.bs_inspect_report_requests.proofs.asking.steps_table.Goals as goal
 pub returns-in-Ok : goal.returns-in-Ok
 returns-in-Ok g c =
     walked_done (report_of c.args.report.now) (report_looked c.args.report.now) to_steps_table
-    (source_of (sources_of (Asked c.args.report.now))) _ _ c.silent.ensures refl c.in-Ok.ensures.walks c.tell_steps_table.ensures
+    (source_of (sources_of (Asked c.args.report.now))) _ _ c.silent-answer.ensures refl c.in-Ok.ensures.walks c.tell_steps_table.ensures
 
 pub returns-in-Err : goal.returns-in-Err
 returns-in-Err g c =

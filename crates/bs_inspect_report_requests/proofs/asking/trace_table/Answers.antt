@@ -1,10 +1,10 @@
 use Rattle.bs_inspect_files.specs.Taken.{picked_looked, picked_of}
-use Rattle.std.proofs.Common.{ℕ, Bor, List, map, sym, refl}
+use Rattle.std.proofs.Common.{ℕ, Bor, List, map, sym}
 use Rattle.bs_inspect_words.specs.Request.{Request, TraceTable}
 use Rattle.bs_inspect_plans.specs.Sources.{source_of, sources_of}
 use Rattle.bs_inspect_plans.specs.Asked.{window_of}
 use Rattle.bs_inspect_plans.specs.Work.{to_table}
-use Rattle.bs_inspect_plans.proofs.WorkLemmas.{noted_with, walked_done, walked_stop}
+use Rattle.bs_inspect_plans.proofs.WorkLemmas.{noted_with, walked_noted, walked_stop}
 use Rattle.bs_inspect_report_requests.proofs.asking.trace_table.Goals as goal
 
 pub returns-in-Ok : goal.returns-in-Ok
@@ -13,10 +13,10 @@ returns-in-Ok g c =
     λ xs. TraceTable (record { netlist = c.args.asked.now.netlist.now; report = c.args.asked.now.report.now; all = c.args.asked.now.all; window = c.args.asked.now.window; only = map (λ s. s.now) xs }) in
     let slice : List (Bor (List ℕ)) = c.as_slice-only.result.now in
     noted_with request c.args.asked.now.only.items slice _ (sym c.as_slice-only.ensures.value)
-    (walked_done (picked_of c.args.asked.now.netlist.now c.args.asked.now.report.now (map (λ s. s.now) slice))
+    (walked_noted (picked_of c.args.asked.now.netlist.now c.args.asked.now.report.now (map (λ s. s.now) slice))
     (picked_looked c.args.asked.now.netlist.now c.args.asked.now.report.now (map (λ s. s.now) slice)) (to_table (window_of
     c.args.asked.now.window) (map (λ s. s.now) slice))
-    (source_of (sources_of (request slice))) _ _ c.silent.ensures refl c.in-Ok.ensures c.tell_table.ensures)
+    (source_of (sources_of (request slice))) _ _ c.window_noted-answer.ensures.reply c.window_noted-answer.ensures.note c.in-Ok.ensures c.tell_table.ensures)
 
 pub returns-in-Err : goal.returns-in-Err
 returns-in-Err g c =

@@ -17,7 +17,7 @@ returns-in-Ok g c =
     (walked_done (charted_of c.args.asked.now.netlist.now c.args.asked.now.report.now (map (λ s. s.now) slice))
     (charted_looked c.args.asked.now.netlist.now c.args.asked.now.report.now (map (λ s. s.now) slice)) (to_wave from all (map (λ s. s.now)
     slice))
-    (source_of (sources_of (request slice))) _ _ c.silent.ensures refl c.in-Ok.ensures c.tell_wave.ensures)
+    (source_of (sources_of (request slice))) _ _ c.silent-answer.ensures refl c.in-Ok.ensures c.tell_wave.ensures)
 
 pub returns-in-Err : goal.returns-in-Err
 returns-in-Err g c =

@@ -8,4 +8,4 @@ returns-in-Some c =
     number_found c.args.command.now (map string_bytes c.args.words.now) _ _ _ c.in-Some.ensures.is c.bad_sentence.ensures
 
 pub returns-in-None : goal.returns-in-None
-returns-in-None c = number_none c.args.command.now (map string_bytes c.args.words.now) _ _ c.in-None.ensures.is c.stand_sentence.ensures
+returns-in-None c = number_none c.args.command.now (map string_bytes c.args.words.now) _ _ c.in-None.ensures.is c.once_sentence.ensures

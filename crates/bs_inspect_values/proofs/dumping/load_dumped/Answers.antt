@@ -1,10 +1,10 @@
 use Rattle.std.proofs.Common.{ℕ, List, Bool, Option, Some, None, Bor, Vec, Ok, length, map, ap, refl, sym, subst, ◌∙◌}
 use Rattle.std.specs.Option.{option_map}
-use Rattle.bs_top_plan.specs.Plan.{Plan, end}
+use Rattle.bs_outside.specs.Plan.{Plan, end}
 use Rattle.bs_top_files.specs.NoteCases.{NoteCase}
 use Rattle.bs_top_files.specs.Refusals.{Case}
 use Rattle.bs_net.specs.Parts.{Parts}
-use Rattle.bs_top_plan.proofs.TellingLemmas.{diagnosed_stop, diagnosed_then}
+use Rattle.bs_outside.proofs.TellingLemmas.{diagnosed_stop, diagnosed_then}
 use Rattle.bs_inspect_values.specs.Dumped.{Dumped, chosen_step, chosen_step_looked, files_in}
 use Rattle.bs_inspect_values.proofs.dumping.load_dumped.Goals as goal
 

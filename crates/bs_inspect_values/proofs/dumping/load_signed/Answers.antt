@@ -1,11 +1,11 @@
 use Rattle.std.proofs.Common.{ℕ, List, Bool, Option, Some, None, Bor, Vec, Ok, length, map, ap, refl, sym, subst, ◌∙◌}
 use Rattle.std.specs.Option.{option_map}
-use Rattle.bs_top_plan.specs.Plan.{Plan, end}
+use Rattle.bs_outside.specs.Plan.{Plan, end}
 use Rattle.bs_top_files.specs.NoteCases.{NoteCase}
 use Rattle.bs_top_files.specs.Refusals.{Case}
 use Rattle.bs_scan.specs.Choice.{Chosen}
 use Rattle.bs_inspect_report.specs.Keys.{flop_keys}
-use Rattle.bs_top_plan.proofs.TellingLemmas.{diagnosed_end, diagnosed_stop, diagnosed_then}
+use Rattle.bs_outside.proofs.TellingLemmas.{diagnosed_end, diagnosed_stop, diagnosed_then}
 use Rattle.bs_vcd.specs.declared.cycles.MarkedStates.{MarkedStates}
 use Rattle.bs_inspect_values.specs.Dumped.{Dumped, Taking, files_in, taken_looked, taken_of, taking_of}
 use Rattle.bs_inspect_values.proofs.WalkLemmas.{diagnosed_with}

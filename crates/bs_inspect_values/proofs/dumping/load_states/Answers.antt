@@ -3,8 +3,8 @@ use Rattle.std.specs.List.{All}
 use Rattle.std.specs.Result.{IfOk}
 use Rattle.std.specs.Option.{option_map}
 use Rattle.std.proofs.lemmas.Result.{err_from_is_err_and}
-use Rattle.bs_top_plan.specs.declared.file.File.TheVariants as files
-use Rattle.bs_top_plan.proofs.TellingLemmas.{diagnosed_fetch_stop, diagnosed_reads}
+use Rattle.bs_outside.specs.declared.file.File.TheVariants as files
+use Rattle.bs_outside.proofs.TellingLemmas.{diagnosed_fetch_stop, diagnosed_reads}
 use Rattle.bs_vcd.specs.declared.cycles.MarkedStates.{MarkedStates}
 use Rattle.bs_inspect_values.specs.Saying.{states_noted}
 use Rattle.bs_inspect_values.specs.Dumped.{states_read}

@@ -1,6 +1,6 @@
 use Rattle.std.proofs.Common.{ℕ, List, Bool, Option, Bor, Vec, Ok, map, ap, refl, sym, ◌∙◌}
 use Rattle.std.specs.Option.{option_map}
-use Rattle.bs_top_plan.specs.Plan.{Plan}
+use Rattle.bs_outside.specs.Plan.{Plan}
 use Rattle.bs_top_files.specs.NoteCases.{NoteCase}
 use Rattle.bs_top_files.specs.Refusals.{Case}
 use Rattle.bs_inspect_report.specs.Keys.{input_keys}

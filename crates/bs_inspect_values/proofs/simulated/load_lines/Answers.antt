@@ -1,7 +1,7 @@
 use Rattle.std.proofs.Common.{ℕ, List, Option, map}
 use Rattle.std.specs.Option.{option_map}
 use Rattle.std.proofs.lemmas.Result.{err_from_is_err_and}
-use Rattle.bs_top_plan.proofs.TellingLemmas.{diagnosed_fetch_stop, diagnosed_reads}
+use Rattle.bs_outside.proofs.TellingLemmas.{diagnosed_fetch_stop, diagnosed_reads}
 use Rattle.bs_inspect_values.specs.Saying.{lines_noted}
 use Rattle.bs_inspect_values.specs.Simulated.{lines_read}
 use Rattle.bs_inspect_values.proofs.simulated.load_lines.Goals as goal

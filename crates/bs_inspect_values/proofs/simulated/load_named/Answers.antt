@@ -1,10 +1,10 @@
 use Rattle.std.proofs.Common.{ℕ, List, Bool, Option, Bor, Vec, Ok, map, ap, refl, sym, ◌∙◌}
 use Rattle.std.specs.Option.{option_map}
-use Rattle.bs_top_plan.specs.Plan.{Plan}
+use Rattle.bs_outside.specs.Plan.{Plan}
 use Rattle.bs_top_files.specs.NoteCases.{NoteCase}
 use Rattle.bs_top_files.specs.Refusals.{Case}
 use Rattle.std.proofs.lemmas.Result.{err_from_is_err_and}
-use Rattle.bs_top_plan.proofs.TellingLemmas.{diagnosed_fetch_stop}
+use Rattle.bs_outside.proofs.TellingLemmas.{diagnosed_fetch_stop}
 use Rattle.bs_inspect_report.specs.Keys.{input_keys}
 use Rattle.bs_inspect_values.specs.Simulated.{Sampled, clocked_in, sampled_step, sampled_step_looked}
 use Rattle.bs_inspect_values.proofs.WalkLemmas.{diagnosed_fetch_then}

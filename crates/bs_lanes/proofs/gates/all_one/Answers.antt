@@ -1,4 +1,4 @@
-use Rattle.bs_lanes_planes.proofs.PlaneLemmas.{ones_is_plane}
+use Rattle.bs_lanes.proofs.PlaneLemmas.{ones_is_plane}
 use Rattle.bs_lanes.proofs.SettlingLemmas.{all_more}
 use Rattle.bs_lanes.proofs.gates.all_one.Goals as goal
 

@@ -1,6 +1,6 @@
 use Rattle.std.proofs.Common.{take}
 use Rattle.std.specs.List.{list_all}
-use Rattle.bs_lanes_planes.specs.Planes.{IsPlane}
+use Rattle.bs_lanes.specs.Planes.{IsPlane}
 use Rattle.bs_lanes.specs.Settling.{net_bit}
 use Rattle.bs_lanes.proofs.gates.all_one.Given as goal
 

@@ -1,6 +1,6 @@
 use Rattle.std.proofs.Common.{take, map}
 use Rattle.bs_net.specs.Gate.{is_odd}
-use Rattle.bs_lanes_planes.specs.Planes.{IsPlane}
+use Rattle.bs_lanes.specs.Planes.{IsPlane}
 use Rattle.bs_lanes.specs.Settling.{net_bit}
 use Rattle.bs_lanes.proofs.gates.odd_ones.Given as goal
 

@@ -1,6 +1,6 @@
-use Rattle.bs_lanes_planes.proofs.PlaneLemmas.{lane_more}
+use Rattle.bs_lanes.proofs.PlaneLemmas.{lane_more}
 use Rattle.std.proofs.Common.{Bool, ◌∙◌, ap, ◌∷◌, [], ◌++◌, sym}
-use Rattle.bs_lanes_planes.specs.Planes.{lane}
+use Rattle.bs_lanes.specs.Planes.{lane}
 use Rattle.bs_lanes.proofs.lanes.lane_bits.Goals as goal
 
 pub planes-preserved : goal.planes-preserved

@@ -1,6 +1,6 @@
 use Rattle.std.proofs.Common.{◌≡◌, ℕ, ◌<◌, ◌*◌, take, length, map}
 use Rattle.bs_net.specs.declared.net.Flop.{Flop}
-use Rattle.bs_lanes_planes.specs.Planes.{lane}
+use Rattle.bs_lanes.specs.Planes.{lane}
 use Rattle.bs_lanes.proofs.nets.load_reset.Given as goal
 
 abbrev pub invariant-flops : goal.invariant-flops

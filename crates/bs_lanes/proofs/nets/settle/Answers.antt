@@ -2,7 +2,7 @@ use Rattle.std.proofs.Common.{subst, List, map, length}
 use Rattle.bs_net.specs.declared.net.NetId.{NetId}
 use Rattle.bs_net.specs.declared.net.Const.{Const}
 use Rattle.bs_net.specs.Steps.{puts, constant_step, gate_write}
-use Rattle.bs_lanes_planes.specs.Planes.{lane}
+use Rattle.bs_lanes.specs.Planes.{lane}
 use Rattle.bs_lanes.specs.declared.program.Stretch.{Stretch}
 use Rattle.bs_lanes.specs.Program.{program_gates}
 use Rattle.bs_lanes.specs.Settling.{RunsAll}

@@ -1,6 +1,6 @@
 use Rattle.std.proofs.Common.{drop, length}
 use Rattle.bs_net.specs.Steps.{puts}
-use Rattle.bs_lanes_planes.specs.Planes.{lane}
+use Rattle.bs_lanes.specs.Planes.{lane}
 use Rattle.bs_lanes.specs.Settling.{RunsTo}
 use Rattle.bs_lanes.proofs.nets.show_nets.Given as goal
 

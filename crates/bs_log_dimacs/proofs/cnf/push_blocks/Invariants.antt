@@ -3,7 +3,7 @@ use Rattle.std.specs.List.{flat_map}
 use Rattle.bs_log.specs.History.{step_of}
 use Rattle.bs_log.specs.Refusal.{history_of}
 use Rattle.bs_log.specs.Refutation.{blocks_of}
-use Rattle.bs_log_words.specs.Clauses.{clause_text}
+use Rattle.bs_log_dimacs.specs.Clauses.{clause_text}
 use Rattle.bs_log_dimacs.proofs.cnf.push_blocks.Given as goal
 
 abbrev pub invariant-lines : goal.invariant-lines

@@ -1,6 +1,6 @@
 use Rattle.std.proofs.Common.{◌≡◌, ◌++◌, ◌∷◌, [], map, take}
 use Rattle.std.specs.List.{flat_map}
-use Rattle.bs_log_words.specs.Clauses.{clause_text}
+use Rattle.bs_log_dimacs.specs.Clauses.{clause_text}
 use Rattle.bs_log_dimacs.proofs.parts.push_guarded.Given as goal
 
 abbrev pub invariant-literals : goal.invariant-literals

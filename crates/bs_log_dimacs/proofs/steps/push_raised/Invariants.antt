@@ -1,7 +1,7 @@
 use Rattle.std.proofs.Common.{◌≡◌, ◌++◌, map, take}
 use Rattle.std.specs.List.{flat_map}
 use Rattle.bs_log.specs.LineText.{id_text}
-use Rattle.bs_log_words.specs.Lines.{raised}
+use Rattle.bs_log_dimacs.specs.Lines.{raised}
 use Rattle.bs_log_dimacs.proofs.steps.push_raised.Given as goal
 
 abbrev pub invariant-ids : goal.invariant-ids

@@ -1,7 +1,7 @@
 use Rattle.std.proofs.Common.{◌≡◌, ◌+◌, List, get_or, take, ap}
 use Rattle.bs_log.specs.declared.line.Line.{Line}
 use Rattle.bs_log.specs.Refusal.{history_of}
-use Rattle.bs_log_words.specs.Clauses.{clause_text}
+use Rattle.bs_log_dimacs.specs.Clauses.{clause_text}
 use Rattle.bs_log_dimacs.specs.WholeProof.{so_far}
 use Rattle.bs_log_dimacs.specs.WholeWalk.{problem_in, given_at}
 use Rattle.bs_log_dimacs.proofs.Bounds.{first, step_fits, end_fits, under_more, given_more}

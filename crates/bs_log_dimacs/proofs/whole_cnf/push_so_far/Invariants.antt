@@ -2,7 +2,7 @@ use Rattle.std.proofs.Common.{◌≡◌, ◌++◌, take}
 use Rattle.std.specs.List.{flat_map}
 use Rattle.bs_log.specs.History.{History}
 use Rattle.bs_log.specs.Refusal.{history_of}
-use Rattle.bs_log_words.specs.Clauses.{clause_text}
+use Rattle.bs_log_dimacs.specs.Clauses.{clause_text}
 use Rattle.bs_log_dimacs.specs.WholeProof.{under_of, so_far}
 use Rattle.bs_log_dimacs.specs.WholeWalk.{problem_in}
 use Rattle.bs_log_dimacs.proofs.whole_cnf.push_so_far.Given as goal

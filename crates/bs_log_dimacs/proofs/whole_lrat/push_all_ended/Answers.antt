@@ -1,7 +1,7 @@
 use Rattle.std.proofs.Common.{◌≡◌, List, get_or, ap}
 use Rattle.bs_log.specs.declared.line.Line.{Line}
 use Rattle.bs_log.specs.LineText.{id_text}
-use Rattle.bs_log_words.specs.Lines.{raised}
+use Rattle.bs_log_dimacs.specs.Lines.{raised}
 use Rattle.bs_log_dimacs.proofs.Bounds.{step_fits, fits_here, under_more}
 use Rattle.bs_log_dimacs.proofs.WholeTexts.{ended_texts_more}
 use Rattle.bs_log_dimacs.proofs.whole_lrat.push_all_ended.Goals as goal

@@ -3,7 +3,7 @@ use Rattle.std.specs.List.{flat_map}
 use Rattle.bs_log.specs.History.{History}
 use Rattle.bs_log.specs.LineText.{id_text}
 use Rattle.bs_log.specs.Refusal.{history_of}
-use Rattle.bs_log_words.specs.Lines.{raised}
+use Rattle.bs_log_dimacs.specs.Lines.{raised}
 use Rattle.bs_log_dimacs.specs.WholeProof.{under_of, ended}
 use Rattle.bs_log_dimacs.proofs.whole_lrat.push_all_ended.Given as goal
 

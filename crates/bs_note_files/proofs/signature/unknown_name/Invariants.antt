@@ -1,6 +1,5 @@
 use Rattle.std.proofs.Common.{◌≤◌, ◌-◌, length}
-use Rattle.bs_net.specs.Netlist.{parts_of}
-use Rattle.bs_note_files.proofs.SignatureLemmas.{AreKeysTo, IsEnd}
+use Rattle.bs_note_files.proofs.SignatureLemmas.{AreKnownTo, IsEnd}
 use Rattle.bs_note_files.proofs.signature.unknown_name.Given as goal
 
 abbrev pub decreases-words : goal.decreases-words
@@ -10,5 +9,5 @@ abbrev pub invariant-words : goal.invariant-words
 invariant-words l = record {
   within : l.end ≤ length l.line;
   ends : IsEnd l.line l.end;
-  keys : AreKeysTo (parts_of l.raw) l.line l.end;
+  keys : AreKnownTo l.flops l.line l.end;
 }

@@ -1,7 +1,7 @@
 use Rattle.std.proofs.Common.{◌≡◌, ℕ, false, Option, subst, sym}
 use Rattle.std.specs.Prelude.{IfSome, option_map}
-use Rattle.bs_solve_recording.specs.declared.stage.Stage.TheVariants.{Ended}
-use Rattle.bs_solve_recording.specs.Solver.{HasEnded}
+use Rattle.bs_solve_lemmas.specs.declared.stage.Stage.TheVariants.{Ended}
+use Rattle.bs_solve_lemmas.specs.Solver.{HasEnded}
 use Rattle.bs_preimage.proofs.ProbeLemmas.{may_probe, turned_solved, turned_end, once_probed}
 use Rattle.bs_preimage.proofs.probe.probe_once.Goals as goal
 

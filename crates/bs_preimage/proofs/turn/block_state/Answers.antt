@@ -1,6 +1,6 @@
 use Rattle.std.proofs.Common.{subst}
 use Rattle.bs_clause.specs.Literal.{Clause}
-use Rattle.bs_solve_recording.specs.Solver.{HasBlocked}
+use Rattle.bs_solve_lemmas.specs.Solver.{HasBlocked}
 use Rattle.bs_preimage.proofs.TurnLemmas.{blocked_extends}
 use Rattle.bs_preimage.proofs.turn.block_state.Goals as goal
 

@@ -1,5 +1,5 @@
 use Rattle.std.proofs.Common.{subst, []}
-use Rattle.bs_solve_recording.specs.Solver.{HasSolved}
+use Rattle.bs_solve_lemmas.specs.Solver.{HasSolved}
 use Rattle.bs_preimage.proofs.OrderLemmas.{if_ok}
 use Rattle.bs_preimage.proofs.TurnLemmas.{found_turn, refuted_turn, spent_turn, follows_extends, extends_then}
 use Rattle.bs_preimage.proofs.turn.take_turn.Goals as goal

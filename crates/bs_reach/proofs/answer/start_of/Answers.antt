@@ -1,5 +1,5 @@
 use Rattle.std.proofs.Common.{ap, sym, subst}
-use Rattle.bs_solve_recording.specs.Solver.{SolverState}
+use Rattle.bs_solve_lemmas.specs.Solver.{SolverState}
 use Rattle.bs_reach.specs.FailedAssumptions.{AreFailedAssumptions}
 use Rattle.bs_reach.proofs.answer.start_of.Goals as goal
 

@@ -2,8 +2,8 @@ use Rattle.std.proofs.Common.{◌≡◌, sym, ◌∙◌}
 use Rattle.std.proofs.lemmas.Bool.{false≢true}
 use Rattle.bs_net.specs.Circuit.{reset_state}
 use Rattle.bs_net.specs.Netlist.{circuit}
-use Rattle.bs_seen.specs.Seen.{is_shown, Shows}
-use Rattle.bs_seen.proofs.SeenLemmas.{shows_where, shown_where}
+use Rattle.bs_scan.specs.Seen.{is_shown, Shows}
+use Rattle.bs_scan.proofs.SeenLemmas.{shows_where, shown_where}
 use Rattle.bs_reach.proofs.frames.bounded.Goals as goal
 
 pub at_reset-requires : goal.at_reset-requires

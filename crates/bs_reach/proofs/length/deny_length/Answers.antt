@@ -1,8 +1,8 @@
 use Rattle.std.proofs.Common.{◌+◌, ap, sym, subst}
 use Rattle.bs_reach_unrolled.specs.Unrolled.{length_assumes}
 use Rattle.bs_solve.specs.Failure.{FailsBy}
-use Rattle.bs_solve_recording.specs.Stages.{is_solved}
-use Rattle.bs_solve_recording.specs.Solver.{SolverState}
+use Rattle.bs_solve_lemmas.specs.Stages.{is_solved}
+use Rattle.bs_solve_lemmas.specs.Solver.{SolverState}
 use Rattle.bs_reach.proofs.LengthLemmas.{activation_is, refuted_by}
 use Rattle.bs_reach.proofs.FailedAssumptionLemmas.{due_of}
 use Rattle.bs_reach.proofs.length.deny_length.Goals as goal

@@ -1,6 +1,6 @@
 use Rattle.std.proofs.Common.{◌≡◌, ◌+◌, ◌*◌, subst}
 use Rattle.bs_log.specs.Refusal.{history_of}
-use Rattle.bs_solve_recording.specs.Solver.{HasSolved}
+use Rattle.bs_solve_lemmas.specs.Solver.{HasSolved}
 use Rattle.bs_reach_unrolled.proofs.RaisedLemmas.{assumed_range, assumed_distinct}
 use Rattle.bs_reach.proofs.LengthLemmas.{begun_vars, activation_is, shown_by, spent_by, refuted_by, right_in}
 use Rattle.bs_reach.proofs.length.try_length.Goals as goal

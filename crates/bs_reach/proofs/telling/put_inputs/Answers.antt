@@ -1,6 +1,6 @@
 use Rattle.std.proofs.Common.{◌≡◌, ◌++◌, ◌∷◌, ◌∙◌, [], List, Bool, ap, sym, ℕ, zero-add, rules}
 use Rattle.std.proofs.lemmas.List.FromFn.{map-range_with_len_more}
-use Rattle.bs_solve_recording.specs.Values.{value_of}
+use Rattle.bs_solve_lemmas.specs.Values.{value_of}
 use Rattle.bs_encode.specs.Cycle.{bits_on}
 use Rattle.bs_reach_unrolled.specs.Unrolled.{inputs_at}
 use Rattle.bs_reach.proofs.telling.put_inputs.Goals as goal

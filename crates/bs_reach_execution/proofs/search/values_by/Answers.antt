@@ -1,5 +1,5 @@
 use Rattle.std.proofs.Common.{subst}
-use Rattle.bs_solve_recording.specs.Solver.{HasSolved}
+use Rattle.bs_solve_lemmas.specs.Solver.{HasSolved}
 use Rattle.bs_reach_execution.proofs.SearchLemmas.{activation_within, values_reach}
 use Rattle.bs_reach_execution.proofs.search.values_by.Goals as goal
 

@@ -1,5 +1,5 @@
 use Rattle.std.proofs.Common.{sym, ◌∙◌}
-use Rattle.bs_seen.proofs.SeenLemmas.{shows_where}
+use Rattle.bs_scan.proofs.SeenLemmas.{shows_where}
 use Rattle.bs_reach_execution.proofs.trial.ends_in.Goals as goal
 
 pub returns : goal.returns

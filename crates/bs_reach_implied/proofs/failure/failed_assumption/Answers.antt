@@ -1,8 +1,8 @@
 use Rattle.std.proofs.Common.{subst, sym, ◌∙◌}
 use Rattle.std.specs.Prelude.{IfSome}
 use Rattle.bs_clause.specs.Literal.{Clause}
-use Rattle.bs_seen.specs.Seen.{kept}
-use Rattle.bs_seen.proofs.KeptLemmas.{kept_there}
+use Rattle.bs_scan.specs.Seen.{kept}
+use Rattle.bs_scan.proofs.KeptLemmas.{kept_there}
 use Rattle.bs_encode.specs.Assuming.{signed}
 use Rattle.bs_encode.proofs.SeenSigns.{kept_signed}
 use Rattle.bs_reach_unrolled.specs.Unrolled.{next_at, unrolled}

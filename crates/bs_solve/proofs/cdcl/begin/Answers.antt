@@ -3,7 +3,7 @@ use Rattle.bs_solve.specs.declared.first_level.Start.TheVariants.{Failed, Clash,
 use Rattle.bs_solve.specs.Database.{entries}
 use Rattle.bs_solve.specs.FirstLevel.{AreShort, HasBegunLevel}
 use Rattle.bs_watch.specs.Watch.{decided}
-use Rattle.bs_solve_recording.proofs.Endings.{no_lemmas, some_and_last}
+use Rattle.bs_solve_lemmas.proofs.Endings.{no_lemmas, some_and_last}
 use Rattle.bs_solve.proofs.Grounds.{ground_low}
 use Rattle.bs_solve.proofs.Beginnings.{begun_denies, begun_clashes, begun_pauses, begun_vars}
 use Rattle.bs_solve.proofs.Refutings.{are_short, over_at_once}

@@ -1,8 +1,8 @@
 use Rattle.std.proofs.Common.{◌≤◌, ◌+◌, length, sym, subst, arith}
-use Rattle.bs_solve_analysis.specs.Marks.{IsClear}
-use Rattle.bs_solve_recording.specs.declared.answer.Answer.TheVariants.{Found, Refuted, Spent}
-use Rattle.bs_solve_recording.specs.Ending.{SomeLemmas}
-use Rattle.bs_solve_recording.proofs.Endings.{some_lemmas, some_and_last}
+use Rattle.bs_solve_lemmas.specs.Marks.{IsClear}
+use Rattle.bs_solve_lemmas.specs.declared.answer.Answer.TheVariants.{Found, Refuted, Spent}
+use Rattle.bs_solve_lemmas.specs.Ending.{SomeLemmas}
+use Rattle.bs_solve_lemmas.proofs.Endings.{some_lemmas, some_and_last}
 use Rattle.bs_solve.specs.Searching.{IsSomeRound, IsOver}
 use Rattle.bs_solve.proofs.Rounds.{conflict_in, first_conflict_in, round_decides, round_learns}
 use Rattle.bs_solve.proofs.Refutings.{over_found, over_spent, over_refuted, logged_after}

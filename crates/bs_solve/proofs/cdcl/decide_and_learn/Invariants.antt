@@ -1,5 +1,5 @@
 use Rattle.std.proofs.Common.{◌≡◌, ◌-◌, ◌+◌, ◌*◌, ◌≤◌, length}
-use Rattle.bs_solve_analysis.specs.Marks.{IsClear}
+use Rattle.bs_solve_lemmas.specs.Marks.{IsClear}
 use Rattle.bs_solve.specs.Searching.{IsSomeRound}
 use Rattle.bs_solve.proofs.cdcl.decide_and_learn.Given as goal
 

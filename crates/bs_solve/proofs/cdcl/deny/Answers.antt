@@ -5,7 +5,7 @@ use Rattle.bs_clause.specs.Literal.{negation}
 use Rattle.bs_clause.specs.Range.{HasVariables}
 use Rattle.bs_arena.specs.Arena.{held_at}
 use Rattle.bs_log.specs.declared.origin.Origin.TheVariants.{Learnt as FromConflict}
-use Rattle.bs_solve_recording.proofs.Searching.{have_variables}
+use Rattle.bs_solve_lemmas.proofs.Searching.{have_variables}
 use Rattle.bs_solve.specs.Database.{entries, id_in}
 use Rattle.bs_solve.specs.Ground.{HasAdded}
 use Rattle.bs_solve.proofs.Beginnings.{failed_assumption_reason, failed_assumption_unit, denied_range, denied_by, denied_is_new, learnt_unit, denied_variable, denied_vars}

@@ -2,9 +2,9 @@ use Rattle.std.proofs.Common.{◌≡◌, ◌∙◌, reverse, map, ap, sym, subst
 use Rattle.bs_clause.specs.Range.{HasVariables}
 use Rattle.bs_log.specs.Refusal.{NoneRefused}
 use Rattle.bs_log.specs.Lean.{LemmasAreLean}
-use Rattle.bs_solve_recording.specs.Walk.{IsLoggedLearnt}
-use Rattle.bs_solve_recording.specs.ProofLog.{with_lemma}
-use Rattle.bs_solve_recording.proofs.Searching.{have_variables}
+use Rattle.bs_solve_lemmas.specs.Walk.{IsLoggedLearnt}
+use Rattle.bs_solve_lemmas.specs.ProofLog.{with_lemma}
+use Rattle.bs_solve_lemmas.proofs.Searching.{have_variables}
 use Rattle.bs_log.specs.declared.origin.Origin.TheVariants.{Learnt as FromConflict}
 use Rattle.bs_solve.specs.Database.{entries, id_in}
 use Rattle.bs_solve.specs.Ground.{HasAdded, IsOff}

@@ -1,7 +1,7 @@
 use Rattle.std.proofs.Common.{subst, arith}
 use Rattle.bs_solve.specs.Searching.{HasPropagated}
 use Rattle.bs_solve.proofs.Pausings.{quiet_resumes, conflict_resumes, conflict_ends}
-use Rattle.bs_solve_recording.proofs.Endings.{no_lemmas, some_and_last}
+use Rattle.bs_solve_lemmas.proofs.Endings.{no_lemmas, some_and_last}
 use Rattle.bs_solve.proofs.Refutings.{over_at_once}
 use Rattle.bs_solve.proofs.cdcl.resume.Goals as goal
 

@@ -2,8 +2,8 @@ use Rattle.std.proofs.Common.{◌∙◌, length, ap, sym, subst}
 use Rattle.std.proofs.lemmas.List.{length-map}
 use Rattle.bs_watch.specs.Places.{Place}
 use Rattle.bs_watch.proofs.CallerLemmas.{attached_is_live}
-use Rattle.bs_solve_reduction.specs.Notes.{AreOut}
-use Rattle.bs_solve_reduction.proofs.Removals.{live_placed}
+use Rattle.bs_solve_lemmas.specs.Notes.{AreOut}
+use Rattle.bs_solve_lemmas.proofs.Removals.{live_placed}
 use Rattle.bs_solve.proofs.Droppings.{staying_out, has_dropped}
 use Rattle.bs_solve.proofs.dropping.drop_leaving.Goals as goal
 

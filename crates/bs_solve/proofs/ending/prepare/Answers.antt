@@ -1,7 +1,7 @@
 use Rattle.std.proofs.Common.{◌≡◌, ◌≤◌, ◌++◌, ◌∷◌, [], length, take, sym, subst}
 use Rattle.std.specs.List.{filter}
-use Rattle.bs_solve_reduction.specs.Keeping.{Ascends, AreKnown, goes}
-use Rattle.bs_solve_reduction.specs.Notes.{IsNoted}
+use Rattle.bs_solve_lemmas.specs.Keeping.{Ascends, AreKnown, goes}
+use Rattle.bs_solve_lemmas.specs.Notes.{IsNoted}
 use Rattle.bs_solve.specs.Database.{entries, HoldsEntries}
 use Rattle.bs_solve.specs.Ending.{unit_of}
 use Rattle.bs_watch.specs.Places.{IsUnassigned}

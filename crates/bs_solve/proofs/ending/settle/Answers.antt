@@ -1,7 +1,7 @@
 use Rattle.std.proofs.Common.{◌≡◌, ◌≤◌, length, take, arith, ap, ◌∙◌, sym, subst}
 use Rattle.bs_arena.specs.Arena.{Content}
 use Rattle.std.specs.Prelude.{count_by}
-use Rattle.bs_solve_reduction.specs.Keeping.{is_long_row}
+use Rattle.bs_solve_lemmas.specs.Keeping.{is_long_row}
 use Rattle.bs_solve.proofs.Droppings.{fewer}
 use Rattle.bs_solve.proofs.Endings.{settling_range, settled_low, settled_long, settled}
 use Rattle.bs_solve.proofs.ending.settle.Goals as goal

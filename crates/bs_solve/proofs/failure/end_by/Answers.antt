@@ -2,7 +2,7 @@ use Rattle.std.proofs.Common.{◌∙◌, length, sym, subst, arith, ap, inl}
 use Rattle.bs_clause.specs.Range.{HasVariables}
 use Rattle.bs_log.specs.Refusal.{has_distinct_variables}
 use Rattle.bs_log.specs.declared.origin.Origin.TheVariants.{Learnt as FromConflict}
-use Rattle.bs_solve_recording.proofs.Searching.{have_variables, learnt_range}
+use Rattle.bs_solve_lemmas.proofs.Searching.{have_variables, learnt_range}
 use Rattle.bs_solve.specs.Database.{entries}
 use Rattle.bs_solve.specs.Ground.{HasAdded}
 use Rattle.bs_solve.proofs.Failures.{ended_at_rest}

@@ -4,8 +4,8 @@ use Rattle.bs_clause.specs.Range.{HasVariables}
 use Rattle.bs_arena.specs.Arena.{held_at, literals_at}
 use Rattle.bs_log.specs.Refusal.{NoneRefused}
 use Rattle.bs_log.specs.Lean.{LemmasAreLean}
-use Rattle.bs_solve_recording.specs.Walk.{IsLoggedLearnt}
-use Rattle.bs_solve_recording.specs.ProofLog.{with_lemma}
+use Rattle.bs_solve_lemmas.specs.Walk.{IsLoggedLearnt}
+use Rattle.bs_solve_lemmas.specs.ProofLog.{with_lemma}
 use Rattle.bs_solve.specs.Database.{entries, id_in}
 use Rattle.bs_solve.specs.Backjump.{IsSomeLearntClause, JumpsBack}
 use Rattle.bs_solve.proofs.LearningLemmas.{live_range, hints_range, live_distinct, last_decided, quiet_at_last, learnt_from, logged_learnt, lemma_range, lemma_is_new, learns_from, grown_again, entry_again}

@@ -1,6 +1,6 @@
 use Rattle.std.proofs.Common.{subst, sym}
 use Rattle.bs_watch.specs.Places.{literals_of}
-use Rattle.bs_solve_recording.specs.Values.{HasValues}
+use Rattle.bs_solve_lemmas.specs.Values.{HasValues}
 use Rattle.bs_solve.proofs.ValueLemmas.{shown}
 use Rattle.bs_solve.proofs.value.values.Goals as goal
 

@@ -1,4 +1,4 @@
-use Rattle.bs_top_plan.proofs.TellingLemmas.{line_walks, note_walks}
+use Rattle.bs_outside.proofs.TellingLemmas.{line_walks, note_walks}
 use Rattle.bs_top.proofs.ToldLemmas.{alone_of, told_line, told_note}
 use Rattle.bs_top.proofs.generated.load_from.Goals as goal
 

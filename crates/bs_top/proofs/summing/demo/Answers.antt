@@ -1,4 +1,4 @@
-use Rattle.bs_top_plan.proofs.Walking.{alone_as}
+use Rattle.bs_outside.proofs.Walking.{alone_as}
 use Rattle.bs_top_answer.proofs.AnswerLemmas.{alone_stopped, alone_worked, stop_named}
 use Rattle.bs_top_answer.specs.Paths.{path_of}
 use Rattle.bs_top_words.specs.Job.{Demo as Asked}

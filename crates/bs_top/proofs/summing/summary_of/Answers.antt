@@ -4,7 +4,7 @@ use Rattle.bs_scan.specs.declared.dump.Dump.{Dump}
 use Rattle.bs_scan.specs.Crash.{crash_of}
 use Rattle.bs_top_files.specs.Entry.{recording_in}
 use Rattle.bs_top_files.specs.Ready.{moment_files_in}
-use Rattle.bs_top_plan.specs.declared.status.Status.TheVariants.{Done}
+use Rattle.bs_outside.specs.declared.status.Status.TheVariants.{Done}
 use Rattle.bs_top.specs.Finishes.{Summarises}
 use Rattle.bs_top.proofs.summing.summary_of.Goals as goal
 

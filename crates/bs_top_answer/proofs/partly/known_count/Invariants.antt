@@ -1,5 +1,5 @@
 use Rattle.std.proofs.Common.{◌≡◌, ◌≤◌, length, take}
-use Rattle.bs_seen.specs.Seen.{kept}
+use Rattle.bs_scan.specs.Seen.{kept}
 use Rattle.bs_top_answer.proofs.partly.known_count.Given as goal
 
 abbrev pub invariant-places : goal.invariant-places

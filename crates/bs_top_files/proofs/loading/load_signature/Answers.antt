@@ -1,7 +1,7 @@
 use Rattle.std.proofs.lemmas.Result.{err_from_is_err_and}
 use Rattle.bs_top_files.specs.Readings.{signature_in}
 use Rattle.bs_top_files.specs.Noting.{signature_noted}
-use Rattle.bs_top_plan.proofs.TellingLemmas.{diagnosed_fetch_stop, diagnosed_reads}
+use Rattle.bs_outside.proofs.TellingLemmas.{diagnosed_fetch_stop, diagnosed_reads}
 use Rattle.bs_top_files.proofs.loading.load_signature.Goals as goal
 
 pub returns-in_err-bytes-clause-walks : goal.returns-in_err-bytes-clause-walks

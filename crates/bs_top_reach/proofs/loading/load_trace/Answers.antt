@@ -1,6 +1,6 @@
 use Rattle.std.proofs.lemmas.Result.{err_from_is_err_and}
 use Rattle.bs_top_reach.specs.Readings.{trace_noted, trace_read}
-use Rattle.bs_top_plan.proofs.TellingLemmas.{diagnosed_fetch_stop, diagnosed_reads}
+use Rattle.bs_outside.proofs.TellingLemmas.{diagnosed_fetch_stop, diagnosed_reads}
 use Rattle.bs_top_reach.proofs.loading.load_trace.Goals as goal
 
 pub returns-in_err-bytes-clause-walks : goal.returns-in_err-bytes-clause-walks

@@ -1,4 +1,4 @@
-use Rattle.bs_top_plan.proofs.TellingLemmas.{diagnosed_end, diagnosed_stop, diagnosed_then}
+use Rattle.bs_outside.proofs.TellingLemmas.{diagnosed_end, diagnosed_stop, diagnosed_then}
 use Rattle.bs_top_reach.proofs.searched.load_searched.Goals as goal
 
 pub returns-in-Ok-clause-walks : goal.returns-in-Ok-clause-walks

@@ -1,6 +1,6 @@
 use Rattle.std.proofs.Common.{◌∙◌, length, ap, sym}
 use Rattle.bs_net.specs.Netlist.{Checked, circuit}
-use Rattle.bs_lanes_planes.proofs.PlaneLemmas.{length_lane}
+use Rattle.bs_lanes.proofs.PlaneLemmas.{length_lane}
 use Rattle.bs_chip.proofs.player.Player.enter.Goals as goal
 
 pub load-requires : goal.load-requires

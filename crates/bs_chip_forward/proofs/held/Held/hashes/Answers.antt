@@ -1,7 +1,7 @@
 use Rattle.std.proofs.Common.{◌≤◌, ◌*◌, ℕ, List, ap, subst, sym}
 use Rattle.bs_net.specs.Netlist.{circuit}
 use Rattle.bs_lanes.specs.Lanes.{AreStepped}
-use Rattle.bs_lanes_planes.specs.Planes.{lane}
+use Rattle.bs_lanes.specs.Planes.{lane}
 use Rattle.bs_chip.specs.Hashes.{hash_of, ListsEach}
 use Rattle.bs_chip_forward.specs.Forward.{Holding, TellLeads}
 use Rattle.bs_chip_forward.specs.Groups.{parities_of}

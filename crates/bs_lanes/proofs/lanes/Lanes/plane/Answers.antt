@@ -2,7 +2,7 @@ use Rattle.std.proofs.Common.{◌≡◌, ◌∙◌, ◌<◌, ℕ, List, arith, l
 use Rattle.std.proofs.lemmas.Grind.{get_or_default_zero}
 use Rattle.bs_net.specs.Netlist.{circuit}
 use Rattle.bs_stim.specs.Packing.{bit_in}
-use Rattle.bs_lanes_planes.specs.Planes.{bit_place, IsWidened}
+use Rattle.bs_lanes.specs.Planes.{bit_place, IsWidened}
 use Rattle.bs_lanes.specs.Lanes.{LaneTable}
 use Rattle.bs_lanes.specs.Layout.{place_of}
 use Rattle.bs_lanes.proofs.LayoutLemmas.{plane_by_net}

@@ -1,6 +1,6 @@
 use Rattle.std.proofs.Common.{◌≡◌, ◌≤◌, ◌+◌, ◌*◌, ◌++◌, length, take}
 use Rattle.std.specs.List.{flat_map}
-use Rattle.bs_note_places.specs.Quotes.{shown_byte}
+use Rattle.bs_net_names.specs.Quotes.{shown_byte}
 use Rattle.bs_note_calls.proofs.brief.Brief.push_shown.Given as goal
 
 abbrev pub invariant-bytes : goal.invariant-bytes

@@ -5,8 +5,8 @@ use Rattle.bs_net.specs.Netlist.{circuit}
 use Rattle.bs_scan.specs.Choice.{Chosen}
 use Rattle.bs_encode.specs.Encoded.{Encoded}
 use Rattle.bs_encode.specs.Depth.{encoding_by}
-use Rattle.bs_solve_recording.specs.Solver.{SolverState}
-use Rattle.bs_solve_recording.proofs.CallerLemmas.{axioms_stand}
+use Rattle.bs_solve_lemmas.specs.Solver.{SolverState}
+use Rattle.bs_solve_lemmas.proofs.CallerLemmas.{axioms_stand}
 use Rattle.bs_preimage.specs.Rest.{IsPrepared, made}
 use Rattle.bs_preimage.proofs.preimage.Preimage.over.Goals as goal
 

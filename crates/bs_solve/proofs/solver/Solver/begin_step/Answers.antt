@@ -1,6 +1,6 @@
 use Rattle.std.proofs.Common.{◌≡◌, ◌+◌, ◌<◌, ◌^◌, false, sym, subst}
-use Rattle.bs_solve_recording.specs.declared.stage.Stage.TheVariants.{Idle, Begun}
-use Rattle.bs_solve_recording.specs.Solver.{SolverState}
+use Rattle.bs_solve_lemmas.specs.declared.stage.Stage.TheVariants.{Idle, Begun}
+use Rattle.bs_solve_lemmas.specs.Solver.{SolverState}
 use Rattle.bs_solve.specs.Starting.{IsEngine}
 use Rattle.bs_solve.proofs.Engines.{ready_begun, engine_begun}
 use Rattle.bs_solve.proofs.solver.Solver.begin_step.Goals as goal

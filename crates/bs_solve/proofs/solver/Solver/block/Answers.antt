@@ -4,14 +4,14 @@ use Rattle.bs_log.specs.Refusal.{has_distinct_variables, is_block_of}
 use Rattle.bs_log.specs.History.{step_of}
 use Rattle.bs_log.specs.LineForms.{HasVariable}
 use Rattle.bs_clause.specs.Range.{HasVariables}
-use Rattle.bs_solve_recording.specs.declared.stage.Stage.TheVariants.{Blocked}
-use Rattle.bs_solve_recording.specs.Solver.{SolverState}
-use Rattle.bs_solve_recording.proofs.Solving.{solved_inside, activation_is_new, block_distinct, block_fits, block_range, ready_blocked, has_blocked}
-use Rattle.bs_solve_recording.proofs.Searching.{have_variables}
-use Rattle.bs_solve_recording.specs.Search.{assumed}
+use Rattle.bs_solve_lemmas.specs.declared.stage.Stage.TheVariants.{Blocked}
+use Rattle.bs_solve_lemmas.specs.Solver.{SolverState}
+use Rattle.bs_solve_lemmas.proofs.Solving.{solved_inside, activation_is_new, block_distinct, block_fits, block_range, ready_blocked, has_blocked}
+use Rattle.bs_solve_lemmas.proofs.Searching.{have_variables}
+use Rattle.bs_solve_lemmas.specs.Search.{assumed}
 use Rattle.bs_solve.specs.Blocking.{HasHeld}
 use Rattle.bs_log.specs.declared.origin.Origin.TheVariants.{Blocked as FromBlock}
-use Rattle.bs_solve_recording.specs.ProofLog.{ProofLog}
+use Rattle.bs_solve_lemmas.specs.ProofLog.{ProofLog}
 use Rattle.bs_solve.proofs.Entries.{stands_grown}
 use Rattle.bs_solve.specs.Pausing.{IsGrounded}
 use Rattle.bs_solve.proofs.Engines.{engine_more, kept_grounded, block_of_step}

@@ -2,10 +2,10 @@ use Rattle.std.proofs.Common.{◌≡◌, ◌-◌, ◌∷◌, ◌++◌, [], ap, �
 use Rattle.std.specs.Prelude.{All}
 use Rattle.bs_clause.specs.Literal.{negation}
 use Rattle.bs_clause.specs.Range.{HasVariables}
-use Rattle.bs_solve_recording.specs.ProofLog.{standing, without}
-use Rattle.bs_solve_recording.specs.Solver.{SolverState, leaving, retired}
-use Rattle.bs_solve_recording.proofs.Solving.{step_facts, ends_step, activation_is_new}
-use Rattle.bs_solve_recording.proofs.StepEnds.{ready_after_end}
+use Rattle.bs_solve_lemmas.specs.ProofLog.{standing, without}
+use Rattle.bs_solve_lemmas.specs.Solver.{SolverState, leaving, retired}
+use Rattle.bs_solve_lemmas.proofs.Solving.{step_facts, ends_step, activation_is_new}
+use Rattle.bs_solve_lemmas.proofs.StepEnds.{ready_after_end}
 use Rattle.bs_solve.specs.Database.{entries}
 use Rattle.bs_solve.specs.Dropping.{without_ids, AreKnownIn}
 use Rattle.bs_solve.specs.Ending.{unit_of}

@@ -1,7 +1,7 @@
 use Rattle.std.proofs.Common.{◌≡◌, false, sym, subst}
 use Rattle.bs_log.specs.Refusal.{history_of}
 use Rattle.bs_log.specs.Lean.{StepsLeaveKept}
-use Rattle.bs_solve_recording.specs.Solver.{SolverState}
+use Rattle.bs_solve_lemmas.specs.Solver.{SolverState}
 use Rattle.bs_solve.proofs.solver.Solver.into_log.Goals as goal
 
 pub returns-clause-steps : goal.returns-clause-steps

@@ -1,6 +1,6 @@
 use Rattle.std.proofs.Common.{refl, sym, ap, subst}
 use Rattle.bs_solve.specs.Ground.{IsOwn}
-use Rattle.bs_solve_recording.specs.ProofLog.{ProofLog}
+use Rattle.bs_solve_lemmas.specs.ProofLog.{ProofLog}
 use Rattle.bs_solve.proofs.Startings.{whole_new}
 use Rattle.bs_solve.proofs.Engines.{engine_new}
 use Rattle.bs_solve.proofs.solver.Solver.over.Goals as goal

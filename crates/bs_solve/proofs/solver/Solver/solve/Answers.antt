@@ -2,10 +2,10 @@ use Rattle.std.proofs.Common.{◌≡◌, ◌<◌, ◌+◌, ◌^◌, ◌∙◌, t
 use Rattle.std.specs.Prelude.{All}
 use Rattle.bs_clause.specs.Range.{HasVariables}
 use Rattle.bs_log.specs.Refusal.{has_distinct_variables}
-use Rattle.bs_solve_recording.specs.Stages.{is_begun}
-use Rattle.bs_solve_recording.specs.Solver.{SolverState, MaySolve, Follows}
-use Rattle.bs_solve_recording.proofs.Solving.{follows_lemmas}
-use Rattle.bs_solve_analysis.specs.Marks.{IsClear}
+use Rattle.bs_solve_lemmas.specs.Stages.{is_begun}
+use Rattle.bs_solve_lemmas.specs.Solver.{SolverState, MaySolve, Follows}
+use Rattle.bs_solve_lemmas.proofs.Solving.{follows_lemmas}
+use Rattle.bs_solve_lemmas.specs.Marks.{IsClear}
 use Rattle.bs_solve.proofs.Engines.{engine_solved, begun_own}
 use Rattle.bs_solve.proofs.Startings.{few_new, may_search, ranges_as, kept_for_search, whole_after_solve, solved_over}
 use Rattle.bs_solve.proofs.solver.Solver.solve.Goals as goal

@@ -2,17 +2,17 @@ use Rattle.std.proofs.Common.{◌≡◌, ◌<◌, ◌+◌, ◌^◌, ◌∙◌, t
 use Rattle.std.specs.Prelude.{All}
 use Rattle.bs_log.specs.History.{axioms_from}
 use Rattle.bs_log.specs.Refusal.{has_distinct_variables, denies, NoneRefused}
-use Rattle.bs_solve_recording.specs.declared.answer.Answer.TheVariants.{Refuted}
-use Rattle.bs_solve_recording.specs.declared.stage.Stage.TheVariants.{Begun, Ended}
-use Rattle.bs_solve_recording.specs.ProofLog.{ProofLog}
-use Rattle.bs_solve_recording.specs.Walk.{IsLoggedLearnt}
-use Rattle.bs_solve_recording.specs.Stages.{is_begun}
-use Rattle.bs_solve_recording.specs.Solver.{SolverState, MaySolve, Follows}
-use Rattle.bs_solve_recording.proofs.CallerLemmas.{begun_clauses}
-use Rattle.bs_solve_recording.proofs.Endings.{no_lemmas, some_and_last}
-use Rattle.bs_solve_recording.proofs.Solving.{follows_lemmas}
-use Rattle.bs_solve_recording.proofs.Standing.{learnt_of_axioms}
-use Rattle.bs_solve_analysis.specs.Marks.{IsClear}
+use Rattle.bs_solve_lemmas.specs.declared.answer.Answer.TheVariants.{Refuted}
+use Rattle.bs_solve_lemmas.specs.declared.stage.Stage.TheVariants.{Begun, Ended}
+use Rattle.bs_solve_lemmas.specs.ProofLog.{ProofLog}
+use Rattle.bs_solve_lemmas.specs.Walk.{IsLoggedLearnt}
+use Rattle.bs_solve_lemmas.specs.Stages.{is_begun}
+use Rattle.bs_solve_lemmas.specs.Solver.{SolverState, MaySolve, Follows}
+use Rattle.bs_solve_lemmas.proofs.CallerLemmas.{begun_clauses}
+use Rattle.bs_solve_lemmas.proofs.Endings.{no_lemmas, some_and_last}
+use Rattle.bs_solve_lemmas.proofs.Solving.{follows_lemmas}
+use Rattle.bs_solve_lemmas.proofs.Standing.{learnt_of_axioms}
+use Rattle.bs_solve_lemmas.specs.Marks.{IsClear}
 use Rattle.bs_solve.proofs.Refutings.{over_at_once}
 use Rattle.bs_solve.specs.Failure.{FailsBy}
 use Rattle.bs_solve.specs.Starting.{IsLeftAt}

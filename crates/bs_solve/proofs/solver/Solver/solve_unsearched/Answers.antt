@@ -1,5 +1,5 @@
 use Rattle.std.proofs.Common.{◌+◌, sym, subst, arith}
-use Rattle.bs_solve_recording.specs.Solver.{SolverState, MaySolve}
+use Rattle.bs_solve_lemmas.specs.Solver.{SolverState, MaySolve}
 use Rattle.bs_solve.proofs.Engines.{engine_opened, has_opened}
 use Rattle.bs_solve.proofs.Startings.{few_new}
 use Rattle.bs_solve.proofs.solver.Solver.solve_unsearched.Goals as goal

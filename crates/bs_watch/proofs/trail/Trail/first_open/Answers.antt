@@ -2,7 +2,7 @@ use Rattle.std.proofs.Common.{◌≡◌, ◌+◌, List, false, length, ap, ◌�
 use Rattle.std.specs.Prelude.{vec_capacity}
 use Rattle.bs_clause.specs.Literal.{Literal}
 use Rattle.bs_clause.specs.declared.literal.Var.{Var}
-use Rattle.bs_solve_order.specs.Open.{HoldsOpen, AreAllAssigned, is_assigned}
+use Rattle.bs_arena.specs.Open.{HoldsOpen, AreAllAssigned, is_assigned}
 use Rattle.bs_watch.specs.Trail.{AreAssignedBelow, IsOpenVariable}
 use Rattle.bs_watch.specs.Places.{TrailState, literals_of}
 use Rattle.bs_watch.proofs.TableLemmas.{literals_in, filled_trail, open_here, all_here, if_some_more, if_none_more}

@@ -1,6 +1,0 @@
-use Rattle.bs_draws.specs.Draws.{draws_of}
-use Rattle.bs_draws.proofs.draws.Draws.new.Goals as goal
-
-pub returns : goal.returns
-unfolding draws_of
-returns c = c.new.ensures

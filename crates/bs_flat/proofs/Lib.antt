@@ -1,3 +1,0 @@
-pub mod CountLemmas
-pub mod FlattenLemmas
-pub mod ReaderLemmas

@@ -1,4 +1,0 @@
--- What a text is answered with.
-pub mod Answers
--- What its modules are answered with.
-pub mod Modules

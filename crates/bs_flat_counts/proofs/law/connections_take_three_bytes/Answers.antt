@@ -1,5 +1,0 @@
-use Rattle.bs_flat_counts.proofs.LexemeNumbers.{numbers_take_three_bytes}
-use Rattle.bs_flat_counts.proofs.law.connections_take_three_bytes.Goals as goal
-
-pub returns : goal.returns
-returns c = numbers_take_three_bytes

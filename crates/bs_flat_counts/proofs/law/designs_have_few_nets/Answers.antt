@@ -1,5 +1,0 @@
-use Rattle.bs_flat_counts.proofs.DesignLemmas.{designs_have_few_nets}
-use Rattle.bs_flat_counts.proofs.law.designs_have_few_nets.Goals as goal
-
-pub returns : goal.returns
-returns c = designs_have_few_nets

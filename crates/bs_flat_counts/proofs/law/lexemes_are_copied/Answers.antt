@@ -1,5 +1,0 @@
-use Rattle.bs_flat_counts.proofs.LexemeNumbers.{lexemes_are_copied}
-use Rattle.bs_flat_counts.proofs.law.lexemes_are_copied.Goals as goal
-
-pub returns : goal.returns
-returns c = lexemes_are_copied

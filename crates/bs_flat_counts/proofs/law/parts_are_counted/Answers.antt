@@ -1,5 +1,0 @@
-use Rattle.bs_flat_counts.proofs.BuiltNames.{parts_are_counted}
-use Rattle.bs_flat_counts.proofs.law.parts_are_counted.Goals as goal
-
-pub returns : goal.returns
-returns c = parts_are_counted

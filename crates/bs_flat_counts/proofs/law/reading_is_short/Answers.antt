@@ -1,5 +1,0 @@
-use Rattle.bs_flat_counts.proofs.ShortModules.{reading_is_short}
-use Rattle.bs_flat_counts.proofs.law.reading_is_short.Goals as goal
-
-pub returns : goal.returns
-returns c = reading_is_short

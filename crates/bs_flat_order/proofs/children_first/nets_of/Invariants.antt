@@ -1,6 +1,0 @@
-use Rattle.std.proofs.Common.{◌≡◌, take}
-use Rattle.bs_flat_order.specs.Gates.{nets_of}
-use Rattle.bs_flat_order.proofs.children_first.nets_of.Given as goal
-
-abbrev pub invariant-modules : goal.invariant-modules
-invariant-modules l = l.nets ≡ nets_of (take l.module-index l.modules)

@@ -1,4 +1,0 @@
-pub mod PortLemmas
-pub mod GrowLemmas
-pub mod SpanLemmas
-pub mod WireLemmas

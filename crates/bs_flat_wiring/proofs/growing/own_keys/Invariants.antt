@@ -1,5 +1,0 @@
-use Rattle.std.proofs.Common.{◌≡◌, take}
-use Rattle.bs_flat_wiring.proofs.growing.own_keys.Given as goal
-
-abbrev pub invariant-names : goal.invariant-names
-invariant-names l = l.keys ≡ take l.i l.names

@@ -1,0 +1,5 @@
+use Rattle.bs_top_answer.proofs.NoteLemmas.{made_due}
+use Rattle.bs_inspect_plans.proofs.lacking.lack_said.Goals as goal
+
+pub returns : goal.returns
+returns c = made_due _ _ _ c.note_made.ensures c.lack_note.ensures

@@ -1,5 +1,0 @@
-use Rattle.bs_lanes_planes.proofs.PlaneLemmas.{has_put_bit}
-use Rattle.bs_lanes_planes.proofs.planes.put_one.Goals as goal
-
-pub returns : goal.returns
-returns c = has_put_bit c.args.words.now c.args.at c.args.low c.requires.word c.requires.low

@@ -1,6 +1,0 @@
-use Rattle.bs_net.specs.Netlist.{parts_of}
-use Rattle.bs_note_places.specs.Nearest.{AreNearestBelow}
-use Rattle.bs_note_places.proofs.nearest.flops_like.Given as goal
-
-abbrev pub invariant-flops : goal.invariant-flops
-invariant-flops l = AreNearestBelow (parts_of l.raw) l.name l.flop l.nearest.items

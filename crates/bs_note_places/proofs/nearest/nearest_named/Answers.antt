@@ -1,5 +1,0 @@
-use Rattle.bs_note_places.proofs.NearestLemmas.{all_below}
-use Rattle.bs_note_places.proofs.nearest.nearest_named.Goals as goal
-
-pub returns : goal.returns
-returns c = all_below _ _ _ c.in_ok-flops.ensures

@@ -1,5 +1,0 @@
-use Rattle.bs_solve_analysis.proofs.Chains.{chains_are_right}
-use Rattle.bs_solve_analysis.proofs.law.reasons_make_hints.Goals as goal
-
-pub returns : goal.returns
-returns c = chains_are_right

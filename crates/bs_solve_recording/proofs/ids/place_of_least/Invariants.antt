@@ -1,8 +1,0 @@
-use Rattle.std.proofs.Common.{◌≤◌, length}
-use Rattle.bs_solve_recording.proofs.ids.place_of_least.Given as goal
-
-abbrev pub invariant-loop-from : goal.invariant-loop-from
-invariant-loop-from l = l.from ≤ length l.ids
-
-abbrev pub decreases-loop-from : goal.decreases-loop-from
-decreases-loop-from l = l.from

@@ -1,5 +1,0 @@
-use Rattle.bs_verilog_grammar.proofs.LawLemmas.{reads_exactly}
-use Rattle.bs_verilog_grammar.proofs.law.netlists_are_in_the_grammar.Goals as goal
-
-pub returns : goal.returns
-returns c = reads_exactly c.args.source.now

@@ -1,7 +1,0 @@
--- What a token is to the grammar, what a module says as it is written, and the productions that relate the two.
-pub mod Symbols
-pub mod Written
-pub mod Productions
--- The reader's syntax value as it is written, and the law.
-pub mod Views
-pub mod Law
