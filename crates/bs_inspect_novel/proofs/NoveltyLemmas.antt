@@ -4,7 +4,7 @@ use Rattle.std.proofs.Common.{refl, ap, sym, subst, ◌∙◌, ◌⊎◌, inl, i
 use Rattle.std.specs.Prelude.{MatchOption}
 use Rattle.std.specs.List.{flat_map}
 use Rattle.std.proofs.lemmas.Bool.{cases_eq, cases_lt}
-use Rattle.std.proofs.lemmas.List.{append-nil, get_or_append_left, get_or_default, get_or_past, get_or-map, get_or_push, length-map, length_push}
+use Rattle.std.proofs.lemmas.List.{append-nil, get_or_append_left, get_or_default, get_or-map, get_or_push, length-map, length_push}
 use Rattle.std.proofs.lemmas.Grind.{flat_map-append}
 use Rattle.bs_net.specs.Circuit.{Circuit}
 use Rattle.bs_net_names.specs.Signals.{Signal, signal_in}
@@ -12,14 +12,9 @@ use Rattle.bs_net_names.specs.declared.signal.Signal.{Signal as CodeSignal}
 use Rattle.bs_scan.specs.Moments.{IsMoment, Run, is_listed, moment}
 use Rattle.bs_inspect_novel.specs.declared.novelty.Novelty.{Novelty}
 use Rattle.bs_inspect_novel.specs.declared.novelty.TheConstants.{MAX_VALUES}
-use Rattle.bs_inspect_novel.specs.Values.{AreOthers, IsNovel, state_bit, value_at, value_in}
+use Rattle.bs_inspect_novel.specs.Values.{AreOthers, IsNovel, value_at, value_in}
 use Rattle.bs_inspect_novel.specs.Novelties.{AreNovelties, IsNovelty, no_signal, one_or_none, signal_at}
 use Rattle.bs_inspect_novel.specs.Known.{AreOwn, AreWhole, IsFirstNew, IsWhole, NoneNew, all_places, found_at}
-
--- ---- one state
-
-pub bit_past : (state : List Bool) (p : ℕ) → length state ≤ p → false ≡ state_bit state p
-bit_past state p le = sym (get_or_past state p false le)
 
 -- ---- the first state
 

@@ -32,7 +32,7 @@ fn text_by_states(
     requires sets { AreWhole (circuit run.now.net.now) (inputs_of run.now.runs.now) run.now.number (all_places signals.now) sets.now }
     ensures { IfOk result (λ text. TellsOf (circuit run.now.net.now) (inputs_of run.now.runs.now) run.now.number most (map signal_in signals.now) text.items) }
 {
-    let novelties = novelties_of(run.alloc, run.net, run.runs, run.number, own, signals, sets)?;
+    let novelties = novelties_of(run, own, signals, sets)?;
     let ordered = ordered(novelties)?;
     let first = first_of(ordered.as_slice(), most);
     let text = novelties_text(run, own, signals, first)?;

@@ -6,13 +6,13 @@ ghost use Rattle.bs_net_names.specs.Signals.{signal_in};
 ghost use Rattle.bs_scan.specs.Moments.{is_listed};
 ghost use Rattle.bs_stim.specs.Runs.{inputs_of};
 ghost use Rattle.bs_inspect_novel.specs.Novelties.{AreNovelties, IsNovelty, novelty_cmp, one_or_none};
-ghost use Rattle.bs_inspect_novel.specs.Values.{state_bit, value_in};
+ghost use Rattle.bs_inspect_novel.specs.Values.{value_in};
 ghost use Rattle.bs_inspect_novel.specs.Known.{all_places, AreOwn, AreWhole, found_at, IsFirstNew, IsWhole, NoneNew};
 
+use crate::run::Run;
 use bs_bits::{Bits, List, NoMemory};
-use bs_net::Netlist;
+use bs_inspect_report::bit_at;
 use bs_net_names::Signal;
-use bs_stim::Runs;
 use std::alloc::Global;
 
 /// How many values other runs may have of a signal that is told.
@@ -26,25 +26,13 @@ pub struct Novelty {
     pub count: usize,
 }
 
-/// The bit at a place of a state, and 0 past its end.
-#[tactic(auto, using(crate::proofs::NoveltyLemmas::bit_past))]
-fn state_bit(state: &Bits, place: u32) -> bool
-    ensures { result ≡ state_bit state.now place }
-{
-    if (place as usize) < state.len() {
-        state.get(place as usize)
-    } else {
-        false
-    }
-}
-
 /// The value of a signal in a state.
 fn value_in(alloc: Global, state: &Bits, places: &[u32]) -> Result<Bits, NoMemory>
     ensures { IfOk result (λ bits. bits ≡ value_in state.now places.now) }
 {
     let mut bits = Bits::new(alloc);
     'places: for place in places {
-        bits.push(state_bit(state, *place))?;
+        bits.push(bit_at(state, *place as usize))?;
     }
     Ok(bits)
 }
@@ -104,26 +92,20 @@ fn found_at(place: usize, count: usize, cycle: Option<usize>) -> Option<Novelty>
 /// What is found of a signal, by the states of the run.
 #[tactic(auto, using(crate::proofs::NoveltyLemmas::over_is))]
 fn find(
-    alloc: Global,
-    net: &Netlist,
-    runs: &Runs,
-    number: u32,
+    run: &Run<'_>,
     own: &List<Bits>,
     place: usize,
     places: &[u32],
     values: &List<Bits>,
 ) -> Result<Option<Novelty>, NoMemory>
-    requires own { AreOwn (circuit net.now) (inputs_of runs.now) number own.now }
-    requires whole { IsWhole (circuit net.now) (inputs_of runs.now) number places.now values.now }
-    ensures { IfOk result (λ found. IsNovelty (circuit net.now) (inputs_of runs.now) number place places.now found) }
+    requires own { AreOwn (circuit run.now.net.now) (inputs_of run.now.runs.now) run.now.number own.now }
+    requires whole { IsWhole (circuit run.now.net.now) (inputs_of run.now.runs.now) run.now.number places.now values.now }
+    ensures { IfOk result (λ found. IsNovelty (circuit run.now.net.now) (inputs_of run.now.runs.now) run.now.number place places.now found) }
 {
-    let _net = net;
-    let _runs = runs;
-    let _number = number;
     if values.len() > MAX_VALUES {
         return Ok(None);
     }
-    let cycle = first_new(alloc, own, places, values)?;
+    let cycle = first_new(run.alloc, own, places, values)?;
     Ok(found_at(place, values.len(), cycle))
 }
 
@@ -142,22 +124,19 @@ fn put(novelties: &mut Vec<Novelty>, found: Option<Novelty>) -> Result<(), NoMem
 
 /// What is found of the signals, in order.
 pub(crate) fn novelties_of(
-    alloc: Global,
-    net: &Netlist,
-    runs: &Runs,
-    number: u32,
+    run: &Run<'_>,
     own: &List<Bits>,
     signals: &[Signal<'_>],
     sets: &[List<Bits>],
 ) -> Result<Vec<Novelty>, NoMemory>
-    requires own { AreOwn (circuit net.now) (inputs_of runs.now) number own.now }
-    requires sets { AreWhole (circuit net.now) (inputs_of runs.now) number (all_places signals.now) sets.now }
-    ensures { IfOk result (λ novelties. AreNovelties (circuit net.now) (inputs_of runs.now) number (map signal_in signals.now) (length signals.now) novelties.items) }
+    requires own { AreOwn (circuit run.now.net.now) (inputs_of run.now.runs.now) run.now.number own.now }
+    requires sets { AreWhole (circuit run.now.net.now) (inputs_of run.now.runs.now) run.now.number (all_places signals.now) sets.now }
+    ensures { IfOk result (λ novelties. AreNovelties (circuit run.now.net.now) (inputs_of run.now.runs.now) run.now.number (map signal_in signals.now) (length signals.now) novelties.items) }
 {
-    let mut novelties = Vec::new(alloc);
+    let mut novelties = Vec::new(run.alloc);
     'signals: for i in 0..signals.len() {
         let places = signals[i].places.slice();
-        let found = find(alloc, net, runs, number, own, i, places, &sets[i])?;
+        let found = find(run, own, i, places, &sets[i])?;
         put(&mut novelties, found)?;
     }
     Ok(novelties)

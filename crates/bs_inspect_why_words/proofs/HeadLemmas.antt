@@ -79,16 +79,27 @@ steps_told t a b c d e t₁ t₂ t₃ t₄ t₅ h₁ h₂ h₃ h₄ h₅ =
     ∙ (append_assoc (((t ++ a) ++ b) ++ c) d e
     ∙ (append_assoc ((t ++ a) ++ b) c (d ++ e) ∙ (append_assoc (t ++ a) b (c ++ (d ++ e)) ∙ append_assoc t a (b ++ (c ++ (d ++ e)))))))
 
--- six pieces and a line feed
-pub line_put : (t a b c d e f t₁ t₂ t₃ t₄ t₅ t₆ t₇ : List ℕ) → t₁ ≡ t ++ a → t₂ ≡ t₁ ++ b → t₃ ≡ t₂ ++ c → t₄ ≡ t₃ ++ d → t₅ ≡ t₄ ++ e →
-    t₆ ≡ t₅ ++ f → t₇ ≡ t₆ ++ 10 ∷ [] → t₇ ≡ t ++ ((a ++ (b ++ (c ++ (d ++ (e ++ f))))) ++ 10 ∷ [])
-line_put t a b c d e f t₁ t₂ t₃ t₄ t₅ t₆ t₇ h₁ h₂ h₃ h₄ h₅ h₆ h₇ =
-    let six : t₆ ≡ t ++ (a ++ (b ++ (c ++ (d ++ (e ++ f))))) =
-    h₆ ∙ (ap (λ (x : List ℕ). x ++ f) (steps_told t a b c d e t₁ t₂ t₃ t₄ t₅ h₁ h₂ h₃ h₄ h₅) ∙ regroup t a b c d e f) in
-    h₇ ∙ (ap (λ (x : List ℕ). x ++ 10 ∷ []) six ∙ append_assoc t (a ++ (b ++ (c ++ (d ++ (e ++ f))))) (10 ∷ []))
+-- four pieces
+pub front_put : (t a b c d t₁ t₂ t₃ t₄ : List ℕ) → t₁ ≡ t ++ a → t₂ ≡ t₁ ++ b → t₃ ≡ t₂ ++ c → t₄ ≡ t₃ ++ d → t₄ ≡ t ++ (a ++ (b ++ (c ++ d)))
+front_put t a b c d t₁ t₂ t₃ t₄ h₁ h₂ h₃ h₄ =
+    let three : t₃ ≡ ((t ++ a) ++ b) ++ c =
+    h₃ ∙ ap (λ (x : List ℕ). x ++ c) (h₂ ∙ ap (λ (x : List ℕ). x ++ b) h₁) in
+    h₄ ∙ (ap (λ (x : List ℕ). x ++ d) three ∙ regroup t a b c d)
   where
-    regroup : (t a b c d e f : List ℕ) → (t ++ (a ++ (b ++ (c ++ (d ++ e))))) ++ f ≡ t ++ (a ++ (b ++ (c ++ (d ++ (e ++ f)))))
-    regroup t a b c d e f = simp append_assoc
+    regroup : (t a b c d : List ℕ) → (((t ++ a) ++ b) ++ c) ++ d ≡ t ++ (a ++ (b ++ (c ++ d)))
+    regroup t a b c d = simp append_assoc
+
+-- these, two more and a line feed
+pub line_put : (t a b c d e f t₁ t₂ t₃ t₄ : List ℕ) → t₁ ≡ t ++ (a ++ (b ++ (c ++ d))) → t₂ ≡ t₁ ++ e → t₃ ≡ t₂ ++ f → t₄ ≡ t₃ ++ 10 ∷ [] →
+    t₄ ≡ t ++ ((a ++ (b ++ (c ++ (d ++ (e ++ f))))) ++ 10 ∷ [])
+line_put t a b c d e f t₁ t₂ t₃ t₄ h₁ h₂ h₃ h₄ =
+    let six : t₃ ≡ ((t ++ (a ++ (b ++ (c ++ d)))) ++ e) ++ f =
+    h₃ ∙ ap (λ (x : List ℕ). x ++ f) (h₂ ∙ ap (λ (x : List ℕ). x ++ e) h₁) in
+    h₄ ∙ (ap (λ (x : List ℕ). x ++ 10 ∷ []) six ∙ regroup t a b c d e f (10 ∷ []))
+  where
+    regroup : (t a b c d e f z : List ℕ) →
+        (((t ++ (a ++ (b ++ (c ++ d)))) ++ e) ++ f) ++ z ≡ t ++ ((a ++ (b ++ (c ++ (d ++ (e ++ f))))) ++ z)
+    regroup t a b c d e f z = simp append_assoc
 
 pub line_told : (m : Seen) (r : Report) (steps : ℕ) (signals : List Signal) (first last : Episode) (bits befores : List Bool)
     (old new : List ℕ) → bits ≡ fact_bits first.bits →

@@ -93,6 +93,10 @@ from_words steps signals bits befores since =
 abbrev pub before_words : ℕ → List Signal → (bits befores : List Bool) → ℕ → List ℕ
 before_words steps signals bits befores since = if since == 0 then [] else from_words steps signals bits befores since
 
+-- the cycle of a block, its bits, and since when they stand
+abbrev pub front_words : List Signal → List Bool → Episode → List ℕ
+front_words signals bits e = decimal e.at ++ (codes " " ++ (signals_words bits signals ++ since_words e))
+
 abbrev pub head_line : Report → ℕ → List Signal → (bits befores : List Bool) → Episode → ℕ → List ℕ
 head_line r steps signals bits befores e since =
     line (decimal e.at ++ (codes " " ++ (signals_words bits signals ++ (since_words e ++

@@ -17,7 +17,6 @@ use bs_net_facts::{Fact, Moments};
 use bs_report::Report;
 
 /// Appends the lines of causes, by where their stretches begin.
-#[tactic(auto, using(crate::proofs::BlockLemmas::causes_begin, crate::proofs::BlockLemmas::causes_all, crate::proofs::BlockLemmas::stretch_real))]
 fn push_stretches(
     text: &mut Vec<u8>,
     moments: &Moments<'_>,

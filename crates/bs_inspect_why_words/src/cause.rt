@@ -93,7 +93,6 @@ fn push_row(text: &mut Vec<u8>, causes: &Causes<'_>, row: Row) -> Result<(), NoM
 }
 
 /// Appends the lines of the signals that have one of their own.
-#[tactic(auto, using(crate::proofs::CauseLemmas::row_placed))]
 fn push_rows(text: &mut Vec<u8>, causes: &Causes<'_>, rows: &[Row]) -> Result<(), NoMemory>
     requires narrow { All (λ s. length s.places < 2 ^ 32) causes.now.signals.now }
     requires placed { All (λ r. r.place < length causes.now.signals.now) rows.now }
@@ -146,7 +145,6 @@ fn put_old(olds: &mut Vec<Row>, causes: &Causes<'_>, bit: bool, row: Row) -> Res
 }
 
 /// The rows whose signals stand in the line of a bit.
-#[tactic(auto, using(crate::proofs::CauseLemmas::row_placed))]
 fn old_rows(
     alloc: Global,
     causes: &Causes<'_>,
@@ -175,7 +173,6 @@ fn push_name(text: &mut Vec<u8>, signals: &[Signal<'_>], row: Row) -> Result<(),
 }
 
 /// Appends the names of signals, one behind another.
-#[tactic(auto, using(crate::proofs::CauseLemmas::row_placed))]
 fn push_names(text: &mut Vec<u8>, signals: &[Signal<'_>], rows: &[Row]) -> Result<(), NoMemory>
     requires { All (λ r. r.place < length signals.now) rows.now }
     ensures { OnOk result (text.new.items ≡ text.old.items ++ row_names (map signal_in signals.now) rows.now) }

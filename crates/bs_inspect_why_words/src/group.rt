@@ -138,7 +138,6 @@ fn widest(reasons: &[Reason], groups: &[Group]) -> usize
 }
 
 /// Groups with the one first whose words are told in the most cycles.
-#[tactic(auto, using(crate::proofs::FrontLemmas::fronted_past, crate::proofs::FrontLemmas::fronted_here))]
 pub(crate) fn fronted(reasons: &[Reason], groups: Vec<Group>) -> Result<Vec<Group>, NoMemory>
     ensures { IfOk result (λ fronts. AreFronted reasons.now groups.items fronts.items) }
 {

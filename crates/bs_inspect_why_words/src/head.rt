@@ -3,7 +3,7 @@ ghost use Rattle.std.specs.Prelude.{◌≡◌, ◌<◌, ◌≤◌, ◌+◌, ◌-
 ghost use Rattle.bs_net.specs.Netlist.{circuit};
 ghost use Rattle.bs_net_names.specs.Signals.{signal_in};
 ghost use Rattle.bs_inspect_why_words.specs.Blocks.{Appends};
-ghost use Rattle.bs_inspect_why_words.specs.Heads.{AreBefore, at_words, before_count, before_words, episode_in, head_line, hit_moment, moment_words, since_words, step_moment, steps_words, TellsHead, TellsHeadOf, value_behind, values_words};
+ghost use Rattle.bs_inspect_why_words.specs.Heads.{AreBefore, at_words, before_count, before_words, episode_in, front_words, head_line, hit_moment, moment_words, since_words, step_moment, steps_words, TellsHead, TellsHeadOf, value_behind, values_words};
 
 use crate::episode::Episode;
 use crate::key::{fact_bits, fact_signals};
@@ -163,6 +163,18 @@ fn bits_before(
     Ok(befores)
 }
 
+/// Appends what the line of a block begins with: its cycle, its bits, and since when they stand.
+fn push_front(text: &mut Vec<u8>, first: &Episode<'_>, change: &Change<'_>) -> Result<(), NoMemory>
+    requires { All (λ s. length s.places < 2 ^ 32) change.now.signals.now }
+    ensures { OnOk result (text.new.items ≡ text.old.items ++ front_words (map signal_in change.now.signals.now) change.now.bits.now (episode_in first.now)) }
+{
+    push_number(text, u64::from(first.at))?;
+    push_piece(text, b" ")?;
+    push_signals(text, change.bits, change.signals)?;
+    push_since(text, first)?;
+    Ok(())
+}
+
 /// Appends the line of a block by its signals, its bits and the bits before.
 fn push_line_with(
     text: &mut Vec<u8>,
@@ -173,10 +185,7 @@ fn push_line_with(
     requires { All (λ s. length s.places < 2 ^ 32) change.now.signals.now }
     ensures { OnOk result (text.new.items ≡ text.old.items ++ head_line report.now change.now.steps (map signal_in change.now.signals.now) change.now.bits.now change.now.befores.now (episode_in first.now) change.now.since) }
 {
-    push_number(text, u64::from(first.at))?;
-    push_piece(text, b" ")?;
-    push_signals(text, change.bits, change.signals)?;
-    push_since(text, first)?;
+    push_front(text, first, change)?;
     push_before(text, change)?;
     push_moment(text, report, first.at as usize)?;
     end_line(text)?;

@@ -38,7 +38,6 @@ pub(crate) fn push_comma(text: &mut Vec<u8>, place: usize) -> Result<(), NoMemor
 }
 
 /// Appends signals, one behind another.
-#[tactic(auto, using(crate::proofs::WordLemmas::narrow_here))]
 pub(crate) fn push_signals(
     text: &mut Vec<u8>,
     bits: &Bits,

@@ -1,5 +1,5 @@
 -- What stands before a place of a netlist's text: the word in front of it, and the module that it lies in.
-use Rattle.std.specs.Prelude.{ℕ, zero, suc, ◌+◌, ◌-◌, ◌==◌, nat_le, nat_lt, Bool, false, ◌&&◌, ◌||◌, List, codes, length, take, drop, slice_index, Option, Some, None, if◌then◌else◌}
+use Rattle.std.specs.Prelude.{ℕ, zero, suc, ◌+◌, ◌-◌, ◌==◌, nat_le, nat_lt, Bool, false, true, ◌&&◌, ◌||◌, List, codes, length, take, drop, slice_index, Option, Some, None, if◌then◌else◌}
 use Rattle.std.specs.List.{prefix_len}
 use Rattle.std.specs.Str.{bytes_eq}
 use Rattle.bs_note_files.specs.Checks.{is_of_name, stands_at}
@@ -14,10 +14,14 @@ is_word text at word = nat_lt at (length text) && stands_at text word at
 abbrev pub is_white : ℕ → Bool
 is_white b = b == 32 || (nat_lt 8 b && nat_lt b 14)
 
--- where the text before a place ends, without the white space behind it
+-- a blank: a space or a tab
+abbrev pub is_blank : ℕ → Bool
+is_blank b = b == 32 || b == 9
+
+-- where the text before a place ends, without the blanks behind it: a comment on the line before is no word in front
 abbrev pub ink_end : List ℕ → ℕ → ℕ
 ink_end text zero = 0
-ink_end text (suc k) = if is_white (slice_index text k) then ink_end text k else suc k
+ink_end text (suc k) = if is_blank (slice_index text k) then ink_end text k else suc k
 
 -- the word ends there
 abbrev pub ends_at : List ℕ → List ℕ → ℕ → Bool
@@ -39,10 +43,18 @@ declares_near text at = nat_le at (length text) && (declares_from text at || dec
 
 -- ---- the module that a place lies in
 
--- the last place before another at which a word stands
-abbrev pub last_place : List ℕ → List ℕ → ℕ → Option ℕ
-last_place text word zero = None
-last_place text word (suc k) = if stands_at text word k then Some k else last_place text word k
+-- a line, or the text, begins at a place
+abbrev pub begins_line : List ℕ → ℕ → Bool
+begins_line text at = if nat_lt 0 at then slice_index text (at - 1) == 10 else true
+
+-- a module begins at a place: the word is the first of its line, so it is in no comment behind `//`
+abbrev pub is_module : List ℕ → ℕ → Bool
+is_module text at = stands_at text (codes "module") at && begins_line text (ink_end text at)
+
+-- the last place before another at which a module begins
+abbrev pub last_module : List ℕ → ℕ → Option ℕ
+last_module text zero = None
+last_module text (suc k) = if is_module text k then Some k else last_module text k
 
 -- the name at the front of a text
 abbrev pub front_name : List ℕ → List ℕ
@@ -62,4 +74,4 @@ is_named_at text at (Some place) = bytes_eq (module_name text place) (front_name
 
 -- the name at a place is that of the module in which it stands
 abbrev pub is_own : List ℕ → ℕ → Bool
-is_own text at = nat_lt at (length text) && is_named_at text at (last_place text (codes "module") at)
+is_own text at = nat_lt at (length text) && is_named_at text at (last_module text at)

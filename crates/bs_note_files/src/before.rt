@@ -2,7 +2,7 @@
 ghost use Rattle.std.specs.Prelude.{◌≡◌, ◌≤◌, ◌<◌, ◌-◌, ◌||◌, drop, length, slice_index, IfSome};
 ghost use Rattle.std.specs.List.{prefix_len};
 ghost use Rattle.std.specs.Str.{bytes_eq};
-ghost use Rattle.bs_note_files.specs.Before.{declares_from, declares_near, declares_to, ends_at, front_name, ink_end, inked, is_own, is_white, is_word, last_place, module_name};
+ghost use Rattle.bs_note_files.specs.Before.{declares_from, declares_near, declares_to, ends_at, front_name, ink_end, inked, is_own, is_white, is_word, begins_line, is_blank, is_module, last_module, module_name};
 ghost use Rattle.bs_note_files.specs.Checks.{is_of_name};
 
 use crate::check::{is_of_name, stands_at};
@@ -32,7 +32,14 @@ fn byte_before(text: &[u8], at: usize) -> u8
     text[at - 1]
 }
 
-/// Where the text before a place ends, without the white space behind it.
+/// Whether a byte is a blank.
+fn is_blank(byte: u8) -> bool
+    ensures { result ≡ is_blank byte }
+{
+    byte == b' ' || byte == b'\t'
+}
+
+/// Where the text before a place ends, without the blanks behind it.
 #[tactic(auto, using(crate::proofs::BeforeLemmas::ink_stop, crate::proofs::BeforeLemmas::ink_next, crate::proofs::BeforeLemmas::ink_none))]
 fn ink_end(text: &[u8], at: usize) -> usize
     requires { at ≤ length text.now }
@@ -42,7 +49,7 @@ fn ink_end(text: &[u8], at: usize) -> usize
     let mut end = at;
     'bytes: while end > 0 {
         let byte = byte_before(text, end);
-        if is_white(byte) {
+        if is_blank(byte) {
             end -= 1;
         } else {
             return end;
@@ -98,16 +105,45 @@ pub fn declares_near(text: &[u8], at: usize) -> bool
 
 // ---- the module that a place lies in
 
-/// The last place before another at which a word stands.
+/// Whether a line, or the text, begins at a place.
+fn begins_line(text: &[u8], at: usize) -> bool
+    requires { at ≤ length text.now }
+    ensures { result ≡ begins_line text.now at }
+{
+    if at > 0 {
+        byte_before(text, at) == b'\n'
+    } else {
+        true
+    }
+}
+
+/// Whether blanks alone stand on the line in front of a place.
+fn is_first(text: &[u8], at: usize) -> bool
+    requires { at ≤ length text.now }
+    ensures { result ≡ begins_line text.now (ink_end text.now at) }
+{
+    let end = ink_end(text, at);
+    begins_line(text, end)
+}
+
+/// Whether a module begins at a place.
+fn is_module(text: &[u8], at: usize) -> bool
+    requires { at ≤ length text.now }
+    ensures { result ≡ is_module text.now at }
+{
+    stands_at(text, at, b"module") && is_first(text, at)
+}
+
+/// The last place before another at which a module begins.
 #[tactic(auto, using(crate::proofs::BeforeLemmas::place_found, crate::proofs::BeforeLemmas::place_next, crate::proofs::BeforeLemmas::place_none))]
-fn last_place(text: &[u8], word: &[u8], below: usize) -> Option<usize>
+fn last_module(text: &[u8], below: usize) -> Option<usize>
     requires { below ≤ length text.now }
-    ensures is { result ≡ last_place text.now word.now below }
+    ensures is { result ≡ last_module text.now below }
     ensures within { IfSome result (λ at. at < below) }
 {
     let mut end = below;
     'places: while end > 0 {
-        if stands_at(text, end - 1, word) {
+        if is_module(text, end - 1) {
             return Some(end - 1);
         }
         end -= 1;
@@ -182,7 +218,7 @@ fn is_in_own(text: &[u8], at: usize) -> bool
     requires { at < length text.now }
     ensures { result ≡ is_own text.now at }
 {
-    match last_place(text, b"module", at) {
+    match last_module(text, at) {
         Some(place) => is_named_at(text, at, place),
         None => false,
     }

@@ -6,4 +6,4 @@ use Rattle.bs_inspect_novel.specs.Novelties.{AreNovelties}
 use Rattle.bs_inspect_novel.proofs.novelty.novelties_of.Given as goal
 
 abbrev pub invariant-signals : goal.invariant-signals
-invariant-signals l = AreNovelties (circuit l.net) (inputs_of l.runs) l.number (map signal_in l.signals) l.i l.novelties.items
+invariant-signals l = AreNovelties (circuit l.run.net.now) (inputs_of l.run.runs.now) l.run.number (map signal_in l.signals) l.i l.novelties.items

@@ -1,4 +1,4 @@
-use Rattle.std.proofs.Common.{ℕ, ◌++◌, ap, map, ◌∙◌}
+use Rattle.std.proofs.Common.{map}
 use Rattle.std.specs.Prelude.{codes, decimal}
 use Rattle.bs_net_names.specs.Signals.{signal_in}
 use Rattle.bs_inspect_why_words.specs.Facts.{signals_words}
@@ -11,7 +11,6 @@ returns c =
     line_put c.args.text.now.items (decimal c.args.first.now.at) (codes " ")
     (signals_words c.args.change.now.bits.now (map signal_in c.args.change.now.signals.now)) (since_words (episode_in c.args.first.now))
     (before_words c.args.change.now.steps (map signal_in c.args.change.now.signals.now) c.args.change.now.bits.now c.args.change.now.befores.now
-    c.args.change.now.since) (moment_words c.args.report.now c.args.first.now.at) c.push_number.new.text.items c.push_piece.new.text.items
-    c.push_signals.new.text.items c.push_since.new.text.items c.push_before.new.text.items c.push_moment.new.text.items c.end_line.new.text.items
-    (c.in_ok-push_number.ensures.ok ∙ ap (λ (n : ℕ). c.args.text.now.items ++ decimal n) c.from.ensures) c.in_ok-push_piece.ensures.ok
-    c.in_ok-push_signals.ensures c.in_ok-push_since.ensures c.in_ok-push_before.ensures c.in_ok-push_moment.ensures c.in_ok-end_line.ensures.ok
+    c.args.change.now.since) (moment_words c.args.report.now c.args.first.now.at) c.push_front.new.text.items c.push_before.new.text.items
+    c.push_moment.new.text.items c.end_line.new.text.items c.in_ok-push_front.ensures c.in_ok-push_before.ensures c.in_ok-push_moment.ensures
+    c.in_ok-end_line.ensures.ok

@@ -1,6 +1,6 @@
 use Rattle.std.proofs.Common.{◌≡◌, ◌≤◌}
-use Rattle.bs_note_files.specs.Before.{last_place}
-use Rattle.bs_note_files.proofs.before.last_place.Given as goal
+use Rattle.bs_note_files.specs.Before.{last_module}
+use Rattle.bs_note_files.proofs.before.last_module.Given as goal
 
 abbrev pub decreases-places : goal.decreases-places
 decreases-places l = l.end
@@ -8,5 +8,5 @@ decreases-places l = l.end
 abbrev pub invariant-places : goal.invariant-places
 invariant-places l = record {
   within : l.end ≤ l.below;
-  same : last_place l.text l.word l.end ≡ last_place l.text l.word l.below;
+  same : last_module l.text l.end ≡ last_module l.text l.below;
 }
