@@ -8,4 +8,5 @@ pub mod StepLemmas
 pub mod TrackLemmas
 pub mod IndexLemmas
 pub mod ParityLemmas
+pub mod AlikeLemmas
 pub mod SignatureHashLemmas

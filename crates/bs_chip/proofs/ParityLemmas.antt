@@ -92,6 +92,22 @@ each_weaker : (P Q : ℕ → Type 0) → ((n : ℕ) → P n → Q n) → (ns : L
 each_weaker P Q f [] h = tt
 each_weaker P Q f (n ∷ ns) h = (f n h.0, each_weaker P Q f ns h.1)
 
+-- the bit of a lane in an item's word is the parity of the lane
+pub parity_in_lane : (choice : Chosen) (planes item : List ℕ) (wide r mask : ℕ) → All (λ flop. flop < choice.width) item →
+    IsParityWord item planes wide (r / 64) mask → has mask (r % 64) ≡ parity_of (lane wide choice.width planes r) item
+parity_in_lane choice planes item wide r mask range is =
+    let s : List Bool = lane wide choice.width planes r in
+    let q : ℕ = r / 64 in
+    let back : q * 64 + r % 64 ≡ r = omega arith in
+    let f : ℕ → Bool = λ flop. get_or s flop false in
+    let g : ℕ → Bool = λ flop. bit_in planes (bit_place wide flop (q * 64 + r % 64)) in
+    let same : map f item ≡ map g item =
+    same_map f g item
+    (each_weaker (λ flop. flop < choice.width) (λ flop. f flop ≡ g flop)
+    (λ flop below. lane_at wide choice.width planes r flop below ∙ ap (λ (n : ℕ). bit_in planes (bit_place wide flop n)) (sym back)) item
+    (recursion_from_All (λ flop. flop < choice.width) item range)) in
+    is.each (r % 64) (omega arith) ∙ sym (ap is_odd same)
+
 -- the lane of the items' planes is the signature of the lane
 pub signature_lane : (choice : Chosen) (planes words : List ℕ) (wide count r : ℕ) → All (λ item. All (λ flop. flop < choice.width) item) choice.items →
     count ≡ length choice.items * wide → HaveParities choice.items planes wide count words → r < 64 * wide →

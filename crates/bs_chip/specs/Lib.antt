@@ -7,6 +7,7 @@ pub mod Live
 pub mod Lockstep
 pub mod Inputs
 pub mod Hashes
+pub mod Alike
 pub mod Parities
 pub mod Index
 pub mod Chip

@@ -18,7 +18,7 @@ fn with_bit(mask: u64, bit: usize, wanted: bool) -> u64
 }
 
 /// Whether a mask has a bit.
-fn has_bit(mask: u64, bit: usize) -> bool
+pub fn has_bit(mask: u64, bit: usize) -> bool
     requires { bit < 64 }
     ensures { result ≡ has mask bit }
 {

@@ -4,11 +4,12 @@
 //! runs in lock step at one cycle), `track` (the planes of the first cycles, kept), `looking` (the
 //! lowest run in a listed state, by the bank), `hashes`, `notes` and `index` (at which kept cycle a
 //! look may begin), `player` and `moments` (one run replayed to a moment), `parities` and `signature_hashes`
-//! (`SignatureHashes`, the signatures of all recorded states). Used above:
+//! (`SignatureHashes`, the signatures of all recorded states), `alike` (one signature, without hashes). Used above:
 //! `Chip::first`, clause `first`: the first moment of the runs in the listed states. How much is
 //! kept: `MAX_TRACK_BYTES`, `MAX_HASHES`; when the index grows: `Pass::price`.
 #![tactic(auto)]
 
+mod alike;
 mod hashes;
 mod index;
 mod inputs;

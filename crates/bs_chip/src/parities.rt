@@ -5,7 +5,7 @@ ghost use Rattle.bs_chip.specs.Parities.{HaveParities, IsParityWord};
 use bs_scan::Choice;
 
 /// Of 64 lanes, those in which an odd number of an item's flip-flops is 1.
-fn item_word(item: &[u32], planes: &[u64], wide: usize, word: usize) -> u64
+pub fn item_word(item: &[u32], planes: &[u64], wide: usize, word: usize) -> u64
     requires word { word < wide }
     requires there { All (λ flop. flop * wide + wide ≤ length planes.now) item.now }
     ensures { IsParityWord item.now planes.now wide word result }

@@ -1,5 +1,5 @@
 //! The chip, which replays recorded runs.
-ghost use Rattle.std.specs.Prelude.{◌≡◌, ◌<◌, ◌≤◌, ◌+◌, ◌*◌, [], length, map, option_map, slice_get, slice_index_or, All, IfOk, IfSome};
+ghost use Rattle.std.specs.Prelude.{◌≡◌, ◌<◌, ◌≤◌, ◌+◌, ◌*◌, [], length, map, option_map, slice_get, slice_index_or, All, IfOk, IfSome, MatchOption};
 ghost use Rattle.bs_net.specs.Netlist.{circuit};
 ghost use Rattle.bs_scan.specs.Crash.{dump_at, recording_of, IsRecording};
 ghost use Rattle.bs_scan.specs.Moments.{first_moment as first_moment_of, moment, run_of, state_of, IsMoment};
@@ -7,8 +7,10 @@ ghost use Rattle.bs_scan.specs.Signature.{stored_at};
 ghost use Rattle.bs_stim.specs.declared.limits.TheConstants.{MAX_CYCLES};
 ghost use Rattle.bs_chip.specs.Lockstep.{ShowsCycle, TrackShows};
 ghost use Rattle.bs_chip.specs.Replay.{dump_holding, in_state};
+ghost use Rattle.bs_chip.specs.SignatureHashes.{IsNextAlike, NoneAlike};
 ghost use Rattle.bs_chip.specs.Stepped.{StandsAt};
 
+use crate::alike::next_in;
 use crate::index::{Index, credited, grow, start};
 use crate::moments::{replay, unload};
 use crate::pass::Pass;
@@ -325,6 +327,15 @@ impl<'a> Chip<'a> {
             return Ok(());
         }
         keep_ahead(alloc, &mut self.pass, &mut self.track, self.most, cycle)
+    }
+
+    /// The first run behind a number that lasts to a cycle and whose state there has a signature, by planes that show the cycle.
+    pub fn next_alike(&self, planes: &[u64], stored: &Bits, cycle: u32, from: u32) -> Option<u32>
+        requires items { length stored.now ≡ length self.now.recording.choice.items }
+        requires shows { ShowsCycle self.now.recording.circuit self.now.recording.runs planes.now cycle }
+        ensures { MatchOption result (NoneAlike self.now.recording stored.now cycle from (length self.now.recording.runs)) (IsNextAlike self.now.recording stored.now cycle from) }
+    {
+        next_in(&self.pass, self.choice, planes, stored, cycle, from)
     }
 
     /// The planes of a cycle, if they are kept.

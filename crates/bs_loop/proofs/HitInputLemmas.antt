@@ -38,12 +38,12 @@ use Rattle.bs_report_good.proofs.ProgressLemmas.{hit_at}
 use Rattle.bs_preimage.specs.declared.listing.Listing.{Listing}
 use Rattle.bs_preimage.specs.Listed.{HasListed}
 use Rattle.bs_preimage.specs.Preimage.{PreimageState, encoding_in, next_activation}
+use Rattle.bs_preimage_recorded.proofs.OwnLemmas.{leads_on, state_next}
 use Rattle.bs_loop.specs.declared.known.Reach.{Reach}
 use Rattle.bs_loop.specs.KnownCand.{IsAnswered}
 use Rattle.bs_loop.specs.HitInput.{goes_to, own_at, own_input, put_input, put_own, TakesRecorded, TracesEndAsRecorded}
 use Rattle.bs_loop.specs.Recorded.{recorded_at}
 use Rattle.bs_loop.specs.Turn.{line_of, step_of, HasItsDump, HasLookedBack, HasLookedFrom}
-use Rattle.bs_loop.proofs.RecordedLemmas.{leads_on, state_next}
 
 -- ---- the list
 

@@ -1,6 +1,6 @@
 -- The ranges that a report's text asks for.
 use Rattle.std.proofs.Common.{◌≡◌, ℕ, suc, zero, ◌+◌, ◌-◌, ◌<◌, ◌≤◌, ◌^◌, Bool, true, List, [], ◌∷◌, length, get_or, refl, ap, subst, sym, ◌∙◌, Option}
-use Rattle.std.proofs.Common.{◌++◌, inl, Some, None, arith}
+use Rattle.std.proofs.Common.{inl, Some, None, arith}
 use Rattle.std.specs.Prelude.{slice_get, slice_index_or, filter_map, option_map, nat_eq, reverse, All, IfSome, IsTrue}
 use Rattle.std.specs.List.{AllByRecursion as Each, cons_option}
 use Rattle.std.specs.Cmp.Lexicographic.{pointwise, same_text}

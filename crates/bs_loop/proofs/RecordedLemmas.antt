@@ -7,8 +7,7 @@ use Rattle.std.proofs.lemmas.Bool.{or_right, eq-eqb, ne_eqb}
 use Rattle.bs_bits.specs.Bits.{bits_eq}
 use Rattle.bs_scan.specs.declared.seen.Seen.{Seen}
 use Rattle.bs_scan.specs.Seen.{whole}
-use Rattle.bs_net.specs.Circuit.{Circuit, Leads, next, reset_state}
-use Rattle.bs_net.proofs.NextLemmas.{next_is_led}
+use Rattle.bs_net.specs.Circuit.{Circuit, reset_state}
 use Rattle.bs_scan.specs.declared.dump.Dump.{Dump}
 use Rattle.bs_scan.specs.Choice.{Chosen, depth_of, IsDepth}
 use Rattle.bs_scan.specs.Crash.{Recording, IsRecording}
@@ -22,29 +21,12 @@ use Rattle.bs_report.specs.declared.report.Before.{Before}
 use Rattle.bs_report_good.specs.Step.{IsCandidate}
 use Rattle.bs_report_good.specs.Valid.{is_right_before}
 use Rattle.bs_preimage.specs.Listed.{IsRightCand}
+use Rattle.bs_preimage_recorded.proofs.OwnLemmas.{input_width, leads_on, state_next}
 use Rattle.bs_loop.specs.Recorded.{recorded_at, before_at, cand_at, known_before, StandsIn}
 
 -- a moment has those of the cycles before it
 pub earlier_moment : (runs : List Run) (run cycle other : ℕ) → IsMoment runs (moment run cycle) → other ≤ cycle → IsMoment runs (moment run other)
 earlier_moment runs run cycle other is low = record { from_one = is.from_one; recorded = is.recorded; lasts = omega (arith, is.lasts, low) }
-
--- the input of a cycle that is not the last of its run
-input_width : (r : Recording) (run cycle : ℕ) → IsRecording r → IsMoment r.runs (moment run (suc cycle)) → (j : ℕ) → j ≤ cycle →
-    length (get_or (run_of r.runs run) j []) ≡ length r.circuit.inputs
-input_width r run cycle sound is j low =
-    sound.inputs (run - 1) [] (omega (arith, is.from_one, is.recorded)) j [] (omega (arith, is.lasts, low))
-
-pub state_next : (c : Circuit) (run : Run) (cycle : ℕ) → next c (state_at c run cycle) (get_or run cycle []) ≡ state_at c run (suc cycle)
-unfolding state_at
-state_next c run cycle = refl
-
-pub leads_on : (r : Recording) (run cycle : ℕ) → IsRecording r → IsMoment r.runs (moment run (suc cycle)) →
-    Leads r.circuit (state_at r.circuit (run_of r.runs run) cycle) (get_or (run_of r.runs run) cycle []) (state_at r.circuit (run_of r.runs run) (suc cycle))
-leads_on r run cycle sound is =
-    let c : Circuit = r.circuit in
-    let line : Run = run_of r.runs run in
-    (next_is_led c (state_at c line cycle) (get_or line cycle []) (state_at c line (suc cycle)) sound.checked (length_state c line cycle)
-    (input_width r run cycle sound is cycle (omega arith))).1 (sym (state_next c line cycle))
 
 cand_leads : (r : Recording) (run cycle : ℕ) → IsRecording r → IsMoment r.runs (moment run (suc cycle)) →
     IsCandidate r.circuit r.choice (whole (state_at r.circuit (run_of r.runs run) (suc cycle))) (stored_at r.circuit r.choice (run_of r.runs run) (suc cycle))

@@ -2,7 +2,7 @@
 use Rattle.std.proofs.Common.{◌≡◌, ℕ, arith, Bool, true, false, List, length, ap, subst, sym, ◌∙◌, Option, Some, None}
 use Rattle.std.specs.Prelude.{◌==◌, Result, Ok, Err, IfOk, IfSome}
 use Rattle.bs_scan.specs.declared.seen.Seen.{Seen}
-use Rattle.bs_scan.specs.Seen.{whole, Shows}
+use Rattle.bs_scan.specs.Seen.{Shows}
 use Rattle.bs_scan.proofs.SeenLemmas.{whole_where}
 use Rattle.bs_net.specs.Circuit.{Circuit, next}
 use Rattle.bs_scan.specs.Crash.{Recording}

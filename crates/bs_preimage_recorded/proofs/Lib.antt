@@ -1,2 +1,3 @@
 pub mod FinderLemmas
+pub mod OwnLemmas
 pub mod SearchLemmas

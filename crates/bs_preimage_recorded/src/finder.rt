@@ -3,11 +3,13 @@ ghost use Rattle.std.specs.Prelude.{◌≡◌, ◌≤◌, [], false, length, opt
 ghost use Rattle.bs_scan.specs.Moments.{IsMoment, moment, run_of, state_at};
 ghost use Rattle.bs_stim.specs.declared.limits.TheConstants.{MAX_CYCLES};
 ghost use Rattle.bs_chip_forward.specs.Forward.{IsAim, LeadsNowhere};
-ghost use Rattle.bs_chip.specs.Lockstep.{IsLongest};
+ghost use Rattle.bs_chip.specs.Hashes.{hash_of};
+ghost use Rattle.bs_chip.specs.Lockstep.{IsLongest, ShowsCycle};
 ghost use Rattle.bs_chip.specs.SignatureHashes.{IsNextAlike, NoneAlike};
 ghost use Rattle.bs_preimage.specs.Probe.{IsProbed};
 ghost use Rattle.bs_preimage_recorded.specs.Finder.{IsAsking, LeadsAway, LeadsPast, NonePassBefore, StartsBy};
 
+use crate::own::own_way;
 use bs_bits::{Bits, NoMemory};
 use bs_chip::{Chip, SignatureHashes, hash_of};
 use bs_chip_forward::{Aim, Forward};
@@ -26,8 +28,8 @@ pub struct Query<'a> {
     pub b: u64,
 }
 
-/// Whether the state of a moment is a predecessor.
-fn ask_moment(
+/// Whether the state of a moment is a predecessor, by a search.
+fn ask_probe(
     alloc: Global,
     chip: &mut Chip<'_>,
     probe: &mut Probe<'_>,
@@ -52,6 +54,29 @@ fn ask_moment(
         query.b,
     )?;
     Ok(said)
+}
+
+/// Whether the state of a moment is a predecessor. Nothing is searched where the run itself shows it.
+fn ask_moment(
+    alloc: Global,
+    chip: &mut Chip<'_>,
+    probe: &mut Probe<'_>,
+    query: &Query<'_>,
+    run: u32,
+    cycle: u32,
+) -> Result<Probed, NoMemory>
+    requires there { IsMoment chip.old.recording.runs (moment run cycle) }
+    requires prober { probe.old ≡ record { circuit = chip.old.recording.circuit; choice = chip.old.recording.choice } }
+    requires asking { IsAsking chip.old.recording query.now.present.now query.now.stored.now (option_map (λ bits. bits.now) query.now.older) query.now.b }
+    ensures said { IfOk result (IsProbed chip.old.recording.circuit chip.old.recording.choice query.now.present.now query.now.stored.now (option_map (λ bits. bits.now) query.now.older) (state_at chip.old.recording.circuit (run_of chip.old.recording.runs run) cycle) query.now.b) }
+    ensures chip { chip.new ≡ chip.old }
+    ensures probe { probe.new ≡ probe.old }
+{
+    chip.is_recording();
+    match own_way(alloc, chip, query, run, cycle)? {
+        Some(cand) => Ok(Probed::Predecessor(cand)),
+        None => ask_probe(alloc, chip, probe, query, run, cycle),
+    }
 }
 
 /// What recorded states that lead to a present are looked up by, if it is known where they lead.
@@ -158,6 +183,61 @@ fn start_by(forward: &mut Option<Forward<'_>>, present: &Seen, aim: Aim) -> Resu
     }
 }
 
+/// The planes of a cycle, if they are kept and the present is known in part. Such a present is that of a dump, so that it is the first
+/// one that is searched for: hashes would not be looked at often enough to be worth their making.
+fn planes_for<'c>(chip: &'c Chip<'_>, present: &Seen, cycle: u32) -> Option<&'c [u64]>
+    ensures { IfSome result (λ planes. ShowsCycle chip.now.recording.circuit chip.now.recording.runs planes.now cycle) }
+{
+    if present.is_whole() {
+        return None;
+    }
+    chip.kept(cycle as usize)
+}
+
+/// The first run behind a number that lasts to a cycle and whose state there may have a signature, by the hashes of all signatures.
+fn next_by_hash(
+    alloc: Global,
+    chip: &Chip<'_>,
+    signature_hashes: &mut SignatureHashes<'_>,
+    stored: &Bits,
+    hash: u64,
+    cycle: u32,
+    from: u32,
+) -> Result<Option<u32>, NoMemory>
+    requires recording { signature_hashes.old ≡ chip.now.recording }
+    requires few { cycle ≤ MAX_CYCLES }
+    requires hash { hash ≡ hash_of stored.now }
+    ensures alike { IfOk result (λ found. MatchOption found (NoneAlike chip.now.recording stored.now cycle from (length chip.now.recording.runs)) (IsNextAlike chip.now.recording stored.now cycle from)) }
+    ensures kept { signature_hashes.new ≡ signature_hashes.old }
+{
+    chip.lend_signature_hashes(alloc, signature_hashes, cycle)?;
+    signature_hashes.next_by_hash(alloc, stored, hash, cycle, from)
+}
+
+/// The same by hashes, or by the planes of the cycle.
+fn next_in(
+    alloc: Global,
+    chip: &Chip<'_>,
+    signature_hashes: &mut SignatureHashes<'_>,
+    present: &Seen,
+    stored: &Bits,
+    hash: u64,
+    cycle: u32,
+    from: u32,
+) -> Result<Option<u32>, NoMemory>
+    requires recording { signature_hashes.old ≡ chip.now.recording }
+    requires items { length stored.now ≡ length chip.now.recording.choice.items }
+    requires few { cycle ≤ MAX_CYCLES }
+    requires hash { hash ≡ hash_of stored.now }
+    ensures alike { IfOk result (λ found. MatchOption found (NoneAlike chip.now.recording stored.now cycle from (length chip.now.recording.runs)) (IsNextAlike chip.now.recording stored.now cycle from)) }
+    ensures kept { signature_hashes.new ≡ signature_hashes.old }
+{
+    match planes_for(chip, present, cycle) {
+        Some(planes) => Ok(chip.next_alike(planes, stored, cycle, from)),
+        None => next_by_hash(alloc, chip, signature_hashes, stored, hash, cycle, from),
+    }
+}
+
 /// What looks for recorded predecessors. Contracts see the recording, and the present that it stands at with its stored signature.
 pub struct Finder<'a, 'p> {
     signature_hashes: SignatureHashes<'a>,
@@ -261,15 +341,23 @@ impl<'a, 'p> Finder<'a, 'p> {
         from: u32,
     ) -> Result<Option<u32>, NoMemory>
         requires recording { self.old.recording ≡ chip.old.recording }
+        requires items { length self.old.stored ≡ length self.old.recording.choice.items }
         requires few { cycle ≤ MAX_CYCLES }
         ensures chip { chip.new ≡ chip.old }
         ensures alike { IfOk result (λ found. MatchOption found (NoneAlike self.old.recording self.old.stored cycle from (length self.old.recording.runs)) (IsNextAlike self.old.recording self.old.stored cycle from)) }
         ensures kept { self.new ≡ self.old }
     {
         chip.keep_to(alloc, cycle)?;
-        chip.lend_signature_hashes(alloc, &mut self.signature_hashes, cycle)?;
-        self.signature_hashes
-            .next_by_hash(alloc, &self.stored, self.hash, cycle, from)
+        next_in(
+            alloc,
+            chip,
+            &mut self.signature_hashes,
+            &self.present,
+            &self.stored,
+            self.hash,
+            cycle,
+            from,
+        )
     }
 
     /// Whether it is known where the recorded states lead.

@@ -1,4 +1,4 @@
-use Rattle.std.proofs.Common.{◌≡◌, ◌-◌, ◌∙◌, ℕ, arith, length, ap, subst, Bool, List, Option}
+use Rattle.std.proofs.Common.{◌≡◌, ◌-◌, ◌∙◌, arith, length, ap, subst, Bool, List, Option}
 use Rattle.std.specs.Prelude.{option_map}
 use Rattle.bs_chip.specs.Lockstep.{NoneAmong}
 use Rattle.bs_chip.specs.Stepped.{Stepped}

@@ -1,8 +1,7 @@
-use Rattle.std.proofs.Common.{◌≤◌, ◌+◌, ◌-◌, ◌≡◌, subst, Bool, List, Option}
+use Rattle.std.proofs.Common.{◌-◌, subst, Bool, List, Option}
 use Rattle.std.specs.Prelude.{IfOk, option_map}
 use Rattle.bs_chip.specs.Stepped.{Stepped}
-use Rattle.bs_preimage_recorded.specs.declared.search.Sought.TheVariants.{NoMoment}
-use Rattle.bs_preimage_recorded.specs.Search.{alike_at, alike_below, HasTried, IsUnknownAt, SoughtAt}
+use Rattle.bs_preimage_recorded.specs.Search.{alike_at, HasTried, IsUnknownAt, SoughtAt}
 use Rattle.bs_preimage_recorded.proofs.SearchLemmas.{cut_behind}
 use Rattle.bs_preimage_recorded.proofs.search.first_sooner.Goals as goal
 
