@@ -1,8 +1,9 @@
 //! The command line tool `backspace`. Its answer is all that standard output gets, and a note for a person follows on standard error.
 #![tactic(auto)]
 
+use bs_call::run_program;
 use bs_outside::{FileShelf, StdSink};
-use bs_top::run_program;
+use bs_top::Backspace;
 use std::alloc::Global;
 use std::env;
 use std::io::ErrorKind;
@@ -24,6 +25,7 @@ fn main(rt: HostRuntime) -> ExitCode {
     let alloc = rt.alloc();
     let error = rt.stderr();
     ExitCode::from(run_program(
+        &Backspace,
         alloc,
         given_words(&rt, alloc),
         &mut FileShelf::new(&rt),

@@ -1,8 +1,20 @@
-//! The command line tool `backspace_inspect`, which tells about the files of `backspace`. Its answer is all that standard output gets, and
-//! a note for a person follows on standard error.
+//! The command line tool `backspace_inspect`, which tells about the files of `backspace`. Its answer is all
+//! that standard output gets, and a note for a person follows on standard error.
+//!
+//! Modules: `telling` (how words stand, and the version), `asking` (the answer to each request), `top`
+//! (`Inspect`, the program). Used above: `inspect_means` (`specs/Program`), over `plan_of`, `finishes` and
+//! `WordsSaid` (bs_inspect_plans); the clauses of the call stand in bs_call. A command: a request
+//! (bs_inspect_words), an arm in each definition of bs_inspect_plans, its answer in
+//! bs_inspect_report_requests or bs_inspect_netlist_requests, an arm in `request_answer`, and a line of
+//! `usages` (bs_inspect_usages).
 #![tactic(auto)]
 
-use bs_inspect::run_program;
+mod asking;
+mod telling;
+mod top;
+
+use crate::top::Inspect;
+use bs_call::run_program;
 use bs_outside::{FileShelf, StdSink};
 use std::alloc::Global;
 use std::env;
@@ -25,6 +37,7 @@ fn main(rt: HostRuntime) -> ExitCode {
     let alloc = rt.alloc();
     let error = rt.stderr();
     ExitCode::from(run_program(
+        &Inspect,
         alloc,
         given_words(&rt, alloc),
         &mut FileShelf::new(&rt),

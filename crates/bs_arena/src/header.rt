@@ -13,9 +13,11 @@ use bs_clause::{Lit, NoMemory};
 pub const HEADER: usize = 4;
 
 /// Where the number of literals stands in the header.
+/// Behind the two halves of the id.
 pub const LENGTH: usize = 2;
 
 /// Where the header says whether the clause is live.
+/// The last word before the literals.
 pub const LIVE: usize = 3;
 
 /// Makes room for this many more words, where there are then at most `WORD_LIMIT`.

@@ -8,7 +8,7 @@ pub const WORD_LIMIT: usize = 1 << 32;
 
 /// Names a clause of the arena that made it, until that clause is killed or the arena compacted.
 /// Contracts see the place of the clause's first word, counted from 0.
-#[derive(Clone, Copy, Debug, PartialEq, Eq)]
+#[derive(Clone, Copy)]
 pub struct Ref {
     at: u32,
 }

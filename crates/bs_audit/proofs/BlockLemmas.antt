@@ -22,12 +22,12 @@ use Rattle.bs_encode.specs.Assuming.{signed, block_for}
 use Rattle.bs_scan.specs.Moments.{is_listed}
 use Rattle.bs_scan.proofs.SignatureLemmas.{bits_same, bits_same_is}
 use Rattle.bs_report.specs.declared.report.Cand.{Cand}
-use Rattle.bs_report_good.specs.Step.{Ascend, listed}
+use Rattle.bs_report.specs.Step.{Ascend, listed}
 use Rattle.bs_log.specs.declared.line.Line.{Line}
 use Rattle.bs_log.specs.declared.line.Line.TheVariants.{Solve, Lemma, Block, Finish, Retire, Delete}
 use Rattle.bs_audit.specs.StepLines.{is_block}
 use Rattle.bs_log.specs.Steps.{block_of_line}
-use Rattle.bs_report_good.specs.Valid.{has_clause, blocks_in, blocks_due, are_right_blocks}
+use Rattle.bs_report.specs.Valid.{has_clause, blocks_in, blocks_due, are_right_blocks}
 use Rattle.bs_audit.specs.Blocked.{blocking, Blocks, BlocksNone, IsAt, IsDueAt, IsNotDue, AreNoted, NotesMore}
 use Rattle.bs_audit.proofs.Lines.{not_same}
 

@@ -6,7 +6,7 @@ use Rattle.std.specs.List.{cons_option}
 use Rattle.std.proofs.lemmas.List.{reverse-append, append-nil, drop_more}
 use Rattle.bs_bits.specs.Bits.{bits_eq}
 use Rattle.bs_report.specs.declared.report.Step.{Step}
-use Rattle.bs_report_good.specs.Valid.{all_bits_eq}
+use Rattle.bs_report.specs.Valid.{all_bits_eq}
 use Rattle.bs_audit.specs.Cut.{IsCut, IsUncut}
 
 and_true : (a : Bool) → (a && true) ≡ a

@@ -9,7 +9,7 @@ use Rattle.std.proofs.Math.Nat.{eq-or-lt_of_le}
 use Rattle.std.proofs.lemmas.Bool.{false≢true, eqb-true}
 use Rattle.std.proofs.lemmas.List.{length-map, drop_more, get_or_default}
 use Rattle.bs_bits.specs.Bits.{bits_eq}
-use Rattle.bs_chip.specs.declared.replay.Hit.{Hit}
+use Rattle.bs_chip.specs.declared.first_hit.Hit.{Hit}
 use Rattle.bs_scan.specs.declared.dump.Dump.{Dump}
 use Rattle.bs_scan.specs.Present.{Present, present_in}
 use Rattle.bs_scan.proofs.SignatureLemmas.{bits_same_is}
@@ -17,15 +17,15 @@ use Rattle.bs_report.specs.declared.report.Cand.{Cand}
 use Rattle.bs_report.specs.declared.report.HitLine.{HitLine}
 use Rattle.bs_report.specs.declared.report.Step.{Step}
 use Rattle.bs_report.specs.declared.report.Budgets.{Budgets}
-use Rattle.bs_report_good.specs.declared.part.Part.{Part}
-use Rattle.bs_report_good.specs.declared.part.Part.TheVariants as parts
+use Rattle.bs_report.specs.declared.part.Part.{Part}
+use Rattle.bs_report.specs.declared.part.Part.TheVariants as parts
 use Rattle.bs_scan.specs.Crash.{Crash}
-use Rattle.bs_report_good.specs.Step.{listed, hit_of}
-use Rattle.bs_report_good.specs.Chain.{present_of_hit, present_after, last_present}
-use Rattle.bs_report_good.specs.Valid.{unless, no_cand, is_right_cand, is_right_count, same_hit, first_of_all}
-use Rattle.bs_report_good.proofs.ValidLemmas.{both, cand_is, state_at_place}
-use Rattle.bs_audit.specs.declared.steps.Walk.{Walk}
-use Rattle.bs_audit.specs.declared.steps.Walk.TheVariants.{Fails, Holds}
+use Rattle.bs_report.specs.Step.{listed, hit_of}
+use Rattle.bs_report.specs.Chain.{present_of_hit, present_after, last_present}
+use Rattle.bs_report.specs.Valid.{unless, no_cand, is_right_cand, is_right_count, same_hit, first_of_all}
+use Rattle.bs_report.proofs.ValidLemmas.{both, cand_is, state_at_place}
+use Rattle.bs_audit.specs.declared.steps.StepsWalk.{StepsWalk}
+use Rattle.bs_audit.specs.declared.steps.StepsWalk.TheVariants.{Fails, Holds}
 use Rattle.bs_audit.specs.Following.{begin_parts, cand_parts, list_parts, parts_from, following_parts, first_from, line_of, IsListed, IsTried}
 
 pub first_append : (xs ys : List (Option Part)) → first_of_all (xs ++ ys) ≡ option_or (first_of_all xs) (first_of_all ys)
@@ -116,7 +116,7 @@ tried_cands crash budgets i due step part e f =
     (option_or (first_of_all (cand_parts crash budgets i step 0 (length step.cands))) (first_of_all (list_parts crash budgets i step)))) (sym e)
     ∙ ap (λ o. option_or o (first_of_all (list_parts crash budgets i step))) (sym f))
 
-pub tried_list : (crash : Crash) (budgets : Budgets) (i : ℕ) (due : Option Present) (step : Step) (walk : Walk) → None ≡ first_of_all (begin_parts i due step) →
+pub tried_list : (crash : Crash) (budgets : Budgets) (i : ℕ) (due : Option Present) (step : Step) (walk : StepsWalk) → None ≡ first_of_all (begin_parts i due step) →
     None ≡ first_of_all (cand_parts crash budgets i step 0 (length step.cands)) → IsListed crash budgets i step walk → IsTried crash budgets i due step walk
 tried_list crash budgets i due step walk e f h = by walk h
   where
@@ -127,7 +127,7 @@ tried_list crash budgets i due step walk e f h = by walk h
         (option_or (first_of_all (cand_parts crash budgets i step 0 (length step.cands))) (first_of_all (list_parts crash budgets i step)))) (sym e)
         ∙ ap (λ o. option_or o (first_of_all (list_parts crash budgets i step))) (sym f))
 
-    by : (walk : Walk) → IsListed crash budgets i step walk → IsTried crash budgets i due step walk
+    by : (walk : StepsWalk) → IsListed crash budgets i step walk → IsTried crash budgets i due step walk
     by (Fails part) k = same ∙ k
     by (Holds next) k = (same ∙ k.0, k.1)
 
@@ -180,7 +180,7 @@ list_holds crash budgets i step hit next count same first dump e =
 -- ---- the walk
 
 pub walk_fails : (crash now : Crash) → now ≡ crash →
-    (budgets : Budgets) (i : ℕ) (due : Option Present) (steps : List Step) (step : Step) (walk : Walk) (part : Part) → walk ≡ Fails part →
+    (budgets : Budgets) (i : ℕ) (due : Option Present) (steps : List Step) (step : Step) (walk : StepsWalk) (part : Part) → walk ≡ Fails part →
     IsTried now budgets i due step walk → i < length steps → step ≡ get_or steps i step → first_from crash budgets i due (drop i steps) ≡ Some part
 walk_fails crash now same budgets i due steps step walk part is tried lt e =
     let here : IsTried crash budgets i due step (Fails part) =
@@ -192,7 +192,7 @@ pub record GoesOn (crash : Crash) (budgets : Budgets) (i : ℕ) (due : Option Pr
   pub last : last_present crash due (drop i steps) ≡ last_present crash (option_map present_in next) (drop (i + 1) steps)
 
 pub walk_goes_on : (crash now : Crash) → now ≡ crash →
-    (budgets : Budgets) (i : ℕ) (due : Option Present) (steps : List Step) (step : Step) (walk : Walk) (next : Option Dump) → walk ≡ Holds next →
+    (budgets : Budgets) (i : ℕ) (due : Option Present) (steps : List Step) (step : Step) (walk : StepsWalk) (next : Option Dump) → walk ≡ Holds next →
     IsTried now budgets i due step walk → i < length steps → step ≡ get_or steps i step → GoesOn crash budgets i due steps next
 walk_goes_on crash now same budgets i due steps step walk next is tried lt e =
     let here : IsTried crash budgets i due step (Holds next) =
@@ -205,7 +205,7 @@ walk_goes_on crash now same budgets i due steps step walk next is tried lt e =
       last = last_at crash i due steps step lt e ∙ ap (λ o. last_present crash o (drop (i + 1) steps)) here.1;
     }
 
-pub tried_lists : {E : Type 0} (crash now : Crash) → now ≡ crash → (budgets : Budgets) (i : ℕ) (due : Option Present) (step : Step) (result : Result Walk E) →
+pub tried_lists : {E : Type 0} (crash now : Crash) → now ≡ crash → (budgets : Budgets) (i : ℕ) (due : Option Present) (step : Step) (result : Result StepsWalk E) →
     None ≡ first_of_all (begin_parts i due step) → None ≡ first_of_all (cand_parts crash budgets i step 0 (length step.cands)) →
     IfOk result (IsListed now budgets i step) → IfOk result (IsTried crash budgets i due step)
 tried_lists crash now same budgets i due step (Ok walk) e f h =

@@ -7,11 +7,11 @@ use Rattle.bs_scan.specs.Crash.{Crash, Recording, crash_of, dump_at}
 use Rattle.bs_scan.specs.Moments.{Moment, moment, first_moment, state_of}
 use Rattle.bs_scan.specs.Present.{present_in}
 use Rattle.bs_scan.proofs.CrashLemmas.{present_at}
-use Rattle.bs_chip.specs.declared.replay.Hit.{Hit}
+use Rattle.bs_chip.specs.declared.first_hit.Hit.{Hit}
 use Rattle.bs_report.specs.declared.report.Cand.{Cand}
 use Rattle.bs_report.specs.declared.report.HitLine.{HitLine}
-use Rattle.bs_report_good.specs.Step.{listed, hit_of}
-use Rattle.bs_report_good.specs.Chain.{present_of_hit}
+use Rattle.bs_report.specs.Step.{listed, hit_of}
+use Rattle.bs_report.specs.Chain.{present_of_hit}
 use Rattle.bs_audit.specs.Following.{line_of}
 
 presents_of : (r : Recording) (dump : Dump) (cands : List Cand) (hit : Option Hit) → IsDepth (depth_of r.choice) →

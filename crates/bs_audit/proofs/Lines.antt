@@ -8,7 +8,7 @@ use Rattle.std.proofs.lemmas.List.{take_more, take_all, length-drop, drop_more, 
 use Rattle.std.proofs.lemmas.List.Folds.{list_any-append}
 use Rattle.std.proofs.lemmas.List.Sums.{length-filter}
 use Rattle.bs_log.specs.Refusal.{denies}
-use Rattle.bs_report_good.specs.Valid.{finishes_in}
+use Rattle.bs_report.specs.Valid.{finishes_in}
 use Rattle.std.proofs.lemmas.List.Elements.{filter_map-append}
 use Rattle.bs_audit.specs.Logged.{ends_step}
 use Rattle.bs_clause.specs.Literal.{Clause}

@@ -14,10 +14,10 @@ use Rattle.bs_encode.specs.Assuming.{assumptions_for, block_for, steps_from}
 use Rattle.bs_encode.proofs.AssumingLemmas.{steps_from_more}
 use Rattle.bs_report.specs.declared.report.Step.{Step}
 use Rattle.bs_report.specs.declared.report.Report.{Report}
-use Rattle.bs_report_good.specs.declared.part.Part.{Part}
-use Rattle.bs_report_good.specs.Chain.{present_of}
-use Rattle.bs_report_good.specs.declared.part.Part.TheVariants as parts
-use Rattle.bs_report_good.specs.Valid.{unless, first_of_all, each_step, log_parts, are_right_blocks, blocks_due, blocks_in, is_right_finish, finishes_in}
+use Rattle.bs_report.specs.declared.part.Part.{Part}
+use Rattle.bs_report.specs.Chain.{present_of}
+use Rattle.bs_report.specs.declared.part.Part.TheVariants as parts
+use Rattle.bs_report.specs.Valid.{unless, first_of_all, each_step, log_parts, are_right_blocks, blocks_due, blocks_in, is_right_finish, finishes_in}
 use Rattle.bs_audit.specs.StepLines.{undeleted, IsSplit}
 use Rattle.bs_audit.specs.Logged.{basis_with, lines_parts}
 use Rattle.bs_audit.proofs.Follows.{first_append}

@@ -31,25 +31,25 @@ use Rattle.bs_report.specs.declared.report.HitLine.{HitLine}
 use Rattle.bs_report.specs.declared.report.Step.{Step}
 use Rattle.bs_report.specs.declared.report.Budgets.{Budgets}
 use Rattle.bs_report.specs.declared.report.Report.{Report}
-use Rattle.bs_report_good.specs.declared.part.Part.{Part}
-use Rattle.bs_report_good.specs.declared.part.Part.TheVariants as parts
+use Rattle.bs_report.specs.declared.part.Part.{Part}
+use Rattle.bs_report.specs.declared.part.Part.TheVariants as parts
 use Rattle.bs_scan.specs.Crash.{Recording, IsRecording, Crash, crash_of, DumpFits}
 use Rattle.bs_scan.proofs.CrashLemmas.{crash_is}
-use Rattle.bs_report_good.specs.Step.{stored_of, listed, hit_of}
-use Rattle.bs_report_good.specs.Chain.{present_of, present_of_hit, present_after, last_present}
-use Rattle.bs_report_good.specs.Valid.{unless, cause_after, is_cause, is_right_trace, has_state, has_stored, same_hit, first_of_all, each_step, step_parts}
-use Rattle.bs_report_good.specs.Valid.{log_parts, due_at, first_failing}
-use Rattle.bs_report_good.specs.Trace.{trace_end}
-use Rattle.bs_report_good.specs.ValidLaw.{IsEncoded}
-use Rattle.bs_report_good.proofs.GoodLemmas.{valid_is_good}
-use Rattle.bs_report_good.proofs.ValidLemmas.{all_same_is, ascend_is, both}
+use Rattle.bs_report.specs.Step.{stored_of, listed, hit_of}
+use Rattle.bs_report.specs.Chain.{present_of, present_of_hit, present_after, last_present}
+use Rattle.bs_report.specs.Valid.{unless, cause_after, is_cause, is_right_trace, has_state, has_stored, same_hit, first_of_all, each_step, step_parts}
+use Rattle.bs_report.specs.Valid.{log_parts, due_at, first_failing}
+use Rattle.bs_report.specs.Trace.{trace_end}
+use Rattle.bs_report.specs.ValidLaw.{IsEncoded}
+use Rattle.bs_report.proofs.GoodLemmas.{valid_is_good}
+use Rattle.bs_report.proofs.ValidLemmas.{all_same_is, ascend_is, both}
 use Rattle.bs_audit.specs.Following.{begin_parts, cand_parts, list_parts, parts_from, following_parts, first_from, IsWalked}
-use Rattle.bs_audit.specs.declared.steps.Walk.{Walk}
-use Rattle.bs_audit.specs.declared.steps.Walk.TheVariants.{Fails, Holds}
+use Rattle.bs_audit.specs.declared.steps.StepsWalk.{StepsWalk}
+use Rattle.bs_audit.specs.declared.steps.StepsWalk.TheVariants.{Fails, Holds}
 use Rattle.bs_audit.specs.Logged.{basis_with, refused_part, logged_parts, behind_parts, first_after, IsFit, Suits, AreFit, LeavesFit}
 use Rattle.bs_audit.specs.Finding.{basis_for, ValidReportsAreGood}
 use Rattle.bs_audit.proofs.Follows.{first_append, cand_holds, lent_widths, right_inputs, right_widths, hit_line_is}
-use Rattle.bs_report_good.specs.WideCands.{HasWideCands}
+use Rattle.bs_report.specs.WideCands.{HasWideCands}
 
 -- ---- the parts of the steps are those from the present where each is due
 
@@ -360,18 +360,18 @@ few_steps due r stop s t few =
 pub fit_cands : (c : Circuit) (items depth : ℕ) (steps : List Step) → All (IsFit c items depth) steps → All (HasWideCands c) steps
 fit_cands c items depth steps fit = All-weaker (IsFit c items depth) (HasWideCands c) (λ step is. is.cands) steps fit
 
-pub leaves_fit : (crash : Crash) (r : Report) (walk : Walk) → DumpFits crash.circuit crash.choice crash.dump →
+pub leaves_fit : (crash : Crash) (r : Report) (walk : StepsWalk) → DumpFits crash.circuit crash.choice crash.dump →
     IsWalked crash r walk → LeavesFit crash.circuit (length crash.choice.items) (depth_of crash.choice) r.steps walk
 leaves_fit crash r (Fails part) fits walked = tt
 leaves_fit crash r (Holds due) fits walked = steps_are_fit crash r due fits walked
 
-pub part_is : (crash : Crash) (basis : Basis) (r : Report) (walk : Walk) → (r.depth == depth_of crash.choice) ≡ true → IsWalked crash r walk →
+pub part_is : (crash : Crash) (basis : Basis) (r : Report) (walk : StepsWalk) → (r.depth == depth_of crash.choice) ≡ true → IsWalked crash r walk →
     first_after walk (trace_end crash r.steps) basis r ≡ first_failing crash basis r
 part_is crash basis r (Fails part) of walked = fails_in_steps crash basis r part of walked
 part_is crash basis r (Holds due) of walked =
     fails_behind crash basis r due (first_of_all (behind_parts (option_map present_in due) (trace_end crash r.steps) basis r)) of walked refl
 
-pub parts_are : {E : Type 0} (crash : Crash) (basis : Basis) (r : Report) (walk : Walk) (result : Result (Option Part) E) →
+pub parts_are : {E : Type 0} (crash : Crash) (basis : Basis) (r : Report) (walk : StepsWalk) (result : Result (Option Part) E) →
     (r.depth == depth_of crash.choice) ≡ true → IsWalked crash r walk →
     IfOk result (λ part. part ≡ first_after walk (trace_end crash r.steps) basis r) → IfOk result (λ part. part ≡ first_failing crash basis r)
 parts_are crash basis r walk (Ok part) of walked h = h ∙ part_is crash basis r walk of walked

@@ -3,7 +3,7 @@ use Rattle.std.specs.Prelude.{◌≡◌, ◌≢◌, ℕ, ◌<◌, Bool, false, L
 use Rattle.bs_clause.specs.Literal.{Literal, Clause, negation}
 use Rattle.bs_encode.specs.Encoded.{Encoded}
 use Rattle.bs_encode.specs.Assuming.{block_for}
-use Rattle.bs_report_good.specs.Valid.{has_clause}
+use Rattle.bs_report.specs.Valid.{has_clause}
 
 -- the block of a state in a step: the negated activation literal, and the state is another one
 abbrev pub blocking : Encoded → Literal → List Bool → Clause

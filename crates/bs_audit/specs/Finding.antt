@@ -4,11 +4,11 @@ use Rattle.bs_scan.specs.declared.dump.Dump.{Dump}
 use Rattle.bs_scan.specs.Crash.{Recording, Crash, crash_of, DumpFits}
 use Rattle.bs_log.specs.Shown.{Basis}
 use Rattle.bs_encode.specs.Depth.{basis_of}
-use Rattle.bs_report_good.specs.declared.part.Part.{Part}
+use Rattle.bs_report.specs.declared.part.Part.{Part}
 use Rattle.bs_report.specs.declared.report.Report.{Report}
-use Rattle.bs_report_good.specs.Chain.{present_of}
-use Rattle.bs_report_good.specs.Good.{IsGood}
-use Rattle.bs_report_good.specs.Valid.{IsValid}
+use Rattle.bs_report.specs.Chain.{present_of}
+use Rattle.bs_report.specs.Good.{IsGood}
+use Rattle.bs_report.specs.Valid.{IsValid}
 use Rattle.bs_audit.specs.declared.parts.Finding.{Finding}
 use Rattle.bs_audit.specs.declared.parts.Finding.TheVariants.{Accepted, Rejected}
 

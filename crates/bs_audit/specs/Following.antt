@@ -1,20 +1,20 @@
 -- The parts of the steps, each from the present at which it is due to begin.
 use Rattle.std.specs.Prelude.{◌≡◌, ℕ, ◌+◌, List, [], ◌∷◌, ◌++◌, length, map, Option, Some, None, option_map}
 use Rattle.std.specs.List.{range_with_len}
-use Rattle.bs_chip.specs.declared.replay.Hit.{Hit}
+use Rattle.bs_chip.specs.declared.first_hit.Hit.{Hit}
 use Rattle.bs_scan.specs.Present.{Present, present_in}
 use Rattle.bs_report.specs.declared.report.HitLine.{HitLine}
 use Rattle.bs_report.specs.declared.report.Step.{Step}
 use Rattle.bs_report.specs.declared.report.Budgets.{Budgets}
 use Rattle.bs_report.specs.declared.report.Report.{Report}
-use Rattle.bs_report_good.specs.declared.part.Part.{Part}
-use Rattle.bs_report_good.specs.declared.part.Part.TheVariants as parts
+use Rattle.bs_report.specs.declared.part.Part.{Part}
+use Rattle.bs_report.specs.declared.part.Part.TheVariants as parts
 use Rattle.bs_scan.specs.Crash.{Crash}
-use Rattle.bs_report_good.specs.Step.{stored_of, hit_of}
-use Rattle.bs_report_good.specs.Chain.{present_after, last_present}
-use Rattle.bs_report_good.specs.Valid.{unless, has_state, has_stored, is_right_cand, is_right_count, same_hit, first_of_all}
-use Rattle.bs_audit.specs.declared.steps.Walk.{Walk}
-use Rattle.bs_audit.specs.declared.steps.Walk.TheVariants.{Fails, Holds}
+use Rattle.bs_report.specs.Step.{stored_of, hit_of}
+use Rattle.bs_report.specs.Chain.{present_after, last_present}
+use Rattle.bs_report.specs.Valid.{unless, has_state, has_stored, is_right_cand, is_right_count, same_hit, first_of_all}
+use Rattle.bs_audit.specs.declared.steps.StepsWalk.{StepsWalk}
+use Rattle.bs_audit.specs.declared.steps.StepsWalk.TheVariants.{Fails, Holds}
 
 -- the hit line of a hit
 abbrev pub line_of : Hit → HitLine
@@ -53,19 +53,19 @@ abbrev pub first_from : Crash → Budgets → ℕ → Option Present → List St
 first_from crash budgets i due steps = first_of_all (following_parts crash budgets i due steps)
 
 -- what is found behind the candidates: the first part that fails, or where the next step is due to begin
-abbrev pub IsListed : Crash → Budgets → ℕ → Step → Walk → Type 0
+abbrev pub IsListed : Crash → Budgets → ℕ → Step → StepsWalk → Type 0
 IsListed crash budgets i step (Fails part) = first_of_all (list_parts crash budgets i step) ≡ Some part
 IsListed crash budgets i step (Holds next) =
     (first_of_all (list_parts crash budgets i step) ≡ None) × (present_after crash step ≡ option_map present_in next)
 
 -- what is found of a step that is due to begin at a present: its first part that fails, or where the next one is due
-abbrev pub IsTried : Crash → Budgets → ℕ → Option Present → Step → Walk → Type 0
+abbrev pub IsTried : Crash → Budgets → ℕ → Option Present → Step → StepsWalk → Type 0
 IsTried crash budgets i due step (Fails part) = first_of_all (parts_from crash budgets i due step) ≡ Some part
 IsTried crash budgets i due step (Holds next) =
     (first_of_all (parts_from crash budgets i due step) ≡ None) × (present_after crash step ≡ option_map present_in next)
 
 -- the same of all steps
-abbrev pub IsWalked : Crash → Report → Walk → Type 0
+abbrev pub IsWalked : Crash → Report → StepsWalk → Type 0
 IsWalked crash r (Fails part) = first_from crash r.budgets 0 (Some (present_in crash.dump)) r.steps ≡ Some part
 IsWalked crash r (Holds next) =
     (first_from crash r.budgets 0 (Some (present_in crash.dump)) r.steps ≡ None)

@@ -15,14 +15,14 @@ use Rattle.bs_encode.specs.Tables.{lit}
 use Rattle.bs_encode.specs.Assuming.{block_for, AreWide}
 use Rattle.bs_report.specs.declared.report.Step.{Step}
 use Rattle.bs_report.specs.declared.report.Report.{Report}
-use Rattle.bs_report_good.specs.declared.part.Part.{Part}
-use Rattle.bs_report_good.specs.declared.part.Part.TheVariants as parts
-use Rattle.bs_report_good.specs.Step.{listed, Ascend}
-use Rattle.bs_report_good.specs.Valid.{unless, first_of_all, cause_after, is_cause, is_right_trace, each_step, log_parts, are_right_blocks, blocks_due}
-use Rattle.bs_report_good.specs.Valid.{blocks_in, is_right_finish, finishes_in}
-use Rattle.bs_report_good.specs.WideCands.{HasWideCands}
-use Rattle.bs_audit.specs.declared.steps.Walk.{Walk}
-use Rattle.bs_audit.specs.declared.steps.Walk.TheVariants.{Fails, Holds}
+use Rattle.bs_report.specs.declared.part.Part.{Part}
+use Rattle.bs_report.specs.declared.part.Part.TheVariants as parts
+use Rattle.bs_report.specs.Step.{listed, Ascend}
+use Rattle.bs_report.specs.Valid.{unless, first_of_all, cause_after, is_cause, is_right_trace, each_step, log_parts, are_right_blocks, blocks_due}
+use Rattle.bs_report.specs.Valid.{blocks_in, is_right_finish, finishes_in}
+use Rattle.bs_report.specs.WideCands.{HasWideCands}
+use Rattle.bs_audit.specs.declared.steps.StepsWalk.{StepsWalk}
+use Rattle.bs_audit.specs.declared.steps.StepsWalk.TheVariants.{Fails, Holds}
 
 -- what a log is checked against, with the assumptions of each step
 abbrev pub basis_with : Encoded → List Clause → Basis
@@ -84,11 +84,11 @@ behind_parts due last basis r =
     logged_parts basis r
 
 -- the first part that fails, where this is found of the steps
-abbrev pub first_after : Walk → Seen → Basis → Report → Option Part
+abbrev pub first_after : StepsWalk → Seen → Basis → Report → Option Part
 first_after (Fails part) last basis r = Some part
 first_after (Holds due) last basis r = first_of_all (behind_parts (option_map present_in due) last basis r)
 
 -- where all parts of the steps hold, the steps are fit
-abbrev pub LeavesFit : Circuit → ℕ → ℕ → List Step → Walk → Type 0
+abbrev pub LeavesFit : Circuit → ℕ → ℕ → List Step → StepsWalk → Type 0
 LeavesFit c items depth steps (Fails part) = Unit {0}
 LeavesFit c items depth steps (Holds due) = All (IsFit c items depth) steps

@@ -4,8 +4,8 @@ ghost use Rattle.std.specs.List.{list_all};
 ghost use Rattle.bs_clause.specs.Literal.{negation};
 ghost use Rattle.bs_encode.specs.Assuming.{block_for};
 ghost use Rattle.bs_scan.specs.Moments.{is_listed};
-ghost use Rattle.bs_report_good.specs.Step.{listed, Ascend};
-ghost use Rattle.bs_report_good.specs.Valid.{are_right_blocks, blocks_due, blocks_in, has_clause};
+ghost use Rattle.bs_report.specs.Step.{listed, Ascend};
+ghost use Rattle.bs_report.specs.Valid.{are_right_blocks, blocks_due, blocks_in, has_clause};
 ghost use Rattle.bs_audit.specs.StepLines.{is_block};
 ghost use Rattle.bs_audit.specs.Blocked.{Blocks, BlocksNone, IsAt, IsNotDue, IsDueAt, AreNoted, NotesMore};
 

@@ -4,21 +4,20 @@ ghost use Rattle.bs_encode.specs.Assuming.{assumptions_for, steps_from, AreWide}
 ghost use Rattle.bs_encode.specs.Tables.{lit};
 ghost use Rattle.bs_log.specs.FirstRefused.{first_refused};
 ghost use Rattle.bs_rup.specs.Verdict.{refused_by};
-ghost use Rattle.bs_report_good.specs.Chain.{present_of};
-ghost use Rattle.bs_report_good.specs.Valid.{each_step, first_of_all, log_parts};
+ghost use Rattle.bs_report.specs.Chain.{present_of};
+ghost use Rattle.bs_report.specs.Valid.{each_step, first_of_all, log_parts};
 ghost use Rattle.bs_audit.specs.Logged.{basis_with, lines_parts, refused_part, AreFit, Suits};
 ghost use Rattle.bs_audit.specs.StepLines.{undeleted};
 
 use crate::blocks::are_right_blocks;
 use crate::candidates::number;
-use crate::ends::is_right_end;
+use crate::list_end::is_right_end;
 use crate::step_lines::split_step;
 use bs_bits::{Bits, List, NoMemory};
 use bs_clause::{Lit, Lits, Var};
 use bs_encode::Encoding;
 use bs_log::Line;
-use bs_report::{Budgets, Report, Step};
-use bs_report_good::Part;
+use bs_report::{Budgets, Part, Report, Step};
 use bs_rup::{Verdict, check};
 use std::alloc::Global;
 

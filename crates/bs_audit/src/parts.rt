@@ -6,10 +6,10 @@ ghost use Rattle.bs_encode.specs.Listing.{IsTidy};
 ghost use Rattle.bs_scan.specs.Choice.{depth_of};
 ghost use Rattle.bs_scan.specs.Crash.{crash_of, recording_of, DumpFits};
 ghost use Rattle.bs_scan.specs.Present.{present_in};
-ghost use Rattle.bs_report_good.specs.Chain.{present_of};
-ghost use Rattle.bs_report_good.specs.Good.{IsGood};
-ghost use Rattle.bs_report_good.specs.Trace.{end_of};
-ghost use Rattle.bs_report_good.specs.Valid.{first_failing, first_of_all};
+ghost use Rattle.bs_report.specs.Chain.{present_of};
+ghost use Rattle.bs_report.specs.Good.{IsGood};
+ghost use Rattle.bs_report.specs.Trace.{end_of};
+ghost use Rattle.bs_report.specs.Valid.{first_failing, first_of_all};
 ghost use Rattle.bs_audit.specs.Finding.{basis_for, part_of};
 ghost use Rattle.bs_audit.specs.Following.{IsWalked};
 ghost use Rattle.bs_audit.specs.Logged.{basis_with, behind_parts, first_after, logged_parts, AreFit, IsFit, LeavesFit};
@@ -17,21 +17,20 @@ ghost use Rattle.bs_audit.specs.Logged.{basis_with, behind_parts, first_after, l
 use crate::law::valid_reports_are_good;
 use crate::logged::{assumptions, refused_line, wrong_log};
 use crate::replay::Replay;
-use crate::steps::Walk;
+use crate::steps::StepsWalk;
 use crate::stop::is_right_stop;
 use crate::trace::is_right_trace;
 use bs_bits::{List, NoMemory};
 use bs_clause::Lits;
 use bs_encode::{Encoding, encodings_are_tidy};
 use bs_net::Netlist;
-use bs_report::{MAX_STEPS, Report};
-use bs_report_good::{Part, end_of};
+use bs_report::{MAX_STEPS, Part, Report, end_of};
 use bs_scan::{Choice, Dump};
 use bs_stim::Runs;
 use std::alloc::Global;
 
 /// What an audit finds of a report (docs/DEFINITIONS.md, "Valid").
-#[derive(Clone, Copy, Debug, PartialEq, Eq)]
+#[derive(Clone, Copy)]
 pub enum Finding {
     /// No part fails.
     Accepted,
@@ -158,7 +157,7 @@ fn walked(
     runs: &Runs,
     dump: &Dump,
     report: &Report,
-) -> Result<Walk, NoMemory>
+) -> Result<StepsWalk, NoMemory>
     requires choice { choice.now.width ≡ length (circuit net.now).flops }
     requires runs { runs.now.width ≡ length (circuit net.now).inputs }
     ensures { IfOk result (IsWalked (crash_of (recording_of net.now.raw choice.now runs.now) dump.now) report.now) }
@@ -181,7 +180,7 @@ fn part_after(
     choice: &Choice,
     dump: &Dump,
     report: &Report,
-    walk: &Walk,
+    walk: &StepsWalk,
 ) -> Result<Option<Part>, NoMemory>
     requires choice { choice.now.width ≡ length (circuit net.now).flops }
     requires budget { report.now.budgets.steps ≤ MAX_STEPS }
@@ -189,8 +188,8 @@ fn part_after(
     ensures { IfOk result (λ part. part ≡ first_after walk.now (end_of (circuit net.now) dump.now.state report.now.steps) (basis_of (circuit net.now) choice.now (map present_of report.now.steps)) report.now) }
 {
     match walk {
-        Walk::Fails(part) => Ok(Some(*part)),
-        Walk::Holds(due) => part_behind(alloc, net, choice, dump, report, due),
+        StepsWalk::Fails(part) => Ok(Some(*part)),
+        StepsWalk::Holds(due) => part_behind(alloc, net, choice, dump, report, due),
     }
 }
 

@@ -1,8 +1,8 @@
 //! The steps of a report, tried by replay.
 ghost use Rattle.std.specs.Prelude.{◌≡◌, ◌<◌, ◌+◌, ◌^◌, ◌∷◌, length, option_map, All, IfOk};
 ghost use Rattle.std.specs.Option.{option_to_list};
-ghost use Rattle.bs_report_good.specs.Step.{listed, stored_of};
-ghost use Rattle.bs_report_good.specs.Valid.{all_bits_eq, first_of_all, has_state, has_stored, is_right_count, same_hit};
+ghost use Rattle.bs_report.specs.Step.{listed, stored_of};
+ghost use Rattle.bs_report.specs.Valid.{all_bits_eq, first_of_all, has_state, has_stored, is_right_count, same_hit};
 ghost use Rattle.bs_scan.specs.Dump.{signatures_of};
 ghost use Rattle.bs_scan.specs.Present.{present_in};
 ghost use Rattle.bs_audit.specs.Following.{begin_parts, line_of, IsListed, IsTried, IsWalked};
@@ -11,14 +11,13 @@ use crate::candidates::number;
 use crate::replay::Replay;
 use bs_bits::{Bits, NoMemory};
 use bs_chip::Hit;
-use bs_report::{Budgets, HitLine, ListEnd, Report, Step};
-use bs_report_good::Part;
+use bs_report::{Budgets, HitLine, ListEnd, Part, Report, Step};
 use bs_scan::{Dump, Seen};
 use std::alloc::Global;
 
 /// What is found of steps: the first part that fails, or the moment at which the next step is due to begin, if there is one.
 #[derive(Drop)]
-pub enum Walk {
+pub enum StepsWalk {
     Fails(Part),
     Holds(Option<Dump>),
 }
@@ -130,20 +129,20 @@ impl<'a> Replay<'a> {
         budgets: &Budgets,
         i: usize,
         step: &Step,
-    ) -> Result<Walk, NoMemory>
+    ) -> Result<StepsWalk, NoMemory>
         requires small { i + 1 < 2 ^ 64 }
         requires widths { All (λ state. length state ≡ length self.old.circuit.flops) (listed step.now.cands) }
         ensures tried { IfOk result (IsListed self.old budgets.now i step.now) }
         ensures kept { self.new ≡ self.old }
     {
         if !is_right_length(budgets, step.end, step.cands.len()) {
-            return Ok(Walk::Fails(Part::Listed(number(i))));
+            return Ok(StepsWalk::Fails(Part::Listed(number(i))));
         }
         let hit = self.hit(alloc, step.cands.slice())?;
         if !is_hit(&step.hit, &hit) {
-            return Ok(Walk::Fails(Part::Hit(number(i))));
+            return Ok(StepsWalk::Fails(Part::Hit(number(i))));
         }
-        Ok(Walk::Holds(dump_of(hit)))
+        Ok(StepsWalk::Holds(dump_of(hit)))
     }
 
     /// One step, counted from 0, that is due to begin at a dump.
@@ -154,32 +153,32 @@ impl<'a> Replay<'a> {
         i: usize,
         due: &Option<Dump>,
         step: &Step,
-    ) -> Result<Walk, NoMemory>
+    ) -> Result<StepsWalk, NoMemory>
         requires { i + 1 < 2 ^ 64 }
         ensures tried { IfOk result (IsTried self.old budgets.now i (option_map present_in due.now) step.now) }
         ensures kept { self.new ≡ self.old }
     {
         match wrong_begin(i, due, step) {
-            Some(part) => Ok(Walk::Fails(part)),
+            Some(part) => Ok(StepsWalk::Fails(part)),
             None => match self.wrong_candidate(alloc, budgets, i, step)? {
-                Some(part) => Ok(Walk::Fails(part)),
+                Some(part) => Ok(StepsWalk::Fails(part)),
                 None => self.list(alloc, budgets, i, step),
             },
         }
     }
 
     /// All steps, one after another.
-    pub fn walk(&mut self, alloc: Global, report: &Report) -> Result<Walk, NoMemory>
+    pub fn walk(&mut self, alloc: Global, report: &Report) -> Result<StepsWalk, NoMemory>
         ensures walked { IfOk result (IsWalked self.old report.now) }
         ensures kept { self.new ≡ self.old }
     {
         let mut due = Some(self.dump.copy()?);
         'steps: for i in 0..report.steps.len() {
             match self.step(alloc, &report.budgets, i, &due, report.steps.get(i))? {
-                Walk::Fails(part) => return Ok(Walk::Fails(part)),
-                Walk::Holds(next) => due = next,
+                StepsWalk::Fails(part) => return Ok(StepsWalk::Fails(part)),
+                StepsWalk::Holds(next) => due = next,
             }
         }
-        Ok(Walk::Holds(due))
+        Ok(StepsWalk::Holds(due))
     }
 }

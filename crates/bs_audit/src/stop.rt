@@ -1,7 +1,7 @@
 //! The cause of a report's stop.
 ghost use Rattle.std.specs.Prelude.{◌≡◌, ◌&&◌, nat_le, length, None, option_map};
 ghost use Rattle.std.specs.List.{last_or};
-ghost use Rattle.bs_report_good.specs.Valid.{cause_after, cause_at, cause_of_end, is_cause};
+ghost use Rattle.bs_report.specs.Valid.{cause_after, cause_at, cause_of_end, is_cause};
 ghost use Rattle.bs_scan.specs.Dump.{signatures_of};
 ghost use Rattle.bs_scan.specs.Present.{present_in};
 

@@ -1,12 +1,11 @@
 //! The trace of a report.
 ghost use Rattle.std.specs.Prelude.{◌≡◌, ◌&&◌, option_map, option_and_then, reverse, filter_map, MatchOption, Some};
-ghost use Rattle.bs_report_good.specs.Trace.{hit_state, input_for, trace_states, trace_inputs};
-ghost use Rattle.bs_report_good.specs.Valid.{all_bits_eq, is_right_trace};
+ghost use Rattle.bs_report.specs.Trace.{hit_state, input_for, trace_states, trace_inputs};
+ghost use Rattle.bs_report.specs.Valid.{all_bits_eq, is_right_trace};
 ghost use Rattle.bs_audit.specs.Cut.{IsCut, IsUncut};
 
 use bs_bits::Bits;
-use bs_report::{Report, Step};
-use bs_report_good::input_for;
+use bs_report::{Report, Step, input_for};
 use bs_scan::Seen;
 
 /// The lists without the last one, if that is as wanted.

@@ -8,8 +8,8 @@ ghost use Rattle.bs_chip.specs.Lockstep.{wide_of, ShowsCycle};
 ghost use Rattle.bs_chip.specs.SignatureHashes.{recorded_by, IsNextAlike, NoneAlike};
 
 use crate::inputs::has_bit;
+use crate::lockstep::Pass;
 use crate::parities::item_word;
-use crate::pass::Pass;
 use bs_bits::Bits;
 use bs_scan::Choice;
 

@@ -6,15 +6,16 @@ ghost use Rattle.bs_chip.specs.Index.{looks, price_of, HasNoneBefore, IsNoted, I
 ghost use Rattle.bs_chip.specs.Lockstep.{TrackShows};
 ghost use Rattle.bs_chip.specs.Hashes.{hash_of};
 
+use crate::hash_cycles::cycle_of;
 use crate::hashes::hash_of;
-use crate::notes::cycle_of;
-use crate::pass::Pass;
+use crate::lockstep::Pass;
 use bs_bits::{List, NoMemory};
 use bs_scan::{HasState, Moment};
 use std::alloc::Global;
 use std::collections::HashMap;
 
 /// How many hashes an index has when it takes no more cycles. It never has more than this many and one a run.
+/// So an index takes little memory beside the planes that are kept (`MAX_TRACK_BYTES`).
 pub const MAX_HASHES: usize = 2_097_152;
 
 /// For each hash of a state of the first so many cycles, the first of these cycles at which a state has it.

@@ -4,7 +4,7 @@ ghost use Rattle.bs_scan.specs.Moments.{IsMoment, run_of, state_of};
 ghost use Rattle.bs_scan.specs.Signature.{stored_at};
 ghost use Rattle.bs_chip.specs.Replay.{in_state};
 
-use crate::player::Player;
+use crate::run_simulator::Player;
 use bs_bits::{Bits, NoMemory};
 use bs_scan::{Chain, Moment, SigReg};
 use std::alloc::Global;

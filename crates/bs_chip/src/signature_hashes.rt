@@ -8,10 +8,10 @@ ghost use Rattle.bs_chip.specs.Hashes.{hash_of};
 ghost use Rattle.bs_chip.specs.SignatureHashes.{recorded_by, HaveSignatureHashes, IsNextAlike, IsNextWithHash, AreSignatureHashes, NoneAlike, NoneWithHash};
 
 use crate::hashes::{hash_of, lane_hashes};
+use crate::kept_planes::lend;
 use crate::lanes::wide_for;
+use crate::lockstep::{Pass, step_to, zero_planes};
 use crate::parities::put_parities;
-use crate::pass::{Pass, step_to, zero_planes};
-use crate::track::lend;
 use bs_bits::{Bits, List, NoMemory};
 use bs_net::Netlist;
 use bs_scan::Choice;

@@ -5,6 +5,7 @@ ghost use Rattle.bs_clause.specs.Literal.{IsVariable, IsCode, negation, code_of,
 use std::marker::Model;
 
 /// Variables are 1 to one less than this.
+/// So the code of a literal, at most twice the variable and 1, is below 2^31.
 pub const VARIABLE_LIMIT: u32 = 1 << 30;
 
 /// A variable. They are counted from 1, and a literal takes those below `VARIABLE_LIMIT`.

@@ -11,13 +11,13 @@ ghost use Rattle.bs_encode.specs.Encoded.{literals, joined, unsigned, encoding_o
 ghost use Rattle.bs_encode.specs.Assuming.{asking, AreWide, before_assumed, assumptions_for, block_for};
 ghost use Rattle.bs_encode.specs.Depth.{IsLinkable, linked, linked_clauses, encoding_by};
 
+use crate::circuit_clauses::{add_gates, add_items, add_next, variable};
+use crate::earlier_frame::{Older, append, no_older, older_clauses, older_literals};
 use crate::law::encodings_are_linkable;
-use crate::older::{Older, append, no_older, older_clauses, older_literals};
-use crate::parts::{add_gates, add_items, add_next, variable};
 use crate::signs::{push_all, push_denied, push_seen, push_signed};
 use crate::tidy::tidy;
 use crate::units::{add_units, constant_table, zero_nets};
-use bs_bits::Bits;
+use bs_bits::{Bits, List};
 use bs_clause::{Clauses, Lit, Lits, NoMemory, Var};
 use bs_net::{Flop, NetId, Netlist};
 use bs_scan::{Choice, Seen};
@@ -25,15 +25,16 @@ use std::alloc::Global;
 use std::marker::Model;
 
 /// The activation literals of so many steps fit above the variables of an encoding.
+/// A report has at most so many steps, and each step has one such literal.
 pub const MAX_ACTIVATIONS: u32 = 65_536;
 
 /// The variables that show the state.
-fn state_variables(alloc: Global, flops: &[Flop]) -> Result<Vec<u32>, NoMemory>
+fn state_variables(alloc: Global, flops: &[Flop]) -> Result<List<u32>, NoMemory>
     requires { All (λ f. f.q.0 < MAX_NETS) flops.now }
-    ensures value { IfOk result (λ l. l.items ≡ map (λ f. net_var f.q) flops.now) }
-    ensures range { IfOk result (λ l. All IsVariable l.items) }
+    ensures value { IfOk result (λ l. l ≡ map (λ f. net_var f.q) flops.now) }
+    ensures range { IfOk result (λ l. All IsVariable l) }
 {
-    let mut states = Vec::new(alloc);
+    let mut states = List::new(alloc);
     for flop in flops {
         states.push(variable(flop.q))?;
     }
@@ -327,7 +328,7 @@ fn one_frame(alloc: Global, net: &Netlist, choice: &Choice) -> Result<Encoding, 
     ensures { IfOk result (λ e. e ≡ encoding_of (circuit net.now) choice.now.items) }
 {
     let states = state_variables(alloc, net.raw().flops.slice())?;
-    let encoding = frame_over(alloc, net, states.as_slice(), choice)?;
+    let encoding = frame_over(alloc, net, states.slice(), choice)?;
     Ok(encoding)
 }
 
@@ -392,7 +393,7 @@ impl Encoding {
         let raw = net.raw();
         let states = state_variables(alloc, raw.flops.slice())?;
         let partial = encode_cycle(alloc, net)?;
-        let encoding = join(alloc, net, states.as_slice(), &partial)?;
+        let encoding = join(alloc, net, states.slice(), &partial)?;
         Ok(encoding)
     }
 

@@ -8,14 +8,15 @@ ghost use Rattle.bs_net.specs.Netlist.{circuit};
 ghost use Rattle.bs_clause.specs.Literal.{IsVariable};
 ghost use Rattle.bs_encode.specs.Units.{units_of, table_units, with_constants, AreZeros};
 
-use crate::table::add_unit;
+use crate::gate_clauses::add_unit;
+use bs_bits::List;
 use bs_clause::{Clauses, Lit, NoMemory, Var};
 use bs_net::{Const, Flop, Gate, NetId, Netlist};
 use std::alloc::Global;
 
 /// The numbers of nets.
-fn add_numbers(into: &mut Vec<u32>, nets: &[NetId]) -> Result<(), NoMemory>
-    ensures { OnOk result (into.new.items ≡ into.old.items ++ map number nets.now) }
+fn add_numbers(into: &mut List<u32>, nets: &[NetId]) -> Result<(), NoMemory>
+    ensures { OnOk result (into.new ≡ into.old ++ map number nets.now) }
 {
     for net in nets {
         into.push(net.0)?;
@@ -24,8 +25,8 @@ fn add_numbers(into: &mut Vec<u32>, nets: &[NetId]) -> Result<(), NoMemory>
 }
 
 /// The nets that flip-flops drive.
-fn add_states(into: &mut Vec<u32>, flops: &[Flop]) -> Result<(), NoMemory>
-    ensures { OnOk result (into.new.items ≡ into.old.items ++ map number (map (λ f. f.q) flops.now)) }
+fn add_states(into: &mut List<u32>, flops: &[Flop]) -> Result<(), NoMemory>
+    ensures { OnOk result (into.new ≡ into.old ++ map number (map (λ f. f.q) flops.now)) }
 {
     for flop in flops {
         into.push(flop.q.0)?;
@@ -34,8 +35,8 @@ fn add_states(into: &mut Vec<u32>, flops: &[Flop]) -> Result<(), NoMemory>
 }
 
 /// The nets of constants.
-fn add_constants(into: &mut Vec<u32>, consts: &[Const]) -> Result<(), NoMemory>
-    ensures { OnOk result (into.new.items ≡ into.old.items ++ map (λ k. k.net.0) consts.now) }
+fn add_constants(into: &mut List<u32>, consts: &[Const]) -> Result<(), NoMemory>
+    ensures { OnOk result (into.new ≡ into.old ++ map (λ k. k.net.0) consts.now) }
 {
     for constant in consts {
         into.push(constant.net.0)?;
@@ -44,8 +45,8 @@ fn add_constants(into: &mut Vec<u32>, consts: &[Const]) -> Result<(), NoMemory>
 }
 
 /// The nets that gates drive.
-fn add_outputs(into: &mut Vec<u32>, gates: &[Gate]) -> Result<(), NoMemory>
-    ensures { OnOk result (into.new.items ≡ into.old.items ++ map (λ g. g.out.0) gates.now) }
+fn add_outputs(into: &mut List<u32>, gates: &[Gate]) -> Result<(), NoMemory>
+    ensures { OnOk result (into.new ≡ into.old ++ map (λ g. g.out.0) gates.now) }
 {
     for gate in gates {
         into.push(gate.out.0)?;
@@ -54,11 +55,11 @@ fn add_outputs(into: &mut Vec<u32>, gates: &[Gate]) -> Result<(), NoMemory>
 }
 
 /// The driven nets, once for each driver, without the clock.
-fn driven_nets(alloc: Global, net: &Netlist) -> Result<Vec<u32>, NoMemory>
-    ensures { IfOk result (λ l. l.items ≡ drivers (circuit net.now)) }
+fn driven_nets(alloc: Global, net: &Netlist) -> Result<List<u32>, NoMemory>
+    ensures { IfOk result (λ l. l ≡ drivers (circuit net.now)) }
 {
     let raw = net.raw();
-    let mut nets = Vec::new(alloc);
+    let mut nets = List::new(alloc);
     add_numbers(&mut nets, net.data_inputs().slice())?;
     add_states(&mut nets, raw.flops.slice())?;
     add_constants(&mut nets, raw.consts.slice())?;
@@ -150,7 +151,7 @@ pub(crate) fn zero_nets(alloc: Global, net: &Netlist) -> Result<Vec<bool>, NoMem
     let _order = net.order();
     let driven = driven_nets(alloc, net)?;
     let mut table = ones(alloc, net.raw().names.len() as usize)?;
-    clear(&mut table, driven.as_slice());
+    clear(&mut table, driven.slice());
     mark(&mut table, net.clock().0);
     Ok(table)
 }

@@ -10,9 +10,9 @@ use Rattle.bs_log.specs.declared.why.Why.TheVariants.{NotFalse, Order}
 use Rattle.bs_log.specs.FirstRefused.{first_refused}
 use Rattle.bs_log.specs.History.{Problem, step_of}
 use Rattle.bs_log.specs.Refusal.{history_of}
-use Rattle.bs_log_dimacs.specs.Cnf.{cnf_text}
-use Rattle.bs_log_dimacs.specs.Law.{HasNoFinish}
-use Rattle.bs_log_dimacs.specs.Proof.{lrat_text}
+use Rattle.bs_log.specs.Cnf.{cnf_text}
+use Rattle.bs_log.specs.ShownLaw.{HasNoFinish}
+use Rattle.bs_log.specs.Proof.{lrat_text}
 use Rattle.bs_encode.specs.Encoded.{Encoded, unsigned}
 use Rattle.bs_reach_unrolled.specs.Unrolled.{reach_problem}
 

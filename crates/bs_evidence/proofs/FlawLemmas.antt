@@ -13,7 +13,7 @@ use Rattle.bs_reach.specs.declared.reach.Outcome.{Outcome}
 use Rattle.bs_reach.specs.declared.reach.Outcome.TheVariants.{Reached, Unreached, Unknown}
 use Rattle.bs_reach.specs.declared.reach.Reach.{Reach}
 use Rattle.bs_reach.specs.Reach.{tried_of}
-use Rattle.bs_evidence.specs.ReadingLaw.{HasExecution, HasAnswerText}
+use Rattle.bs_reach_answer.specs.ReadingLaw.{HasExecution, HasAnswerText}
 use Rattle.bs_evidence.specs.Lengths.{problem_for, HasAsked, IsFlawed, IsEvidence}
 
 by_outcome : (asked : ℕ) (o : Outcome) (states inputs : List (List Bool)) → HasExecution asked o states inputs → tried_of asked o ≤ asked

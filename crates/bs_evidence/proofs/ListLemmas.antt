@@ -8,11 +8,11 @@ use Rattle.bs_log.specs.History.{Problem, activation_of}
 use Rattle.bs_log.specs.Refusal.{assumptions_of, has_distinct_variables}
 use Rattle.bs_log.specs.Refutation.{blocks_of}
 use Rattle.bs_log.specs.Shown.{Basis, Shown}
-use Rattle.bs_log_dimacs.specs.Law.{BlocksOther}
-use Rattle.bs_log_dimacs.proofs.Laws.{unlisted_meets}
-use Rattle.bs_log_dimacs.specs.WholeLaw.{IsLed, AreLed}
-use Rattle.bs_log_dimacs.proofs.Right.{whole_proofs_are_right, accepted_is_unmet}
-use Rattle.bs_log_dimacs.proofs.Unlisted.{unlisted_meets_whole}
+use Rattle.bs_log.specs.ShownLaw.{BlocksOther}
+use Rattle.bs_log.proofs.ShownLaws.{unlisted_meets}
+use Rattle.bs_evidence.specs.WholeLaw.{IsLed, AreLed}
+use Rattle.bs_evidence.proofs.Right.{whole_proofs_are_right, accepted_is_unmet}
+use Rattle.bs_evidence.proofs.Unlisted.{unlisted_meets_whole}
 use Rattle.bs_net.specs.Circuit.{Circuit, next}
 use Rattle.bs_scan.specs.Choice.{Chosen}
 use Rattle.bs_scan.specs.Seen.{whole, Shows}

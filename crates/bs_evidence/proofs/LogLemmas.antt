@@ -12,13 +12,13 @@ use Rattle.bs_log.specs.declared.line.Line.{Line}
 use Rattle.bs_log.specs.declared.line.Line.TheVariants.{Finish}
 use Rattle.bs_log.specs.History.{Problem, step_of}
 use Rattle.bs_log.specs.Refusal.{NoneRefused, IsAccepted, history_of, assumptions_of}
-use Rattle.bs_log_dimacs.specs.declared.asked.Refuted.{Refuted}
-use Rattle.bs_log_dimacs.specs.declared.asked.TheConstants.{FEW}
-use Rattle.bs_log_dimacs.specs.Law.{IsFinishAt}
-use Rattle.bs_log_dimacs.specs.Walk.{problem_in, IsOneOf, IsProvable}
-use Rattle.bs_log_dimacs.proofs.Laws.{right_lines}
-use Rattle.bs_log_dimacs.specs.declared.whole.WholeLog.{WholeLog}
-use Rattle.bs_log_dimacs.specs.WholeWalk.{problem_in as whole_problem, IsWritable, IsSmall}
+use Rattle.bs_log.specs.declared.asked.Refuted.{Refuted}
+use Rattle.bs_log.specs.declared.asked.TheConstants.{FEW}
+use Rattle.bs_log.specs.ShownLaw.{IsFinishAt}
+use Rattle.bs_log.specs.Walk.{problem_in, IsOneOf, IsProvable}
+use Rattle.bs_log.proofs.ShownLaws.{right_lines}
+use Rattle.bs_evidence.specs.declared.whole.WholeLog.{WholeLog}
+use Rattle.bs_evidence.specs.WholeWalk.{problem_in as whole_problem, IsWritable, IsSmall}
 use Rattle.bs_evidence.specs.declared.evidence.Format.{Format}
 use Rattle.bs_evidence.specs.Evidence.{is_short, text_of, ShowsStep}
 

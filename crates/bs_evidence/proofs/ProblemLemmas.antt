@@ -11,7 +11,7 @@ use Rattle.bs_scan.specs.Present.{Present}
 use Rattle.bs_encode.specs.Encoded.{Encoded}
 use Rattle.bs_encode.specs.Assuming.{steps_from}
 use Rattle.bs_encode.specs.Depth.{basis_of, encoding_by}
-use Rattle.bs_log_dimacs.specs.Walk.{IsOneOf}
+use Rattle.bs_log.specs.Walk.{IsOneOf}
 use Rattle.bs_report.specs.declared.report.Report.{Report}
 use Rattle.bs_report.specs.declared.report.Step.{Step}
 use Rattle.bs_evidence.specs.declared.flaw.Evidence.{Evidence}

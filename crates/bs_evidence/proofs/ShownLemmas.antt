@@ -16,12 +16,12 @@ use Rattle.bs_log.specs.Refutation.{blocks_of}
 use Rattle.bs_log.specs.Shown.{Basis, Shown}
 use Rattle.bs_log.specs.Steps.{HasNoBlock}
 use Rattle.bs_log.proofs.Finishes.{no_blocks, no_block_before, no_block_reversed}
-use Rattle.bs_log_dimacs.specs.Cnf.{units, behind, cnf_of}
-use Rattle.bs_log_dimacs.specs.Law.{BlocksOther}
-use Rattle.bs_log_dimacs.proofs.Laws.{unlisted_meets, finished_is_unmet}
-use Rattle.bs_log_dimacs.specs.WholeLaw.{AreLed}
-use Rattle.bs_log_dimacs.proofs.Right.{whole_proofs_are_right, accepted_is_unmet}
-use Rattle.bs_log_dimacs.proofs.Unlisted.{unlisted_meets_whole}
+use Rattle.bs_log.specs.Cnf.{units, behind, cnf_of}
+use Rattle.bs_log.specs.ShownLaw.{BlocksOther}
+use Rattle.bs_log.proofs.ShownLaws.{unlisted_meets, finished_is_unmet}
+use Rattle.bs_evidence.specs.WholeLaw.{AreLed}
+use Rattle.bs_evidence.proofs.Right.{whole_proofs_are_right, accepted_is_unmet}
+use Rattle.bs_evidence.proofs.Unlisted.{unlisted_meets_whole}
 use Rattle.bs_encode.specs.Cycle.{EncodesCycles}
 use Rattle.bs_encode.specs.Tables.{lit}
 use Rattle.bs_encode.specs.Transition.{variables}
@@ -36,7 +36,7 @@ use Rattle.bs_reach_unrolled.proofs.RaisedLemmas.{assumed_distinct}
 use Rattle.bs_reach_unrolled.proofs.UnrolledLemmas.{one_frame, transition_unrolls}
 use Rattle.bs_reach.specs.declared.reach.Reach.{Reach}
 use Rattle.bs_reach.specs.Reach.{tried_of}
-use Rattle.bs_evidence.specs.ReadingLaw.{HasAnswerText}
+use Rattle.bs_reach_answer.specs.ReadingLaw.{HasAnswerText}
 use Rattle.bs_evidence.specs.Lengths.{problem_for, HasTried}
 use Rattle.bs_evidence.specs.LengthLaw.{ReachedMeets, MetIsReached, FinishedIsUnmet, ReachedMeetsAll, AnswerProofsAreRight}
 use Rattle.bs_evidence.proofs.LengthLemmas.{assumed_at, steps_count}

@@ -7,7 +7,7 @@ use Rattle.bs_encode.specs.Encoded.{Encoded}
 use Rattle.bs_encode.specs.Assuming.{assumptions_for, steps_from}
 use Rattle.bs_encode.proofs.AssumingLemmas.{steps_from_more}
 use Rattle.bs_report.specs.declared.report.Step.{Step}
-use Rattle.bs_report_good.specs.Chain.{present_of}
+use Rattle.bs_report.specs.Chain.{present_of}
 
 pub assumptions_more : (e : Encoded) (steps : List Step) (i : ℕ) (step : Step) (all new : List Clause) (own : Clause) (activation : Literal) →
     i < length steps → step ≡ get_or steps i step →

@@ -13,21 +13,21 @@ use Rattle.bs_log.specs.FirstRefused.{first_refused}
 use Rattle.bs_log.specs.History.{Problem, History, activation_of}
 use Rattle.bs_log.specs.Refusal.{IsAccepted, history_of}
 use Rattle.bs_log.specs.Refutation.{blocks_of}
-use Rattle.bs_log_dimacs.specs.Cnf.{cnf_of, cnf_text}
-use Rattle.bs_log_dimacs.specs.Law.{IsFinishAt, HasNoFinish}
-use Rattle.bs_log_dimacs.specs.Proof.{lrat_text, IsRefutation}
-use Rattle.bs_log_dimacs.specs.Walk.{IsOneOf}
-use Rattle.bs_log_dimacs.specs.declared.asked.TheConstants.{FEW}
-use Rattle.bs_log_dimacs.specs.WholeCnf.{finish_of, whole_cnf_of, whole_cnf_text}
-use Rattle.bs_log_dimacs.specs.WholeLaw.{OthersAreGuarded}
-use Rattle.bs_log_dimacs.specs.WholeProof.{whole_proof_of, whole_lrat_text}
-use Rattle.bs_log_dimacs.specs.WholeWalk.{has_finish}
+use Rattle.bs_log.specs.Cnf.{cnf_of, cnf_text}
+use Rattle.bs_log.specs.ShownLaw.{IsFinishAt, HasNoFinish}
+use Rattle.bs_log.specs.Proof.{lrat_text, IsRefutation}
+use Rattle.bs_log.specs.Walk.{IsOneOf}
+use Rattle.bs_log.specs.declared.asked.TheConstants.{FEW}
+use Rattle.bs_evidence.specs.WholeCnf.{finish_of, whole_cnf_of, whole_cnf_text}
+use Rattle.bs_evidence.specs.WholeLaw.{OthersAreGuarded}
+use Rattle.bs_evidence.specs.WholeProof.{whole_proof_of, whole_lrat_text}
+use Rattle.bs_evidence.specs.WholeWalk.{has_finish}
 use Rattle.bs_encode.specs.Assuming.{block_for, AreWide}
 use Rattle.bs_encode.specs.Depth.{basis_of, encoding_by}
 use Rattle.bs_encode.specs.Encoded.{Encoded}
 use Rattle.bs_report.specs.declared.report.Step.{Step}
 use Rattle.bs_report.specs.declared.report.Report.{Report}
-use Rattle.bs_report_good.specs.Chain.{present_of}
+use Rattle.bs_report.specs.Chain.{present_of}
 use Rattle.bs_evidence.specs.declared.flaw.Evidence.{Evidence}
 use Rattle.bs_evidence.specs.declared.flaw.Evidence.TheVariants.{Text, Flawed}
 use Rattle.bs_evidence.specs.declared.flaw.Flaw.{Flaw}

@@ -4,16 +4,16 @@ use Rattle.bs_scan.specs.declared.seen.Seen.{Seen}
 use Rattle.bs_clause.specs.Literal.{Satisfies}
 use Rattle.bs_net.specs.Circuit.{Circuit}
 use Rattle.bs_log.specs.Refusal.{IsAccepted, history_of}
-use Rattle.bs_log_dimacs.specs.Cnf.{cnf_of}
-use Rattle.bs_log_dimacs.specs.Law.{IsFinishAt}
-use Rattle.bs_log_dimacs.specs.Proof.{IsRefutation}
-use Rattle.bs_log_dimacs.specs.WholeCnf.{finish_of, whole_cnf_of}
-use Rattle.bs_log_dimacs.specs.WholeProof.{whole_proof_of}
+use Rattle.bs_log.specs.Cnf.{cnf_of}
+use Rattle.bs_log.specs.ShownLaw.{IsFinishAt}
+use Rattle.bs_log.specs.Proof.{IsRefutation}
+use Rattle.bs_evidence.specs.WholeCnf.{finish_of, whole_cnf_of}
+use Rattle.bs_evidence.specs.WholeProof.{whole_proof_of}
 use Rattle.bs_encode.specs.Transition.{variables}
 use Rattle.bs_reach.specs.declared.reach.Reach.{Reach}
 use Rattle.bs_reach_unrolled.specs.declared.limits.TheConstants.{MAX_FRAME_VARIABLES}
 use Rattle.bs_reach_unrolled.specs.Execution.{ReachedIn}
-use Rattle.bs_evidence.specs.ReadingLaw.{HasAnswerText}
+use Rattle.bs_reach_answer.specs.ReadingLaw.{HasAnswerText}
 use Rattle.bs_evidence.specs.Lengths.{problem_for, HasTried}
 
 -- Where the state is reached in a length that was tried, an assignment meets the clauses of the length, behind any first lines of the

@@ -3,7 +3,7 @@ use Rattle.std.specs.Prelude.{ℕ, Bool, List, Option, IfSome}
 use Rattle.bs_scan.specs.declared.seen.Seen.{Seen}
 use Rattle.bs_net.specs.Circuit.{Circuit}
 use Rattle.bs_log.specs.History.{Problem}
-use Rattle.bs_log_dimacs.specs.Walk.{IsOneOf}
+use Rattle.bs_log.specs.Walk.{IsOneOf}
 use Rattle.bs_evidence.specs.declared.evidence.Format.{Format}
 use Rattle.bs_evidence.specs.declared.flaw.Evidence.{Evidence}
 use Rattle.bs_evidence.specs.declared.flaw.Evidence.TheVariants.{Text, Flawed}

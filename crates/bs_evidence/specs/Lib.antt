@@ -3,9 +3,9 @@ pub mod Evidence
 pub mod Words
 pub mod Lengths
 pub mod LengthLaw
-pub mod Forms
-pub mod Reading
-pub mod ReadingLaw
-pub mod Shown
+pub mod WholeCnf
+pub mod WholeProof
+pub mod WholeLaw
 -- what inner functions promise each other
 pub mod Logged
+pub mod WholeWalk

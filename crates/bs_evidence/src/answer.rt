@@ -4,13 +4,13 @@ ghost use Rattle.bs_net.specs.Circuit.{reset_state};
 ghost use Rattle.bs_net.specs.Netlist.{circuit};
 ghost use Rattle.bs_encode.specs.Encoded.{encoding_of};
 ghost use Rattle.bs_encode.specs.Transition.{variables};
-ghost use Rattle.bs_log_dimacs.specs.Walk.{IsOneOf};
+ghost use Rattle.bs_log.specs.Walk.{IsOneOf};
 ghost use Rattle.bs_evidence.specs.Evidence.{IsLogEvidence};
 ghost use Rattle.bs_reach_unrolled.specs.Room.{IsUnrollable};
 ghost use Rattle.bs_reach_unrolled.specs.Unrolled.{unrolled, reach_problem};
 ghost use Rattle.bs_reach_unrolled.specs.declared.limits.TheConstants.{MAX_FRAMES, MAX_FRAME_VARIABLES};
 ghost use Rattle.bs_reach.specs.Reach.{tried_of};
-ghost use Rattle.bs_evidence.specs.ReadingLaw.{HasAnswerText};
+ghost use Rattle.bs_reach_answer.specs.ReadingLaw.{HasAnswerText};
 ghost use Rattle.bs_evidence.specs.Lengths.{problem_for, HasAsked, IsEvidence};
 
 use crate::evidence::{Format, is_there};

@@ -5,7 +5,7 @@ ghost use Rattle.bs_encode.specs.Assuming.{assumptions_for, steps_from, AreWide}
 ghost use Rattle.bs_encode.specs.Depth.{encoding_by};
 ghost use Rattle.bs_encode.specs.Listing.{IsTidy};
 ghost use Rattle.bs_encode.specs.Tables.{lit};
-ghost use Rattle.bs_report_good.specs.Chain.{present_of};
+ghost use Rattle.bs_report.specs.Chain.{present_of};
 ghost use Rattle.bs_evidence.specs.Evidence.{Suits};
 
 use bs_bits::{Bits, List, NoMemory};

@@ -4,7 +4,7 @@ ghost use Rattle.bs_net.specs.Netlist.{circuit};
 ghost use Rattle.bs_encode.specs.Depth.{encoding_by};
 ghost use Rattle.bs_encode.specs.Listing.{IsTidy};
 ghost use Rattle.bs_report.specs.declared.limits.TheConstants.{MAX_STEPS};
-ghost use Rattle.bs_log_dimacs.specs.Walk.{IsOneOf};
+ghost use Rattle.bs_log.specs.Walk.{IsOneOf};
 ghost use Rattle.bs_evidence.specs.Evidence.{problem_for, is_there, HasFit, IsEvidence, IsFitOr, IsLogEvidence, IsMissing};
 
 use crate::assumed::{assumptions, encoding};
@@ -20,7 +20,7 @@ use bs_scan::Choice;
 use std::alloc::Global;
 
 /// Which text is asked for.
-#[derive(Clone, Copy, Debug, PartialEq, Eq)]
+#[derive(Clone, Copy)]
 pub enum Format {
     /// The clauses, as DIMACS text.
     Clauses,

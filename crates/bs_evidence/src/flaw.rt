@@ -2,7 +2,7 @@
 use bs_log::Why;
 
 /// Why a list of a report, or all of them, have no evidence.
-#[derive(Clone, Copy, Debug, PartialEq, Eq)]
+#[derive(Clone, Copy)]
 pub enum Flaw {
     /// The report keeps another number of signatures than the signature's register.
     Format,

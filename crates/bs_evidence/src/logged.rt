@@ -3,22 +3,21 @@ ghost use Rattle.std.specs.Prelude.{◌≡◌, ◌≤◌, ◌<◌, ◌+◌, ◌+
 ghost use Rattle.std.specs.List.{list_all};
 ghost use Rattle.bs_clause.specs.declared.literal.TheConstants.{VARIABLE_LIMIT};
 ghost use Rattle.bs_log.specs.Refusal.{history_of, IsAccepted};
-ghost use Rattle.bs_log_dimacs.specs.Law.{IsFinishAt};
-ghost use Rattle.bs_log_dimacs.specs.Walk.{problem_in, IsOneOf, IsProvable};
-ghost use Rattle.bs_log_dimacs.specs.declared.asked.TheConstants.{FEW};
-ghost use Rattle.bs_log_dimacs.specs.WholeWalk.{problem_in as whole_problem, history_in, has_finish, IsWritable};
+ghost use Rattle.bs_log.specs.ShownLaw.{IsFinishAt};
+ghost use Rattle.bs_log.specs.Walk.{problem_in, IsOneOf, IsProvable};
+ghost use Rattle.bs_log.specs.declared.asked.TheConstants.{FEW};
+ghost use Rattle.bs_evidence.specs.WholeWalk.{problem_in as whole_problem, history_in, has_finish, IsWritable};
 ghost use Rattle.bs_evidence.specs.Evidence.{text_of, whole_text_of, assumes_few, is_short, IsLogEvidence};
 ghost use Rattle.bs_evidence.specs.Logged.{problem_of};
 
 use crate::evidence::Format;
 use crate::flaw::{Evidence, Flaw};
+use crate::whole::{WholeLog, has_finish};
+use crate::whole_cnf::push_whole_cnf;
+use crate::whole_lrat::push_whole_lrat;
 use bs_bits::{List, NoMemory};
 use bs_clause::{Clauses, Lits};
-use bs_log::{Line, Log};
-use bs_log_dimacs::{
-    FEW, Refuted, WholeLog, finish_place, has_finish, push_cnf, push_lrat, push_whole_cnf,
-    push_whole_lrat,
-};
+use bs_log::{FEW, Line, Log, Refuted, finish_place, push_cnf, push_lrat};
 use bs_rup::{Verdict, check};
 use std::alloc::Global;
 

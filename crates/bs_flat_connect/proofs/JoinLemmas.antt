@@ -15,7 +15,7 @@ use Rattle.bs_flat_nets.specs.declared.blocks.JoinedNets.{JoinedNets}
 use Rattle.bs_flat_connect.specs.Wiring.{TellsTerm, StandsFor, side_by_side}
 use Rattle.bs_flat_connect.specs.Ports.{port_in}
 use Rattle.bs_flat_connect.specs.declared.ports.Port.{Port}
-use Rattle.bs_flat_connect.specs.declared.terms.Stretch.{Stretch}
+use Rattle.bs_flat_connect.specs.declared.terms.NetRange.{NetRange}
 use Rattle.bs_flat_connect.specs.declared.wiring.Wiring.{Wiring}
 use Rattle.bs_flat_connect.specs.Joining.{unless, Tells, run_of, run_for, whole_names, JoinsTerm, JoinsPlain}
 use Rattle.bs_flat_connect.specs.declared.fault.Fault.{Fault}
@@ -69,7 +69,7 @@ module _ (table : List (List ℕ)) (m below : flat.ReadModule) where
   told r place js true e = ap Ok (sym e)
   told r place js false e = inr refl
 
-  term_there : (q : flat.Port) (t : Term) (s : Stretch) (ks : List (List ℕ)) → flat.term_keys table (flat.scope_of m) t ≡ Some ks → length ks ≡ s.width →
+  term_there : (q : flat.Port) (t : Term) (s : NetRange) (ks : List (List ℕ)) → flat.term_keys table (flat.scope_of m) t ≡ Some ks → length ks ≡ s.width →
       nets_of (whole_names table m) ks ≡ side_by_side s.first s.width →
       Tells joins_of_run (run_of (port_in below q) t s) (flat.term_fault table m below (Some q) (Some t))
       (flat.joins_from (whole_names table m) q.first (flat.keys_for table m (Some t)))
@@ -87,7 +87,7 @@ module _ (table : List (List ℕ)) (m below : flat.ReadModule) where
       Tells joins_of_run (Err (At (flat.term_place t))) (flat.term_fault table m below (Some q) (Some t)) js
   term_absent q t js e = inr (ap (λ b. unless (cond b None (Some (flat.term_place t))) js) (goes_none q t e))
 
-pub term_joined : (table : List (List ℕ)) (w : Wiring) (p : Port) (t : Term) (found : Option Stretch) → TellsTerm table w t found →
+pub term_joined : (table : List (List ℕ)) (w : Wiring) (p : Port) (t : Term) (found : Option NetRange) → TellsTerm table w t found →
     JoinsTerm table w p t (run_for p t found)
 term_joined table w p t found tells =
     record {
@@ -96,7 +96,7 @@ term_joined table w p t found tells =
           (flat.joins_from (whole_names table m) q.first (flat.keys_for table m (Some t)))) (sym e) (by m below q found (tells.is m wired));
     }
   where
-    by : (m below : flat.ReadModule) (q : flat.Port) (o : Option Stretch) → StandsFor table m t o →
+    by : (m below : flat.ReadModule) (q : flat.Port) (o : Option NetRange) → StandsFor table m t o →
         Tells joins_of_run (run_for (port_in below q) t o) (flat.term_fault table m below (Some q) (Some t))
         (flat.joins_from (whole_names table m) q.first (flat.keys_for table m (Some t)))
     by m below q (Some s) h = term_there table m below q t s h.0 h.1 h.2 h.3

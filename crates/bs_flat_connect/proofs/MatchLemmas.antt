@@ -8,7 +8,7 @@ use Rattle.std.specs.List.{position_or_len}
 use Rattle.std.proofs.lemmas.Bool.{ltb-false}
 use Rattle.std.proofs.lemmas.List.{drop_more, drop_all, length-map}
 use Rattle.std.proofs.lemmas.List.Folds.{find_at}
-use Rattle.bs_verilog_lexemes.specs.declared.lexeme.Name.{Name}
+use Rattle.bs_lex.specs.declared.lexeme.Name.{Name}
 use Rattle.bs_verilog_syntax.specs.declared.tree.Connection.{Connection}
 use Rattle.bs_verilog_syntax.specs.declared.tree.Connection.TheVariants.{Empty, Place, Pin}
 use Rattle.bs_flat_meaning.specs.Connecting as flat

@@ -6,7 +6,7 @@ use Rattle.std.proofs.lemmas.List.Elements.{All-weaker}
 use Rattle.bs_net.specs.declared.net.NetId.{NetId}
 use Rattle.bs_net.specs.Parts.{Parts}
 use Rattle.bs_net.specs.Names.{number_of, net}
-use Rattle.bs_verilog_lexemes.specs.declared.lexeme.Name.{Name}
+use Rattle.bs_lex.specs.declared.lexeme.Name.{Name}
 use Rattle.bs_verilog_syntax.specs.declared.tree.Range.{Range}
 use Rattle.bs_verilog_syntax.specs.declared.tree.Says.{Says}
 use Rattle.bs_verilog_syntax.specs.declared.tree.Term.{Term}
@@ -20,7 +20,7 @@ use Rattle.bs_flat_meaning.specs.declared.statements.Written.{Written}
 use Rattle.bs_flat_meaning.specs.Connecting.{ReadModule, scope_of, with_net, with_term, with_terms, whole_parts, term_keys, declared_keys, undeclared_keys}
 use Rattle.bs_flat_modules.specs.declared.owns.Own.{Own}
 use Rattle.bs_flat_connect.specs.declared.wiring.Wiring.{Wiring}
-use Rattle.bs_flat_connect.specs.declared.terms.Stretch.{Stretch}
+use Rattle.bs_flat_connect.specs.declared.terms.NetRange.{NetRange}
 use Rattle.bs_flat_connect.specs.Growing.{bare_of, terms_in}
 use Rattle.bs_flat_connect.specs.Wiring.{read_of, side_by_side, net_at, spanned, StandFrom, AreSpans, HasSpan, HaveSpans, ids_of, IsWiringOf, AreNets, IsStretch, TellsDeclared, StandsFor, TellsTerm}
 use Rattle.bs_flat_connect.proofs.PortLemmas.{length_keys}
@@ -81,7 +81,7 @@ is_wiring table own ws w scope made spans turns =
 
 -- ---- the nets of a term
 
-pub one_net : (names : List (List ℕ)) (key : List ℕ) (n : NetId) (s : Stretch) → Some n ≡ option_map net (number_of names key) → s.first ≡ n.0 → s.width ≡ 1
+pub one_net : (names : List (List ℕ)) (key : List ℕ) (n : NetId) (s : NetRange) → Some n ≡ option_map net (number_of names key) → s.first ≡ n.0 → s.width ≡ 1
     → AreNets names (Some (key ∷ [])) (Some s)
 one_net names key n s found first width = (key ∷ [], refl, sym width, nets)
   where
@@ -94,7 +94,7 @@ one_net names key n s found first width = (key ∷ [], refl, sym width, nets)
     nets : nets_of names (key ∷ []) ≡ side_by_side s.first s.width
     nets = ap (λ (k : NetId). k ∷ []) (found_net names key n found ∙ net_is) ∙ ap (side_by_side s.first) (sym width)
 
-pub whole_name : (names : List (List ℕ)) (name : List ℕ) (range : Option Range) (span : Option ℕ) (s : Option Stretch) → IsStretch range span s
+pub whole_name : (names : List (List ℕ)) (name : List ℕ) (range : Option Range) (span : Option ℕ) (s : Option NetRange) → IsStretch range span s
     → ((first : ℕ) → span ≡ Some first → StandFrom names (keys name range) first) → AreNets names (Some (keys name range)) s
 whole_name names name range span None e stand = absurd e
 whole_name names name range span (Some s) e stand =
@@ -105,13 +105,13 @@ whole_name names name range span (Some s) e stand =
       stand s.first e.0 ∙ ap (side_by_side s.first) long,
     )
 
-pub tells_whole : (names : List (List ℕ)) (name : List ℕ) (range : Option Range) (index span : Option ℕ) (s : Option Stretch) → index ≡ None
+pub tells_whole : (names : List (List ℕ)) (name : List ℕ) (range : Option Range) (index span : Option ℕ) (s : Option NetRange) → index ≡ None
     → IsStretch range span s → TellsDeclared names name range index span s
 tells_whole names name range index span s e is =
     record { is = λ stand. subst (λ (i : Option ℕ). AreNets names (declared_keys name range i) s) (sym e) (whole_name names name range span s is stand) }
 
 -- what holds of the keys of a wiring holds in its module
-in_module : (table : List (List ℕ)) (w : Wiring) (m : ReadModule) (found keys : Option (List (List ℕ))) (s : Option Stretch) → IsWiringOf table m w
+in_module : (table : List (List ℕ)) (w : Wiring) (m : ReadModule) (found keys : Option (List (List ℕ))) (s : Option NetRange) → IsWiringOf table m w
     → found ≡ keys → AreNets w.keys keys s → AreNets (whole_parts table m).names found s
 in_module table w m found keys s wired is nets =
     subst (λ (ks : List (List ℕ)). AreNets ks found s) wired.names (subst (λ (o : Option (List (List ℕ))). AreNets w.keys o s) (sym is) nets)
@@ -121,7 +121,7 @@ constant_keys : (table : List (List ℕ)) (scope : ℕ → Option Says) (t : Ter
 unfolding term_keys
 constant_keys table scope t place b e = rw e refl
 
-pub tells_constant : (table : List (List ℕ)) (w : Wiring) (t : Term) (place : ℕ) (b : Bool) (s : Option Stretch) → t ≡ Constant place b
+pub tells_constant : (table : List (List ℕ)) (w : Wiring) (t : Term) (place : ℕ) (b : Bool) (s : Option NetRange) → t ≡ Constant place b
     → AreNets w.keys (Some (constant_key b ∷ [])) s → TellsTerm table w t s
 tells_constant table w t place b s e nets =
     record { is = λ m wired. in_module table w m _ _ s wired (constant_keys table (scope_of m) t place b e) nets }
@@ -134,7 +134,7 @@ named_keys table scope n index o e =
     ap (λ (o : Option Says). elim o as
     (λ _. Option (List (List ℕ))) [ None ↦ undeclared_keys (text table n) index | Some s ↦ declared_keys (text table n) s.range index ]) e
 
-pub tells_declared : (table : List (List ℕ)) (w : Wiring) (n : Name) (index : Option ℕ) (says : Says) (span : Option ℕ) (name : List ℕ) (s : Option Stretch)
+pub tells_declared : (table : List (List ℕ)) (w : Wiring) (n : Name) (index : Option ℕ) (says : Says) (span : Option ℕ) (name : List ℕ) (s : Option NetRange)
     → Some says ≡ looked w.scope n.id → span ≡ spanned w.spans n.id → name ≡ text table n
     → TellsDeclared w.keys name says.range index span s → TellsTerm table w (Named n index) s
 tells_declared table w n index says span name s found there is tells = record { is = stands }
@@ -146,7 +146,7 @@ tells_declared table w n index says span name s found there is tells = record { 
         (subst (λ (t : List ℕ). AreNets w.keys (declared_keys t says.range index) s) is
         (tells.is (λ first e. subst (λ (t : List ℕ). StandFrom w.keys (keys t says.range) first) (sym is) (wired.spans.is n.id first says said (sym there ∙ e)))))
 
-pub tells_undeclared : (table : List (List ℕ)) (w : Wiring) (n : Name) (index : Option ℕ) (name : List ℕ) (s : Option Stretch)
+pub tells_undeclared : (table : List (List ℕ)) (w : Wiring) (n : Name) (index : Option ℕ) (name : List ℕ) (s : Option NetRange)
     → None ≡ looked w.scope n.id → name ≡ text table n → AreNets w.keys (undeclared_keys name index) s → TellsTerm table w (Named n index) s
 tells_undeclared table w n index name s found is nets = record { is = stands }
   where

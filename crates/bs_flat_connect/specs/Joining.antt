@@ -10,7 +10,7 @@ use Rattle.bs_flat_nets.specs.declared.blocks.JoinedNets.{JoinedNets}
 use Rattle.bs_flat_connect.specs.Wiring.{IsWiringOf}
 use Rattle.bs_flat_connect.specs.Ports.{port_in}
 use Rattle.bs_flat_connect.specs.declared.ports.Port.{Port}
-use Rattle.bs_flat_connect.specs.declared.terms.Stretch.{Stretch}
+use Rattle.bs_flat_connect.specs.declared.terms.NetRange.{NetRange}
 use Rattle.bs_flat_connect.specs.declared.wiring.Wiring.{Wiring}
 use Rattle.bs_flat_connect.specs.Matching.{matched_of}
 use Rattle.bs_flat_connect.specs.declared.matching.Matched.{Matched}
@@ -27,12 +27,12 @@ abbrev pub Tells : {A B : Type 0} → (A → B) → Result A Fault → Option �
 Tells view result fault value = Answers NoMemory view result (unless fault value)
 
 -- the run of a port with the nets for which a term stands
-abbrev pub run_of : Port → Term → Stretch → Result JoinedNets Fault
+abbrev pub run_of : Port → Term → NetRange → Result JoinedNets Fault
 run_of p t s =
     if s.width == p.width && not (flat.is_constant_term t && p.is_output) then Ok (record { inner = p.first; outer = s.first; width = s.width })
     else Err (At (flat.term_place t))
 
-abbrev pub run_for : Port → Term → Option Stretch → Result JoinedNets Fault
+abbrev pub run_for : Port → Term → Option NetRange → Result JoinedNets Fault
 run_for p t (Some s) = run_of p t s
 run_for p t None = Err (At (flat.term_place t))
 

@@ -1,6 +1,6 @@
 -- The ports of a module, as code has them.
 use Rattle.std.specs.Prelude.{◌≡◌, ℕ, ◌+◌, List, [], ◌∷◌, map, Option}
-use Rattle.bs_verilog_lexemes.specs.declared.lexeme.Name.{Name}
+use Rattle.bs_lex.specs.declared.lexeme.Name.{Name}
 use Rattle.bs_verilog_syntax.specs.declared.tree.Says.{Says}
 use Rattle.bs_verilog_syntax.specs.declared.tree.Direction.TheVariants as directions
 use Rattle.bs_verilog_scope.specs.Declaring.{direction_of, known}

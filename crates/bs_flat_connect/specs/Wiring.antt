@@ -16,7 +16,7 @@ use Rattle.bs_flat_meaning.specs.Connecting.{ReadModule, scope_of, term_keys, de
 use Rattle.bs_flat_meaning.specs.Reading.{gathered}
 use Rattle.bs_flat_modules.specs.declared.owns.Own.{Own}
 use Rattle.bs_flat_modules.specs.Owns.{module_and_parts}
-use Rattle.bs_flat_connect.specs.declared.terms.Stretch.{Stretch}
+use Rattle.bs_flat_connect.specs.declared.terms.NetRange.{NetRange}
 use Rattle.bs_flat_connect.specs.declared.wiring.Wiring.{Wiring}
 
 -- how many bits a declared name has
@@ -98,24 +98,24 @@ pub record IsWiringOf (table : List (List ℕ)) (m : ReadModule) (w : Wiring) : 
   pub turns : HaveSpans table w.keys (scope_of m) (ids_of m.says.declared) w.spans
 
 -- the nets of keys side by side; none where there are no keys
-abbrev pub AreNets : List (List ℕ) → Option (List (List ℕ)) → Option Stretch → Type 0
+abbrev pub AreNets : List (List ℕ) → Option (List (List ℕ)) → Option NetRange → Type 0
 AreNets names found None = found ≡ None
 AreNets names found (Some s) =
     (ks : List (List ℕ)) × (found ≡ Some ks) × (length ks ≡ s.width) × (nets_of names ks ≡ side_by_side s.first s.width)
 
 -- the stretch of a declared name's nets, from the first on
-abbrev pub IsStretch : Option Range → Option ℕ → Option Stretch → Type 0
+abbrev pub IsStretch : Option Range → Option ℕ → Option NetRange → Type 0
 IsStretch range span None = ⊥
 IsStretch range span (Some s) = (span ≡ Some s.first) × (s.width ≡ bit_count range)
 
 -- the nets of a declared name, whole or of one bit, where those of the name stand side by side from its span on
-pub record TellsDeclared (names : List (List ℕ)) (name : List ℕ) (range : Option Range) (index span : Option ℕ) (s : Option Stretch) : Type 0 where
+pub record TellsDeclared (names : List (List ℕ)) (name : List ℕ) (range : Option Range) (index span : Option ℕ) (s : Option NetRange) : Type 0 where
   pub is : ((first : ℕ) → span ≡ Some first → StandFrom names (keys name range) first) → AreNets names (declared_keys name range index) s
 
 -- the nets for which a term stands, side by side; none where its index names no bit
-abbrev pub StandsFor : List (List ℕ) → ReadModule → Term → Option Stretch → Type 0
+abbrev pub StandsFor : List (List ℕ) → ReadModule → Term → Option NetRange → Type 0
 StandsFor table m t s = AreNets (whole_parts table m).names (term_keys table (scope_of m) t) s
 
 -- the same in each module with this wiring
-pub record TellsTerm (table : List (List ℕ)) (w : Wiring) (t : Term) (s : Option Stretch) : Type 0 where
+pub record TellsTerm (table : List (List ℕ)) (w : Wiring) (t : Term) (s : Option NetRange) : Type 0 where
   pub is : (m : ReadModule) → IsWiringOf table m w → StandsFor table m t s

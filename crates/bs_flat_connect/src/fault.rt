@@ -6,7 +6,7 @@ use bs_bits::NoMemory;
 use std::alloc::{AllocError, AllocFailed};
 
 /// Why the connections of a module do not go with their ports. A place is a byte offset from 0.
-#[derive(Clone, Copy, Debug, PartialEq, Eq)]
+#[derive(Clone, Copy, Debug)]
 pub enum Fault {
     /// The first term or pin that does not go with its port.
     At(u32),

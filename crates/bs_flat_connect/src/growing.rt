@@ -11,8 +11,8 @@ use crate::naming::scalar;
 use crate::nets::Keys;
 use bs_bits::{List, NoMemory};
 use bs_flat_meaning::Written;
+use bs_lex::NameTable;
 use bs_net::{Const, Names, NetId};
-use bs_verilog_lexemes::Table;
 use bs_verilog_scope::{Scope, constant_key, entry};
 use bs_verilog_syntax::{Connection, PackedConnection, Term};
 use std::alloc::Global;
@@ -87,7 +87,7 @@ fn add_name(alloc: Global, made: &mut ModuleNets, name: &str) -> Result<(), NoMe
 fn add_term(
     alloc: Global,
     made: &mut ModuleNets,
-    table: &Table,
+    table: &NameTable,
     scope: &Scope,
     term: Term,
 ) -> Result<(), NoMemory>
@@ -117,7 +117,7 @@ fn term_of(c: Connection) -> Option<Term>
 fn add_connection(
     alloc: Global,
     made: &mut ModuleNets,
-    table: &Table,
+    table: &NameTable,
     scope: &Scope,
     c: &PackedConnection,
 ) -> Result<(), NoMemory>
@@ -133,7 +133,7 @@ fn add_connection(
 fn add_connections(
     alloc: Global,
     made: &mut ModuleNets,
-    table: &Table,
+    table: &NameTable,
     scope: &Scope,
     cs: &[PackedConnection],
 ) -> Result<(), NoMemory>
@@ -149,7 +149,7 @@ fn add_connections(
 pub fn add_instances(
     alloc: Global,
     made: &mut ModuleNets,
-    table: &Table,
+    table: &NameTable,
     scope: &Scope,
     written: &[Written],
 ) -> Result<(), NoMemory>

@@ -13,7 +13,7 @@ use bs_bits::{List, NoMemory};
 use bs_flat_meaning::Written;
 use bs_flat_modules::Own;
 use bs_flat_nets::Child;
-use bs_verilog_lexemes::{Name, Table};
+use bs_lex::{Name, NameTable};
 use std::alloc::Global;
 
 /// The ports of each module.
@@ -29,7 +29,7 @@ pub fn all_ports(alloc: Global, owns: &[Own]) -> Result<List<Ports>, NoMemory>
 }
 
 /// The text of a name.
-fn name_text(alloc: Global, table: &Table, name: Name) -> Result<String, NoMemory>
+fn name_text(alloc: Global, table: &NameTable, name: Name) -> Result<String, NoMemory>
     ensures { IfOk result (λ t. string_bytes t ≡ text table.now name) }
 {
     let text = String::from_str(alloc, table.text(name))?;
@@ -39,7 +39,7 @@ fn name_text(alloc: Global, table: &Table, name: Name) -> Result<String, NoMemor
 /// An instance of the module with a number and these ports.
 fn child(
     alloc: Global,
-    table: &Table,
+    table: &NameTable,
     wiring: &Wiring,
     ports: &Ports,
     of: u32,
@@ -57,7 +57,7 @@ fn child(
 /// The instances of a module, by the numbers of their modules, of which all have their ports here.
 pub fn children(
     alloc: Global,
-    table: &Table,
+    table: &NameTable,
     wiring: &Wiring,
     ports: &[Ports],
     below: &[u32],

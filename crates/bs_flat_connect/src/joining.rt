@@ -6,11 +6,11 @@ ghost use Rattle.bs_flat_meaning.specs.Connecting as flat;
 use crate::fault::Fault;
 use crate::matching::Matched;
 use crate::ports::Port;
-use crate::terms::{Stretch, term_nets};
+use crate::terms::{NetRange, term_nets};
 use crate::wiring::Wiring;
 use bs_bits::{List, NoMemory};
 use bs_flat_nets::JoinedNets;
-use bs_verilog_lexemes::Table;
+use bs_lex::NameTable;
 use bs_verilog_syntax::Term;
 use std::alloc::Global;
 
@@ -34,7 +34,7 @@ fn is_constant(term: Term) -> bool
 }
 
 /// The run of a port with the nets for which a term stands, where they go with it.
-fn run_of(port: Port, term: Term, stretch: Stretch) -> Result<JoinedNets, Fault>
+fn run_of(port: Port, term: Term, stretch: NetRange) -> Result<JoinedNets, Fault>
     ensures { result ≡ spec.run_of port term stretch }
 {
     let is_driven = is_constant(term) && port.is_output;
@@ -50,7 +50,7 @@ fn run_of(port: Port, term: Term, stretch: Stretch) -> Result<JoinedNets, Fault>
 }
 
 /// The run of a port with the nets for which a term stands, if it stands for any.
-fn run_for(port: Port, term: Term, found: Option<Stretch>) -> Result<JoinedNets, Fault>
+fn run_for(port: Port, term: Term, found: Option<NetRange>) -> Result<JoinedNets, Fault>
     ensures { result ≡ spec.run_for port term found }
 {
     match found {
@@ -62,7 +62,7 @@ fn run_for(port: Port, term: Term, found: Option<Stretch>) -> Result<JoinedNets,
 /// The run of a port with the nets of a term.
 fn join_term(
     alloc: Global,
-    table: &Table,
+    table: &NameTable,
     wiring: &Wiring,
     port: Port,
     term: Term,
@@ -76,7 +76,7 @@ fn join_term(
 /// The run of a port, where there is one, with the nets of a term.
 fn join_port(
     alloc: Global,
-    table: &Table,
+    table: &NameTable,
     wiring: &Wiring,
     port: Option<Port>,
     term: Term,
@@ -92,7 +92,7 @@ fn join_port(
 /// The run of a port with the nets of a term, if there is a term.
 fn join_plain(
     alloc: Global,
-    table: &Table,
+    table: &NameTable,
     wiring: &Wiring,
     port: Option<Port>,
     term: Option<Term>,
@@ -111,7 +111,7 @@ fn join_plain(
 /// The run that a connection makes, if it has a term.
 fn join_one(
     alloc: Global,
-    table: &Table,
+    table: &NameTable,
     wiring: &Wiring,
     one: Matched,
 ) -> Result<Option<JoinedNets>, Fault>
@@ -139,7 +139,7 @@ fn add(runs: &mut List<JoinedNets>, run: Option<JoinedNets>) -> Result<(), NoMem
 /// The runs that connections make.
 pub fn join(
     alloc: Global,
-    table: &Table,
+    table: &NameTable,
     wiring: &Wiring,
     matched: &[Matched],
 ) -> Result<List<JoinedNets>, Fault>

@@ -30,5 +30,5 @@ mod wiring;
 pub use making::connect;
 pub use nets::Keys;
 pub use ports::{Port, Ports};
-pub use terms::Stretch;
+pub use terms::NetRange;
 pub use wiring::{Wiring, wire};

@@ -16,8 +16,8 @@ use bs_bits::{List, NoMemory};
 use bs_flat_meaning::{FlatFault, Written};
 use bs_flat_modules::{Modules, Own};
 use bs_flat_nets::{Child, FlatModule};
+use bs_lex::NameTable;
 use bs_net::Const;
-use bs_verilog_lexemes::Table;
 use std::alloc::Global;
 
 /// A module with these nets and instances, and no parts yet.
@@ -101,7 +101,7 @@ fn made(
 /// The module with this wiring, whose instances are of the modules with these numbers.
 fn wired(
     alloc: Global,
-    table: &Table,
+    table: &NameTable,
     ports: &[Ports],
     below: &[u32],
     own: &Own,
@@ -130,7 +130,7 @@ fn wired(
 /// A module whose instances are of the modules with these numbers.
 fn block(
     alloc: Global,
-    table: &Table,
+    table: &NameTable,
     ports: &[Ports],
     below: &[u32],
     own: &Own,
@@ -149,7 +149,7 @@ fn block(
 /// All modules.
 fn blocks(
     alloc: Global,
-    table: &Table,
+    table: &NameTable,
     ports: &[Ports],
     below: &[List<u32>],
     owns: &[Own],
@@ -175,7 +175,7 @@ fn blocks(
 /// All modules, each with its ports for those that instance it.
 fn connected(
     alloc: Global,
-    table: &Table,
+    table: &NameTable,
     below: &[List<u32>],
     modules: &Modules,
 ) -> Result<List<FlatModule>, Fault>
@@ -215,7 +215,7 @@ fn fault_of(fault: Fault) -> FlatFault
 /// of each module's name.
 pub fn connect(
     alloc: Global,
-    table: &Table,
+    table: &NameTable,
     below: &[List<u32>],
     ids: &[Option<u32>],
     modules: Modules,

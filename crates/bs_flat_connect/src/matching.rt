@@ -5,7 +5,7 @@ ghost use Rattle.bs_flat_connect.specs.Matching as spec;
 
 use crate::ports::{Port, Ports};
 use bs_bits::{List, NoMemory};
-use bs_verilog_lexemes::Name;
+use bs_lex::Name;
 use bs_verilog_syntax::{Connection, PackedConnection, Term};
 use std::alloc::Global;
 use std::collections::HashSet;

@@ -10,6 +10,7 @@ use std::alloc::Global;
 use std::marker::Model;
 
 /// How many keys there may be.
+/// So a key's number has four bytes.
 const MAX_KEYS: usize = 4_294_967_295;
 
 /// An ordered set of keys, fewer than 2^32. The number of a key is its place, from 0; contracts see the keys' bytes.

@@ -9,7 +9,7 @@ ghost use Rattle.bs_flat_connect.specs.Ports as spec;
 use crate::naming::{bit_count, said};
 use bs_bits::{List, NoMemory};
 use bs_flat_modules::Own;
-use bs_verilog_lexemes::Name;
+use bs_lex::Name;
 use bs_verilog_scope::{Scope, direction_of, entry, known_net};
 use bs_verilog_syntax::{Direction, Says};
 use indexmap::IndexSet;

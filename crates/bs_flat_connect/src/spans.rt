@@ -8,8 +8,8 @@ ghost use Rattle.bs_flat_connect.specs.Wiring as spec;
 use crate::naming::{scalar, vector_bit};
 use crate::nets::Keys;
 use bs_bits::NoMemory;
+use bs_lex::{Name, NameTable};
 use bs_net::NetId;
-use bs_verilog_lexemes::{Name, Table};
 use bs_verilog_scope::{Scope, entry, index_at, width};
 use bs_verilog_syntax::{Declared, Range, Says};
 use indexmap::IndexMap;
@@ -110,7 +110,7 @@ fn span(
 /// The first net of a name of which this is said, where its nets stand side by side.
 fn span_of(
     alloc: Global,
-    table: &Table,
+    table: &NameTable,
     keys: &Keys,
     says: Option<Says>,
     name: Name,
@@ -171,7 +171,7 @@ impl Spans {
 fn add_span(
     alloc: Global,
     spans: &mut Spans,
-    table: &Table,
+    table: &NameTable,
     keys: &Keys,
     scope: &Scope,
     name: Name,
@@ -193,7 +193,7 @@ fn add_span(
 /// The first net of each declared name whose nets stand side by side.
 pub fn spans_of(
     alloc: Global,
-    table: &Table,
+    table: &NameTable,
     keys: &Keys,
     scope: &Scope,
     declared: &[Declared],

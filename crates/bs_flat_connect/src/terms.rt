@@ -9,24 +9,24 @@ use crate::naming::{bit_count, scalar, vector_bit};
 use crate::nets::Keys;
 use crate::wiring::Wiring;
 use bs_bits::NoMemory;
-use bs_verilog_lexemes::{Name, Table};
+use bs_lex::{Name, NameTable};
 use bs_verilog_scope::{constant_key, entry, has_index};
 use bs_verilog_syntax::{Range, Term};
 use std::alloc::Global;
 
 /// Nets side by side: the number of the first, and how many they are.
 #[derive(Clone, Copy)]
-pub struct Stretch {
+pub struct NetRange {
     pub first: u32,
     pub width: usize,
 }
 
 /// The net of a key. A key that is not there, as no text has one, is answered as out of memory.
-fn key_net(keys: &Keys, key: &str) -> Result<Option<Stretch>, NoMemory>
+fn key_net(keys: &Keys, key: &str) -> Result<Option<NetRange>, NoMemory>
     ensures { IfOk result (λ s. spec.AreNets keys.now (Some (key.now ∷ [])) s) }
 {
     match keys.number(key) {
-        Some(net) => Ok(Some(Stretch {
+        Some(net) => Ok(Some(NetRange {
             first: net.0,
             width: 1,
         })),
@@ -35,7 +35,7 @@ fn key_net(keys: &Keys, key: &str) -> Result<Option<Stretch>, NoMemory>
 }
 
 /// The net of a name of one bit.
-fn scalar_net(alloc: Global, keys: &Keys, name: &str) -> Result<Option<Stretch>, NoMemory>
+fn scalar_net(alloc: Global, keys: &Keys, name: &str) -> Result<Option<NetRange>, NoMemory>
     ensures { IfOk result (λ s. spec.AreNets keys.now (Some (keys_spec.scalar_key name.now ∷ [])) s) }
 {
     let key = scalar(alloc, name)?;
@@ -44,7 +44,7 @@ fn scalar_net(alloc: Global, keys: &Keys, name: &str) -> Result<Option<Stretch>,
 }
 
 /// The net of a vector's bit.
-fn bit_net(alloc: Global, keys: &Keys, name: &str, index: u32) -> Result<Option<Stretch>, NoMemory>
+fn bit_net(alloc: Global, keys: &Keys, name: &str, index: u32) -> Result<Option<NetRange>, NoMemory>
     ensures { IfOk result (λ s. spec.AreNets keys.now (Some (keys_spec.bit_key name.now index ∷ [])) s) }
 {
     let key = vector_bit(alloc, name, index)?;
@@ -59,7 +59,7 @@ fn indexed_net(
     name: &str,
     range: Option<Range>,
     index: u32,
-) -> Result<Option<Stretch>, NoMemory>
+) -> Result<Option<NetRange>, NoMemory>
     ensures { IfOk result (λ s. spec.AreNets keys.now (flat.indexed_keys name.now range index) s) }
 {
     match range {
@@ -75,11 +75,11 @@ fn indexed_net(
 }
 
 /// The nets of a declared name. That they do not stand side by side, as in no text, is answered as out of memory.
-fn whole_nets(range: Option<Range>, span: Option<u32>) -> Result<Option<Stretch>, NoMemory>
+fn whole_nets(range: Option<Range>, span: Option<u32>) -> Result<Option<NetRange>, NoMemory>
     ensures { IfOk result (λ s. spec.IsStretch range span s) }
 {
     match span {
-        Some(first) => Ok(Some(Stretch {
+        Some(first) => Ok(Some(NetRange {
             first,
             width: bit_count(range),
         })),
@@ -95,7 +95,7 @@ fn declared_nets(
     range: Option<Range>,
     index: Option<u32>,
     span: Option<u32>,
-) -> Result<Option<Stretch>, NoMemory>
+) -> Result<Option<NetRange>, NoMemory>
     ensures { IfOk result (λ s. spec.TellsDeclared keys.now name.now range index span s) }
 {
     match index {
@@ -116,7 +116,7 @@ fn undeclared_net(
     keys: &Keys,
     name: &str,
     index: Option<u32>,
-) -> Result<Option<Stretch>, NoMemory>
+) -> Result<Option<NetRange>, NoMemory>
     ensures { IfOk result (λ s. spec.AreNets keys.now (flat.undeclared_keys name.now index) s) }
 {
     match index {
@@ -128,11 +128,11 @@ fn undeclared_net(
 /// The nets of a name, whole or of one bit.
 fn named_nets(
     alloc: Global,
-    table: &Table,
+    table: &NameTable,
     wiring: &Wiring,
     name: Name,
     index: Option<u32>,
-) -> Result<Option<Stretch>, NoMemory>
+) -> Result<Option<NetRange>, NoMemory>
     ensures { IfOk result (λ s. spec.TellsTerm table.now wiring.now (Named name index) s) }
 {
     let text = table.text(name);
@@ -150,7 +150,7 @@ fn named_nets(
 }
 
 /// The net of a constant.
-fn constant_net(keys: &Keys, bit: bool) -> Result<Option<Stretch>, NoMemory>
+fn constant_net(keys: &Keys, bit: bool) -> Result<Option<NetRange>, NoMemory>
     ensures { IfOk result (λ s. spec.AreNets keys.now (Some (keys_spec.constant_key bit ∷ [])) s) }
 {
     let key = constant_key(bit);
@@ -161,10 +161,10 @@ fn constant_net(keys: &Keys, bit: bool) -> Result<Option<Stretch>, NoMemory>
 /// The nets of the bits for which a term stands, from left to right; none where its index names no bit.
 pub(crate) fn term_nets(
     alloc: Global,
-    table: &Table,
+    table: &NameTable,
     wiring: &Wiring,
     term: Term,
-) -> Result<Option<Stretch>, NoMemory>
+) -> Result<Option<NetRange>, NoMemory>
     ensures { IfOk result (λ s. spec.TellsTerm table.now wiring.now term s) }
 {
     match term {

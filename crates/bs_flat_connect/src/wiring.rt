@@ -13,8 +13,8 @@ use crate::spans::{Spans, spans_of};
 use bs_bits::{List, NoMemory};
 use bs_flat_meaning::Written;
 use bs_flat_modules::Own;
+use bs_lex::NameTable;
 use bs_net::Const;
-use bs_verilog_lexemes::Table;
 use bs_verilog_scope::Scope;
 use std::alloc::Global;
 
@@ -31,7 +31,7 @@ pub struct Wiring {
 /// The keys and the constants of a module with these instances.
 fn made(
     alloc: Global,
-    table: &Table,
+    table: &NameTable,
     own: &Own,
     scope: &Scope,
     written: &[Written],
@@ -51,7 +51,7 @@ fn made(
 /// The wiring of a module with these instances, by what is said of its names and by its nets.
 fn wiring_of(
     alloc: Global,
-    table: &Table,
+    table: &NameTable,
     own: &Own,
     _written: &[Written],
     scope: Scope,
@@ -79,7 +79,7 @@ fn wiring_of(
 /// The wiring of a module with these instances.
 pub fn wire(
     alloc: Global,
-    table: &Table,
+    table: &NameTable,
     own: &Own,
     written: &[Written],
 ) -> Result<Wiring, NoMemory>

@@ -13,8 +13,8 @@ use Rattle.bs_flat_nets.specs.declared.blocks.FlatModule.{FlatModule}
 use Rattle.bs_flat_elaborate.specs.Keys.{IsPathText}
 use Rattle.bs_flat_elaborate.specs.declared.labels.Label.{Label}
 use Rattle.bs_flat_elaborate.specs.declared.naming.KeyList.{KeyList}
-use Rattle.bs_flat_elaborate.specs.declared.naming.Named.{Named}
-use Rattle.bs_flat_elaborate.specs.declared.naming.Named.TheVariants.{Apart, Long, Clash}
+use Rattle.bs_flat_elaborate.specs.declared.naming.NamingEnd.{NamingEnd}
+use Rattle.bs_flat_elaborate.specs.declared.naming.NamingEnd.TheVariants.{Apart, Long, Clash}
 
 -- the keys of the flat nets
 abbrev pub keys_of : Design → List (List ℕ)
@@ -46,7 +46,7 @@ pub record IsMade (keys : List (List ℕ)) (m : KeyList) : Type 0 where
   pub apart : m.again ≡ false → clash_in keys ≡ None
 
 -- at most `MAX_NETS` names that are the keys, each once; or too many bytes; or the first key that stands again later
-abbrev pub IsNamed : List (List ℕ) → Named → Type 0
+abbrev pub IsNamed : List (List ℕ) → NamingEnd → Type 0
 IsNamed keys (Apart names) = (names ≡ keys) × (bytes_of keys ≤ MAX_KEY_BYTES) × (clash_in keys ≡ None) × (length keys ≤ MAX_NETS)
 IsNamed keys Long = MAX_KEY_BYTES < bytes_of keys
 IsNamed keys (Clash key) = (bytes_of keys ≤ MAX_KEY_BYTES) × (clash_in keys ≡ Some key)

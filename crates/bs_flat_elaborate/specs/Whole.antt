@@ -12,7 +12,7 @@ use Rattle.bs_flat_nets.specs.Blocks.{design_of}
 use Rattle.bs_flat_nets.specs.declared.blocks.FlatModule.{FlatModule}
 use Rattle.bs_flat_elaborate.specs.Laid.{IsLaid}
 use Rattle.bs_flat_elaborate.specs.Naming.{keys_of, IsNamed}
-use Rattle.bs_flat_elaborate.specs.declared.elaboration.Laid.{Laid}
+use Rattle.bs_flat_elaborate.specs.declared.elaboration.NamedDesign.{NamedDesign}
 
 -- a gate whose nets have names, and which has as many inputs as its kind takes
 abbrev pub IsGateNamed : ℕ → Gate → Type 0
@@ -43,6 +43,6 @@ pub record IsSmall (d : Design) : Type 0 where
   pub nets : nat_lt MAX_NETS (length (flat_parts d).names) ≡ false
 
 -- the nodes, the numbering and the names of a design of blocks
-pub record IsMadeOf (blocks : List FlatModule) (number : ℕ) (l : Laid) : Type 0 where
+pub record IsMadeOf (blocks : List FlatModule) (number : ℕ) (l : NamedDesign) : Type 0 where
   pub laid : IsLaid blocks l.nodes number l.numbering
   pub named : IsNamed (keys_of (design_of blocks number)) l.named

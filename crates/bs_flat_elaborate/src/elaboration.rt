@@ -13,7 +13,7 @@ ghost use Rattle.bs_flat_elaborate.specs.Naming.{IsNamed, keys_of};
 ghost use Rattle.bs_flat_elaborate.specs.Whole as spec;
 
 use crate::flat::flat;
-use crate::naming::{Named, name_nets};
+use crate::naming::{NamingEnd, name_nets};
 use crate::sizes::check_sizes;
 use crate::terminals::has_many_terminals;
 use bs_bits::{List, NoMemory};
@@ -24,10 +24,10 @@ use std::alloc::Global;
 
 /// The nodes of a design's paths, the numbering of its flat nets, and their names.
 #[derive(Drop)]
-pub struct Laid {
+pub struct NamedDesign {
     pub nodes: List<Node>,
     pub numbering: Numbering,
-    pub named: Named,
+    pub named: NamingEnd,
 }
 
 /// Lays a design out by the nodes of its paths and the numbering of its flat nets.
@@ -37,13 +37,13 @@ fn lay_names(
     top: u32,
     nodes: List<Node>,
     numbering: Numbering,
-) -> Result<Laid, NoMemory>
+) -> Result<NamedDesign, NoMemory>
     requires laid { IsLaid blocks.now nodes top numbering }
     requires small { spec.IsSmall (design_of blocks.now top) }
     ensures { IfOk result (λ laid. spec.IsMadeOf blocks.now top laid) }
 {
     match name_nets(alloc, blocks, nodes.slice(), top, &numbering) {
-        Ok(named) => Ok(Laid {
+        Ok(named) => Ok(NamedDesign {
             nodes,
             numbering,
             named,
@@ -57,7 +57,7 @@ fn lay_names(
 }
 
 /// Lays a design out.
-fn lay(alloc: Global, blocks: &[FlatModule], top: u32) -> Result<Laid, NoMemory>
+fn lay(alloc: Global, blocks: &[FlatModule], top: u32) -> Result<NamedDesign, NoMemory>
     requires top { top < length blocks.now }
     requires there { AreThere blocks.now }
     requires design { IsDesign (design_of blocks.now top) }
@@ -86,7 +86,7 @@ fn whole(
 ) -> Result<Raw, FlatFault>
     requires laid { IsLaid blocks.now nodes.now top numbering.now }
     requires takes { All (λ b. All (λ g. IsTrue (takes g.kind (length g.ins))) b.gates) blocks.now }
-    requires named { IsNamed (keys_of (design_of blocks.now top)) (Named.Apart names) }
+    requires named { IsNamed (keys_of (design_of blocks.now top)) (NamingEnd.Apart names) }
     requires small { spec.IsSmall (design_of blocks.now top) }
     ensures { Answers want parts_of result (elaborated (design_of blocks.now top)) }
 {
@@ -107,7 +107,7 @@ fn named_parts(
     nodes: &[Node],
     top: u32,
     numbering: &Numbering,
-    named: Named,
+    named: NamingEnd,
 ) -> Result<Raw, FlatFault>
     requires laid { IsLaid blocks.now nodes.now top numbering.now }
     requires takes { All (λ b. All (λ g. IsTrue (takes g.kind (length g.ins))) b.gates) blocks.now }
@@ -116,20 +116,25 @@ fn named_parts(
     ensures { Answers want parts_of result (elaborated (design_of blocks.now top)) }
 {
     match named {
-        Named::Apart(names) => whole(alloc, blocks, nodes, top, numbering, names),
-        Named::Long => Err(FlatFault::FlatKeys),
-        Named::Clash(key) => Err(FlatFault::NameClash(key)),
+        NamingEnd::Apart(names) => whole(alloc, blocks, nodes, top, numbering, names),
+        NamingEnd::Long => Err(FlatFault::FlatKeys),
+        NamingEnd::Clash(key) => Err(FlatFault::NameClash(key)),
     }
 }
 
 /// The same, by what is laid out.
-fn parts(alloc: Global, blocks: &[FlatModule], top: u32, laid: Laid) -> Result<Raw, FlatFault>
+fn parts(
+    alloc: Global,
+    blocks: &[FlatModule],
+    top: u32,
+    laid: NamedDesign,
+) -> Result<Raw, FlatFault>
     requires laid { spec.IsMadeOf blocks.now top laid }
     requires takes { All (λ b. All (λ g. IsTrue (takes g.kind (length g.ins))) b.gates) blocks.now }
     requires small { spec.IsSmall (design_of blocks.now top) }
     ensures { Answers want parts_of result (elaborated (design_of blocks.now top)) }
 {
-    let Laid {
+    let NamedDesign {
         nodes,
         numbering,
         named,

@@ -23,7 +23,7 @@ use std::alloc::Global;
 
 /// The flat lists of a design.
 #[derive(Drop)]
-struct Lists {
+struct FlatLists {
     inputs: List<NetId>,
     outputs: List<NetId>,
     consts: List<Const>,
@@ -38,7 +38,7 @@ fn lists_of(
     nodes: &[Node],
     top: u32,
     numbering: &Numbering,
-) -> Result<Lists, NoMemory>
+) -> Result<FlatLists, NoMemory>
     requires laid { IsLaid blocks.now nodes.now top numbering.now }
     requires paths { length nodes.now ≤ MAX_PARTS + 1 }
     ensures inputs { IfOk result (λ l. l.inputs ≡ map (flat_net (design_of blocks.now top) []) (design.own (design_of blocks.now top) []).inputs) }
@@ -52,7 +52,7 @@ fn lists_of(
     let consts = flat_consts(alloc, blocks, nodes, top, numbering)?;
     let flops = flat_flops(alloc, blocks, nodes, top, numbering)?;
     let gates = flat_gates(alloc, blocks, nodes, top, numbering)?;
-    Ok(Lists {
+    Ok(FlatLists {
         inputs,
         outputs,
         consts,
@@ -62,7 +62,7 @@ fn lists_of(
 }
 
 /// The parts of a netlist, each of whose nets has a name.
-fn raw_of(names: Names, lists: Lists) -> Raw
+fn raw_of(names: Names, lists: FlatLists) -> Raw
     requires named { spec.AreNamed (record { names = names; inputs = lists.inputs; outputs = lists.outputs; consts = lists.consts; gates = lists.gates; flops = lists.flops }) }
     requires short { spec.AreShort (record { names = names; inputs = lists.inputs; outputs = lists.outputs; consts = lists.consts; gates = lists.gates; flops = lists.flops }) }
     ensures { parts_of result ≡ record { names = names; inputs = lists.inputs; outputs = lists.outputs; consts = lists.consts; gates = lists.gates; flops = lists.flops } }

@@ -6,7 +6,7 @@ ghost use Rattle.bs_flat_elaborate.specs.Keys as keys;
 ghost use Rattle.bs_flat_elaborate.specs.Laid.{IsLaid};
 ghost use Rattle.bs_flat_elaborate.specs.Naming.{IsLabel};
 
-use crate::keys::{key_on, path_text};
+use crate::path_keys::{key_on, path_text};
 use bs_bits::NoMemory;
 use bs_flat_meaning::Node;
 use bs_flat_nets::{FlatModule, NetOnPath, Numbering};

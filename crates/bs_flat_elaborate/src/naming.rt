@@ -25,7 +25,7 @@ pub struct KeyList {
 
 /// The names of the flat nets, or why there are none.
 #[derive(Drop)]
-pub enum Named {
+pub enum NamingEnd {
     /// Each key stands once.
     Apart(Names),
     /// The keys have more than `MAX_KEY_BYTES` bytes.
@@ -80,7 +80,7 @@ pub fn name_nets(
     nodes: &[Node],
     top: u32,
     numbering: &Numbering,
-) -> Result<Named, NoMemory>
+) -> Result<NamingEnd, NoMemory>
     requires laid { IsLaid blocks.now nodes.now top numbering.now }
     requires few { length numbering.now.places ≤ MAX_NETS }
     ensures { IfOk result (λ named. spec.IsNamed (spec.keys_of (design_of blocks.now top)) named) }
@@ -91,13 +91,13 @@ pub fn name_nets(
     'nets: for place in places {
         let key = next_key(alloc, blocks, nodes, top, numbering, &mut label, *place)?;
         if is_long(made.bytes, &key) {
-            return Ok(Named::Long);
+            return Ok(NamingEnd::Long);
         }
         add(alloc, &mut made, &key)?;
     }
     if made.again {
         let key = first_clash(alloc, blocks, nodes, top, numbering)?;
-        return Ok(Named::Clash(key));
+        return Ok(NamingEnd::Clash(key));
     }
-    Ok(Named::Apart(made.names))
+    Ok(NamingEnd::Apart(made.names))
 }

@@ -9,7 +9,7 @@ use Rattle.bs_net.specs.declared.net.Mode.TheVariants.{Plain, Enable}
 use Rattle.bs_net.specs.Parts.{Parts}
 use Rattle.bs_lex.specs.declared.token.Token.{Token}
 use Rattle.bs_lex.specs.Tokens.{piece_at, tokens_from, comment_size, quoted_size}
-use Rattle.bs_verilog_lexemes.specs.Lexemes.{word_of, decimal_from, name_text, without_zeros, names_from, names_of, sort_of, lexemes_of}
+use Rattle.bs_lex.specs.Lexemes.{word_of, decimal_from, name_text, without_zeros, names_from, names_of, sort_of, lexemes_of}
 use Rattle.bs_verilog_syntax.specs.Reading.{refused, with_commas}
 use Rattle.bs_verilog_syntax.specs.Terms.{index, term, num, time, timed, delay, attributes_from}
 use Rattle.bs_verilog_syntax.specs.Declarations.{range, port_says, net_says, names, declared_name, plain_port, header_port, carried, ports, header}

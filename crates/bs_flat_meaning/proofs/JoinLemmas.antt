@@ -14,7 +14,7 @@ use Rattle.bs_net.specs.declared.net.Gate.{Gate}
 use Rattle.bs_net.specs.Parts.{Parts, IsFlopPlaced, mode_nets}
 use Rattle.bs_net.specs.Names.{with_key, number_of}
 use Rattle.bs_net.proofs.CallerLemmas.{with_key-grows, appended}
-use Rattle.bs_verilog_lexemes.specs.declared.lexeme.Name.{Name}
+use Rattle.bs_lex.specs.declared.lexeme.Name.{Name}
 use Rattle.bs_verilog_syntax.specs.declared.tree.Says.{Says}
 use Rattle.bs_verilog_syntax.specs.declared.tree.Term.{Term}
 use Rattle.bs_verilog_syntax.specs.declared.tree.Term.TheVariants.{Constant, Named}

@@ -9,14 +9,14 @@ use Rattle.std.proofs.lemmas.Bool.{true≢false, false≢true}
 use Rattle.bs_net.specs.Names.{with_key, number_of}
 use Rattle.bs_net.proofs.NamesLemmas.{number_within}
 use Rattle.bs_lex.specs.declared.token.Token.{Token}
-use Rattle.bs_verilog_lexemes.specs.declared.lexeme.Name.{Name}
-use Rattle.bs_verilog_lexemes.specs.declared.lexeme.Sort.{Sort}
-use Rattle.bs_verilog_lexemes.specs.declared.lexeme.Sort.TheVariants as sorts
-use Rattle.bs_verilog_lexemes.specs.declared.limits.TheConstants.{GREAT}
-use Rattle.bs_verilog_lexemes.specs.Packed.{Lexeme}
-use Rattle.bs_verilog_lexemes.specs.Lexemes.{is_name, is_great, spelling, token_sort, name_text, with_name, names_from, names_of, number_in, numbered_sort}
-use Rattle.bs_verilog_lexemes.specs.Lexemes.{lexeme_of, lexemes_of, end_of, without_zeros}
-use Rattle.bs_verilog_lexemes.proofs.NamingLemmas.{numbered, stays_from}
+use Rattle.bs_lex.specs.declared.lexeme.Name.{Name}
+use Rattle.bs_lex.specs.declared.lexeme.Sort.{Sort}
+use Rattle.bs_lex.specs.declared.lexeme.Sort.TheVariants as sorts
+use Rattle.bs_lex.specs.declared.number_limits.TheConstants.{GREAT}
+use Rattle.bs_lex.specs.Packed.{Lexeme}
+use Rattle.bs_lex.specs.Lexemes.{is_name, is_great, spelling, token_sort, name_text, with_name, names_from, names_of, number_in, numbered_sort}
+use Rattle.bs_lex.specs.Lexemes.{lexeme_of, lexemes_of, end_of, without_zeros}
+use Rattle.bs_lex.proofs.NamingLemmas.{numbered, stays_from}
 use Rattle.bs_verilog_scope.specs.Keys.{text}
 use Rattle.bs_flat_meaning.proofs.MemberLemmas.{Member, all_member, member_at, member_map, mapped}
 use Rattle.bs_flat_meaning.proofs.NumberLemmas.{Apart, apart_append}

@@ -3,8 +3,8 @@ use Rattle.std.proofs.Common.{ℕ, zero, suc, ◌+◌, ◌-◌, Bool, true, fals
 use Rattle.std.proofs.Common.{Option, Some, None, Ok, Err, refl}
 use Rattle.std.specs.Prelude.{option_map, if◌then◌else◌}
 use Rattle.std.specs.List.{AllByRecursion, flat_map}
-use Rattle.bs_verilog_lexemes.specs.Packed.{Lexeme}
-use Rattle.bs_verilog_lexemes.specs.declared.lexeme.Sort.TheVariants as sorts
+use Rattle.bs_lex.specs.Packed.{Lexeme}
+use Rattle.bs_lex.specs.declared.lexeme.Sort.TheVariants as sorts
 use Rattle.bs_verilog_syntax.specs.Reading.{Rest, Skip, at, sort, is_at}
 use Rattle.bs_verilog_syntax.specs.Terms.{attributes}
 use Rattle.bs_verilog_syntax.specs.Modules.{is_module, is_endmodule}

@@ -8,9 +8,9 @@ use Rattle.std.proofs.lemmas.List.Folds.{list_any-append, flat_map-map}
 use Rattle.std.proofs.lemmas.List.Concat.{flat_map-append}
 use Rattle.std.proofs.lemmas.List.Elements.{All-from_recursion}
 use Rattle.bs_net.specs.Parts.{Parts}
-use Rattle.bs_verilog_lexemes.specs.declared.lexeme.Name.{Name}
-use Rattle.bs_verilog_lexemes.specs.declared.limits.TheConstants.{MAX_INDEX}
-use Rattle.bs_verilog_lexemes.specs.Lexemes.{names_of, lexemes_of}
+use Rattle.bs_lex.specs.declared.lexeme.Name.{Name}
+use Rattle.bs_lex.specs.declared.number_limits.TheConstants.{MAX_INDEX}
+use Rattle.bs_lex.specs.Lexemes.{names_of, lexemes_of}
 use Rattle.bs_verilog_syntax.specs.declared.fault.VerilogFault.{VerilogFault}
 use Rattle.bs_verilog_syntax.specs.declared.tree.Range.{Range}
 use Rattle.bs_verilog_syntax.specs.declared.tree.Says.{Says}

@@ -1,6 +1,6 @@
 -- Instance statements.
 use Rattle.std.specs.Prelude.{if◌then◌else◌, List, Ok, Err}
-use Rattle.bs_verilog_lexemes.specs.declared.lexeme.Name.{Name}
+use Rattle.bs_lex.specs.declared.lexeme.Name.{Name}
 use Rattle.bs_flat_meaning.specs.declared.statements.Written.{Written}
 use Rattle.bs_verilog_syntax.specs.declared.fault.What.TheVariants as what
 use Rattle.bs_verilog_syntax.specs.declared.fault.VerilogFault.TheVariants.{Unsupported}

@@ -7,10 +7,10 @@ use Rattle.std.specs.Str.{bytes_eq}
 use Rattle.std.specs.Bool.{nat_eq}
 use Rattle.bs_net.specs.Parts.{Parts}
 use Rattle.bs_lex.specs.declared.token.Token.{Token}
-use Rattle.bs_verilog_lexemes.specs.declared.lexeme.Name.{Name}
+use Rattle.bs_lex.specs.declared.lexeme.Name.{Name}
 use Rattle.bs_verilog_syntax.specs.declared.tree.Module as code
 use Rattle.bs_verilog_syntax.specs.declared.fault.VerilogFault.{VerilogFault}
-use Rattle.bs_verilog_lexemes.specs.Lexemes.{lexemes_of, names_of}
+use Rattle.bs_lex.specs.Lexemes.{lexemes_of, names_of}
 use Rattle.bs_verilog_syntax.specs.Reading.{Rest, at}
 use Rattle.bs_verilog_syntax.specs.Modules.{syntax_of}
 use Rattle.bs_verilog.specs.Netlist.{meaning_of, netlist_text, tokenised}

@@ -2,7 +2,7 @@
 use Rattle.std.specs.Prelude.{◌≡◌, ℕ, List, Ok, All}
 use Rattle.bs_lex.specs.declared.token.Token.{Token}
 use Rattle.bs_lex.specs.Tokens.{tokens_of}
-use Rattle.bs_verilog_lexemes.specs.Lexemes.{names_of, lexemes_of}
+use Rattle.bs_lex.specs.Lexemes.{names_of, lexemes_of}
 use Rattle.bs_flat_meaning.specs.Connecting.{ReadModule}
 use Rattle.bs_flat_meaning.specs.Reading.{read_modules, IsRead}
 

@@ -9,6 +9,7 @@ use bs_net::{Gate, Kind, Levelling, NetId, Terms, levelize};
 use std::alloc::Global;
 
 /// How many instances a module may have.
+/// So an instance's number has four bytes.
 const MOST: usize = 4_294_967_295;
 
 /// What a search of all modules finds, by their numbers.

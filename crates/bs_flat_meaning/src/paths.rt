@@ -14,7 +14,7 @@ pub struct Instanced {
 
 /// A path: the number of its parent, the place of its last instance in the module there, and the number of that instance's
 /// module. The top's path is node 0, whose parent and place say nothing.
-#[derive(Clone, Copy, Debug, PartialEq, Eq)]
+#[derive(Clone, Copy)]
 pub struct Node {
     pub parent: u32,
     pub instance: u32,

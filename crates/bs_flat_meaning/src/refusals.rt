@@ -7,11 +7,11 @@ use crate::fault::FlatFault;
 use crate::ranks::{Hierarchy, Ranked, rank_modules};
 use crate::statements::Written;
 use bs_bits::{List, NoMemory, push_piece};
-use bs_verilog_lexemes::{Name, Table};
+use bs_lex::{Name, NameTable};
 use std::alloc::Global;
 
 /// The text of a name.
-fn name_text(alloc: Global, table: &Table, id: u32) -> Result<List<u8>, NoMemory>
+fn name_text(alloc: Global, table: &NameTable, id: u32) -> Result<List<u8>, NoMemory>
     ensures { IfOk result (λ text. text ≡ slice_index_or table.now id []) }
 {
     let mut text = Vec::new(alloc);
@@ -34,7 +34,7 @@ fn id_of(ids: &[Option<u32>], number: u32) -> u32
 /// The names of modules.
 fn ring_names(
     alloc: Global,
-    table: &Table,
+    table: &NameTable,
     ids: &[Option<u32>],
     modules: &[u32],
 ) -> Result<List<List<u8>>, NoMemory>
@@ -49,7 +49,7 @@ fn ring_names(
 }
 
 /// The refusal of a ring.
-fn ring_fault(alloc: Global, table: &Table, ids: &[Option<u32>], ring: &[u32]) -> FlatFault
+fn ring_fault(alloc: Global, table: &NameTable, ids: &[Option<u32>], ring: &[u32]) -> FlatFault
     ensures { (result ≡ faults.NoMemory) ⊎ (result ≡ faults.Recursion (map (spec.name_of table.now ids.now) ring.now)) }
 {
     match ring_names(alloc, table, ids, ring) {
@@ -76,7 +76,7 @@ fn with_one_top(ranked: Ranked) -> Result<Ranked, FlatFault>
 /// names, or of several tops. `ids` has the number of each module's name, and `written` the instances that each writes.
 pub fn expect_one_top(
     alloc: Global,
-    table: &Table,
+    table: &NameTable,
     ids: &[Option<u32>],
     written: &[List<Written>],
 ) -> Result<Ranked, FlatFault>

@@ -4,7 +4,7 @@ ghost use Rattle.bs_verilog_syntax.specs.Reading as spec;
 ghost use Rattle.bs_flat_meaning.specs.Instancing as instancing_spec;
 
 use bs_bits::List;
-use bs_verilog_lexemes::{Lexeme, Name};
+use bs_lex::{Lexeme, Name};
 use bs_verilog_syntax::{
     Due, PackedConnection, Reader, VerilogFault, What, closed, connections, expect, expect_name,
     is_at, listed, name_of, place_of, rest_of,

@@ -11,8 +11,8 @@ use Rattle.bs_net.specs.declared.gate.Kind.{Kind}
 use Rattle.bs_net.specs.declared.gate.Kind.TheVariants.{Buf}
 use Rattle.bs_net.specs.Names.{with_key, number_of}
 use Rattle.bs_net.proofs.NamesLemmas.{with_key-grows, with_key-one_more, kept, appended}
-use Rattle.bs_verilog_lexemes.specs.declared.lexeme.Cell.{Cell}
-use Rattle.bs_verilog_lexemes.specs.declared.lexeme.Name.{Name}
+use Rattle.bs_lex.specs.declared.lexeme.Cell.{Cell}
+use Rattle.bs_lex.specs.declared.lexeme.Name.{Name}
 use Rattle.bs_verilog_syntax.specs.declared.tree.Says.{Says}
 use Rattle.bs_verilog_syntax.specs.declared.tree.Term.{Term}
 use Rattle.bs_verilog_syntax.specs.declared.tree.Term.TheVariants.{Constant, Named}
@@ -30,7 +30,7 @@ use Rattle.bs_verilog_scope.specs.Declaring.{keys_of, first_over}
 use Rattle.bs_verilog_scope.proofs.NumberLemmas.{with_keys-room, with_keys-append, few_step}
 use Rattle.bs_verilog.specs.declared.placing.NetTable.{NetTable}
 use Rattle.bs_verilog.specs.declared.building.Built.{Built}
-use Rattle.bs_verilog.specs.declared.terminals.Pins.{Pins}
+use Rattle.bs_verilog.specs.declared.pins.Pins.{Pins}
 use Rattle.bs_verilog.specs.Terminals.{term_of, is_single, is_gate, is_assignment, cell_pins}
 use Rattle.bs_verilog.specs.Building.{each, has_key, is_full, implicit_net, declared_key, constant_net, named_net, term_net, with_connection}
 use Rattle.bs_verilog.specs.Building.{connection_nets, gates_of, net_at, flop_of, with_gates, with_flop, with_part, with_parts}

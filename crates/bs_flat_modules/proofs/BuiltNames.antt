@@ -14,9 +14,9 @@ use Rattle.bs_net.specs.declared.net.NetId.{NetId}
 use Rattle.bs_net.specs.Names.{with_key}
 use Rattle.bs_net.specs.Parts.{Parts}
 use Rattle.bs_lex.specs.declared.token.Token.{Token}
-use Rattle.bs_verilog_lexemes.specs.declared.lexeme.Name.{Name}
-use Rattle.bs_verilog_lexemes.specs.Lexemes.{lexemes_of, names_of}
-use Rattle.bs_verilog_lexemes.proofs.NamingLemmas.{numbered}
+use Rattle.bs_lex.specs.declared.lexeme.Name.{Name}
+use Rattle.bs_lex.specs.Lexemes.{lexemes_of, names_of}
+use Rattle.bs_lex.proofs.NamingLemmas.{numbered}
 use Rattle.bs_verilog_syntax.specs.declared.fault.VerilogFault.{VerilogFault}
 use Rattle.bs_verilog_syntax.specs.declared.tree.Says.{Says}
 use Rattle.bs_verilog_syntax.specs.declared.tree.Declared.{Declared}

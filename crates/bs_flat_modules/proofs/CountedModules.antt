@@ -11,7 +11,7 @@ use Rattle.bs_net.specs.Parts.{Parts}
 use Rattle.bs_net.specs.Names.{with_key}
 use Rattle.bs_lex.specs.declared.limits.TheConstants.{MAX_BYTES}
 use Rattle.bs_lex.specs.declared.token.Token.{Token}
-use Rattle.bs_verilog_lexemes.specs.Lexemes.{lexemes_of, names_of}
+use Rattle.bs_lex.specs.Lexemes.{lexemes_of, names_of}
 use Rattle.bs_verilog_syntax.specs.declared.tree.Module as code
 use Rattle.bs_verilog_syntax.specs.declared.tree.Says.{Says}
 use Rattle.bs_verilog_syntax.specs.declared.tree.Term.{Term}

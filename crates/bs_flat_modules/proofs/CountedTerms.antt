@@ -5,9 +5,9 @@ use Rattle.std.specs.Prelude.{if◌then◌else◌}
 use Rattle.std.specs.List.{AllByRecursion}
 use Prim.Native.String.{String}
 use Rattle.bs_bits.specs.Reading.{◌>>=◌}
-use Rattle.bs_verilog_lexemes.specs.declared.lexeme.Name.{Name}
-use Rattle.bs_verilog_lexemes.specs.Packed.{Lexeme}
-use Rattle.bs_verilog_lexemes.specs.Lexemes.{is_name}
+use Rattle.bs_lex.specs.declared.lexeme.Name.{Name}
+use Rattle.bs_lex.specs.Packed.{Lexeme}
+use Rattle.bs_lex.specs.Lexemes.{is_name}
 use Rattle.bs_verilog_syntax.specs.declared.fault.VerilogFault.TheVariants.{Unsupported}
 use Rattle.bs_verilog_syntax.specs.declared.fault.What.TheVariants as what
 use Rattle.bs_verilog_syntax.specs.declared.reading.Due.{Due}

@@ -1,7 +1,7 @@
 -- The names of the modules of a text, by their numbers.
 use Rattle.std.proofs.Common.{◌≡◌, ℕ, List, [], ◌∷◌, map, Option, Some, None, refl, ap, ◌∙◌}
 use Rattle.std.specs.Prelude.{if◌then◌else◌}
-use Rattle.bs_verilog_lexemes.specs.Lexemes.{is_name}
+use Rattle.bs_lex.specs.Lexemes.{is_name}
 use Rattle.bs_verilog_syntax.specs.Reading.{Rest, sort, rest, name}
 use Rattle.bs_flat_meaning.specs.Pieces.{Piece, name_id, modules_of}
 use Rattle.bs_flat_modules.specs.Dealing.{IsDealt}

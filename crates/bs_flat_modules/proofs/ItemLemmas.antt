@@ -5,7 +5,7 @@ use Rattle.std.specs.List.{flat_map}
 use Rattle.std.proofs.lemmas.List.{length-drop, drop_all, append-nil}
 use Rattle.bs_bits.specs.Reading.{◌>>=◌}
 use Rattle.std.proofs.Math.Path.{subst}
-use Rattle.bs_verilog_lexemes.specs.Packed.{Lexeme}
+use Rattle.bs_lex.specs.Packed.{Lexeme}
 use Rattle.bs_verilog_syntax.specs.declared.fault.VerilogFault.{VerilogFault}
 use Rattle.bs_verilog_syntax.specs.declared.fault.VerilogFault.TheVariants.{NoMemory}
 use Rattle.bs_verilog_syntax.specs.Reading.{Rest, sort}

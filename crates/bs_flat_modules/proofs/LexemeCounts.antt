@@ -15,8 +15,8 @@ use Rattle.bs_lex.specs.declared.token.Piece.TheVariants.{Passed, Made, Bad}
 use Rattle.bs_lex.specs.Placing.{token_text}
 use Rattle.bs_lex.specs.Tokens.{first, piece_at, tokens_from, tokens_of, with_token}
 use Rattle.bs_lex.specs.declared.limits.TheConstants.{MAX_BYTES}
-use Rattle.bs_verilog_lexemes.specs.declared.limits.TheConstants.{GREAT}
-use Rattle.bs_verilog_lexemes.specs.Lexemes.{end_of, is_escaped, is_great, is_name, lexeme_of, lexemes_of, name_text, names_from, names_of, spelling, token_sort, with_name, without_zeros}
+use Rattle.bs_lex.specs.declared.number_limits.TheConstants.{GREAT}
+use Rattle.bs_lex.specs.Lexemes.{end_of, is_escaped, is_great, is_name, lexeme_of, lexemes_of, name_text, names_from, names_of, spelling, token_sort, with_name, without_zeros}
 use Rattle.bs_verilog.proofs.SpellingLemmas.{IsVisible, IsVisibleToken, table_is_visible, text_is_visible}
 use Rattle.bs_flat_meaning.specs.Counts.{sum_of}
 use Rattle.bs_flat_meaning.proofs.CountLemmas.{sum_append}

@@ -9,11 +9,11 @@ use Rattle.bs_net.specs.Names.{number_of}
 use Rattle.bs_net.proofs.NamesLemmas.{number_within}
 use Rattle.bs_lex.specs.declared.limits.TheConstants.{MAX_BYTES}
 use Rattle.bs_lex.specs.declared.token.Token.{Token}
-use Rattle.bs_verilog_lexemes.specs.declared.limits.TheConstants.{GREAT, MAX_INDEX}
-use Rattle.bs_verilog_lexemes.specs.declared.lexeme.Sort.{Sort}
-use Rattle.bs_verilog_lexemes.specs.declared.lexeme.Sort.TheVariants as sorts
-use Rattle.bs_verilog_lexemes.specs.Packed.{Lexeme}
-use Rattle.bs_verilog_lexemes.specs.Lexemes.{end_of, has_number, is_great, is_name, lexeme_of, lexemes_of, name_text, names_of, number_in, numbered_sort, spelling, token_sort, without_zeros}
+use Rattle.bs_lex.specs.declared.number_limits.TheConstants.{GREAT, MAX_INDEX}
+use Rattle.bs_lex.specs.declared.lexeme.Sort.{Sort}
+use Rattle.bs_lex.specs.declared.lexeme.Sort.TheVariants as sorts
+use Rattle.bs_lex.specs.Packed.{Lexeme}
+use Rattle.bs_lex.specs.Lexemes.{end_of, has_number, is_great, is_name, lexeme_of, lexemes_of, name_text, names_of, number_in, numbered_sort, spelling, token_sort, without_zeros}
 use Rattle.bs_verilog_syntax.specs.declared.reading.Due.TheVariants as due
 use Rattle.bs_verilog_syntax.specs.declared.tree.Component.{Component}
 use Rattle.bs_verilog_syntax.specs.declared.tree.Connection.{Connection}

@@ -9,8 +9,8 @@ use Rattle.std.proofs.lemmas.List.{drop_more, take_more, drop_all, take_all, app
 use Rattle.std.proofs.lemmas.Grind.{flat_map-append}
 use Rattle.std.proofs.lemmas.Bool.Decides.{eqb_tells}
 use Rattle.bs_bits.specs.Reading.{◌>>=◌}
-use Rattle.bs_verilog_lexemes.specs.declared.lexeme.Name.{Name}
-use Rattle.bs_verilog_lexemes.specs.Lexemes.{is_name}
+use Rattle.bs_lex.specs.declared.lexeme.Name.{Name}
+use Rattle.bs_lex.specs.Lexemes.{is_name}
 use Rattle.bs_verilog_syntax.specs.declared.fault.VerilogFault.{VerilogFault}
 use Rattle.bs_verilog_syntax.specs.declared.fault.VerilogFault.TheVariants.{Redeclared, NoMemory as out_of_memory}
 use Rattle.bs_verilog_syntax.specs.Reading.{Rest, at, sort, rest, name}

@@ -5,8 +5,8 @@ use Rattle.std.specs.Prelude.{option_map, ◌≢◌, ⊤}
 use Rattle.std.proofs.Math.Path.{subst}
 use Rattle.std.proofs.lemmas.Bool.{eq-eqb, ne_eqb, eqb-false}
 use Rattle.std.proofs.lemmas.List.{length-drop, drop_all}
-use Rattle.bs_verilog_lexemes.specs.Packed.{Lexeme}
-use Rattle.bs_verilog_lexemes.specs.declared.lexeme.Sort.{Sort}
+use Rattle.bs_lex.specs.Packed.{Lexeme}
+use Rattle.bs_lex.specs.declared.lexeme.Sort.{Sort}
 use Rattle.bs_verilog_syntax.specs.declared.reading.AttributeStep.{AttributeStep}
 use Rattle.bs_verilog_syntax.specs.declared.reading.AttributeStep.TheVariants.{On, Over, Unclosed}
 use Rattle.bs_verilog_syntax.specs.declared.fault.VerilogFault.{VerilogFault}

@@ -7,10 +7,10 @@ use Rattle.std.proofs.lemmas.List.{drop_more, drop_all, length-drop}
 use Rattle.bs_bits.specs.Reading.{◌>>=◌}
 use Prim.Native.String.{String}
 use Rattle.bs_lex.specs.Bytes.{◌∈◌}
-use Rattle.bs_verilog_lexemes.specs.Packed.{Lexeme}
-use Rattle.bs_verilog_lexemes.specs.Lexemes.{is_name}
-use Rattle.bs_verilog_lexemes.specs.declared.lexeme.Sort.{Sort}
-use Rattle.bs_verilog_lexemes.specs.declared.lexeme.Sort.TheVariants as sorts
+use Rattle.bs_lex.specs.Packed.{Lexeme}
+use Rattle.bs_lex.specs.Lexemes.{is_name}
+use Rattle.bs_lex.specs.declared.lexeme.Sort.{Sort}
+use Rattle.bs_lex.specs.declared.lexeme.Sort.TheVariants as sorts
 use Rattle.bs_verilog_syntax.specs.Reading.{Rest, Read, Skip, at, sort, rest, is_at}
 use Rattle.bs_verilog_syntax.specs.Unsupported.{symbol}
 use Rattle.bs_verilog_syntax.specs.Modules.{is_endmodule}

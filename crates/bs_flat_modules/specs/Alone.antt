@@ -1,7 +1,7 @@
 -- A module's own text without what stands outside the modules, and when it says alone what it says with that.
 use Rattle.std.specs.Prelude.{◌≡◌, ℕ, ◌==◌, Bool, true, false, not, ◌&&◌, if◌then◌else◌, List, [], ◌∷◌, ◌++◌, length, take, drop, All, ⊤, Option, Some, None, Ok}
 use Rattle.std.specs.List.{list_all}
-use Rattle.bs_verilog_lexemes.specs.Packed.{Lexeme}
+use Rattle.bs_lex.specs.Packed.{Lexeme}
 use Rattle.bs_verilog_syntax.specs.declared.tree.Module.{Module}
 use Rattle.bs_verilog_syntax.specs.Reading.{Rest, sort}
 use Rattle.bs_verilog_syntax.specs.Modules.{syntax_of, is_end, is_endmodule, is_module}

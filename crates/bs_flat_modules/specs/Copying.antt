@@ -1,9 +1,9 @@
 -- Lexemes that are put together from parts of a text.
 use Rattle.std.specs.Prelude.{ℕ, ◌-◌, Bool, ◌&&◌, ◌==◌, nat_lt, if◌then◌else◌, List, length, take, drop}
 use Rattle.bs_lex.specs.declared.limits.TheConstants.{MAX_BYTES}
-use Rattle.bs_verilog_lexemes.specs.declared.limits.TheConstants.{MAX_INDEX, GREAT}
-use Rattle.bs_verilog_lexemes.specs.declared.lexeme.Sort.{Sort}
-use Rattle.bs_verilog_lexemes.specs.declared.lexeme.Sort.TheVariants as sorts
+use Rattle.bs_lex.specs.declared.number_limits.TheConstants.{MAX_INDEX, GREAT}
+use Rattle.bs_lex.specs.declared.lexeme.Sort.{Sort}
+use Rattle.bs_lex.specs.declared.lexeme.Sort.TheVariants as sorts
 
 -- the members from a place on, up to another
 abbrev pub part : {A : Type 0} → List A → ℕ → ℕ → List A

@@ -4,7 +4,7 @@ use Rattle.bs_net.specs.Parts.{Parts}
 use Rattle.bs_net.specs.declared.limits.TheConstants.{MAX_NETS}
 use Rattle.bs_lex.specs.declared.limits.TheConstants.{MAX_BYTES}
 use Rattle.bs_lex.specs.declared.token.Token.{Token}
-use Rattle.bs_verilog_lexemes.specs.Lexemes.{lexemes_of, names_of}
+use Rattle.bs_lex.specs.Lexemes.{lexemes_of, names_of}
 use Rattle.bs_verilog_syntax.specs.declared.tree.Module.{Module}
 use Rattle.bs_verilog_syntax.specs.Reading.{Rest}
 use Rattle.bs_verilog_syntax.specs.Modules.{syntax_of}

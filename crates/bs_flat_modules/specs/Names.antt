@@ -2,8 +2,8 @@
 use Rattle.std.specs.Prelude.{ℕ, ◌+◌, Bool, true, not, ◌&&◌, nat_lt, if◌then◌else◌, List, [], ◌∷◌, map, ⊤, Option, Some, None, Result, Ok, Err}
 use Rattle.std.specs.List.{flat_map}
 use Rattle.bs_bits.specs.Reading.{◌>>=◌}
-use Rattle.bs_verilog_lexemes.specs.declared.lexeme.Name.{Name}
-use Rattle.bs_verilog_lexemes.specs.Lexemes.{is_name}
+use Rattle.bs_lex.specs.declared.lexeme.Name.{Name}
+use Rattle.bs_lex.specs.Lexemes.{is_name}
 use Rattle.bs_verilog_syntax.specs.declared.fault.VerilogFault.{VerilogFault}
 use Rattle.bs_verilog_syntax.specs.Reading.{Rest, at, sort, rest, name}
 use Rattle.bs_verilog_scope.specs.Declaring.{repeated_fault}

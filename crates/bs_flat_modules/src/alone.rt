@@ -11,7 +11,7 @@ use crate::items::stays_inside;
 use crate::pieces::first_cut;
 use crate::sorts::{is_end, is_endmodule, is_module};
 use bs_bits::NoMemory;
-use bs_verilog_lexemes::Lexeme;
+use bs_lex::Lexeme;
 use bs_verilog_syntax::sort_of;
 
 /// Whether `endmodule` stands last and nowhere before, and no attribute is open there.

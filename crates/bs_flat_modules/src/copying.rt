@@ -3,8 +3,7 @@ ghost use Rattle.std.specs.Prelude.{◌≡◌, ◌++◌, IfOk, OnOk};
 ghost use Rattle.bs_flat_modules.specs.Copying as spec;
 
 use bs_bits::{List, NoMemory};
-use bs_lex::MAX_BYTES;
-use bs_verilog_lexemes::{GREAT, Lexeme, MAX_INDEX, Sort};
+use bs_lex::{GREAT, Lexeme, MAX_BYTES, MAX_INDEX, Sort};
 
 /// The lexemes from a place on, up to another, as far as they are there.
 pub fn part(ts: &[Lexeme], from: usize, stop: usize) -> &[Lexeme]

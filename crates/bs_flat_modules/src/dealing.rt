@@ -5,7 +5,7 @@ ghost use Rattle.bs_flat_modules.specs.Dealing as spec;
 use crate::copying::{copy, part};
 use crate::pieces::{first_cut, is_design};
 use bs_bits::{List, NoMemory};
-use bs_verilog_lexemes::Lexeme;
+use bs_lex::Lexeme;
 use std::alloc::Global;
 
 /// Where a module that is no cell stands among the lexemes of its text: its attributes begin at `from`, its `module` is at `body`,

@@ -6,7 +6,7 @@ ghost use Rattle.bs_flat_modules.specs.Names as spec;
 use crate::copying::part;
 use crate::dealing::{ModuleSpan, deal};
 use bs_bits::{List, NoMemory};
-use bs_verilog_lexemes::{Lexeme, is_name};
+use bs_lex::{Lexeme, is_name};
 use bs_verilog_syntax::{name_of, rest_of, sort_of};
 use std::alloc::Global;
 

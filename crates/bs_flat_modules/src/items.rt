@@ -11,8 +11,8 @@ use crate::pieces::attributes_size;
 use crate::sorts::{is_cell, is_endmodule};
 use bs_bits::{List, NoMemory};
 use bs_flat_meaning::{Written, instancing};
-use bs_verilog_lexemes::{Lexeme, Sort, is_name};
-use bs_verilog_scope::Marks;
+use bs_lex::{Lexeme, Sort, is_name};
+use bs_verilog_scope::NameMarks;
 use bs_verilog_syntax::{VerilogFault, is_at, sort_of};
 use std::alloc::Global;
 
@@ -66,7 +66,7 @@ fn past(ts: &[Lexeme]) -> Result<&[Lexeme], NoMemory>
 }
 
 /// Whether a name is next that is marked and is no cell's.
-fn is_marked_next(marks: &Marks, ts: &[Lexeme]) -> bool
+fn is_marked_next(marks: &NameMarks, ts: &[Lexeme]) -> bool
     ensures { result ≡ spec.is_marked_next (marked marks.now) ts.now }
 {
     match ts {
@@ -76,7 +76,7 @@ fn is_marked_next(marks: &Marks, ts: &[Lexeme]) -> bool
 }
 
 /// Whether an item is an instance statement.
-fn is_statement(marks: &Marks, item: &[Lexeme]) -> Result<bool, NoMemory>
+fn is_statement(marks: &NameMarks, item: &[Lexeme]) -> Result<bool, NoMemory>
     ensures { IfOk result (λ b. b ≡ spec.is_statement (marked marks.now) item.now) }
 {
     let here = past(item)?;
@@ -84,7 +84,7 @@ fn is_statement(marks: &Marks, item: &[Lexeme]) -> Result<bool, NoMemory>
 }
 
 /// Adds an item that is no instance statement.
-fn own_item(own: &mut List<Lexeme>, marks: &Marks, item: &[Lexeme]) -> Result<(), NoMemory>
+fn own_item(own: &mut List<Lexeme>, marks: &NameMarks, item: &[Lexeme]) -> Result<(), NoMemory>
     ensures { OnOk result (own.new ≡ own.old ++ spec.kept (marked marks.now) item.now) }
 {
     if is_statement(marks, item)? {
@@ -95,7 +95,7 @@ fn own_item(own: &mut List<Lexeme>, marks: &Marks, item: &[Lexeme]) -> Result<()
 }
 
 /// Adds the items of a module that are no instance statements, and its `endmodule`.
-pub fn own_items(own: &mut List<Lexeme>, marks: &Marks, ts: &[Lexeme]) -> Result<(), NoMemory>
+pub fn own_items(own: &mut List<Lexeme>, marks: &NameMarks, ts: &[Lexeme]) -> Result<(), NoMemory>
     ensures { OnOk result (own.new ≡ own.old ++ spec.own_items (marked marks.now) (length ts.now) ts.now) }
 {
     let mut at = 0;
@@ -127,7 +127,7 @@ fn statement(alloc: Global, ts: &[Lexeme]) -> Result<List<Written>, VerilogFault
 fn add_item(
     alloc: Global,
     all: &mut List<Written>,
-    marks: &Marks,
+    marks: &NameMarks,
     item: &[Lexeme],
     ts: &[Lexeme],
 ) -> Result<(), VerilogFault>
@@ -143,7 +143,7 @@ fn add_item(
 /// The instances of a module's items, or the first fault of an instance statement.
 pub fn written_items(
     alloc: Global,
-    marks: &Marks,
+    marks: &NameMarks,
     ts: &[Lexeme],
 ) -> Result<List<Written>, VerilogFault>
     ensures { Answers want (λ ws. ws) result (spec.written_items (marked marks.now) (length ts.now) [] ts.now) }

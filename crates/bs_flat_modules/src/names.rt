@@ -8,7 +8,7 @@ use crate::copying::part;
 use crate::dealing::ModuleSpan;
 use bs_bits::{List, NoMemory};
 use bs_flat_meaning::Written;
-use bs_verilog_lexemes::{Lexeme, Name, is_name};
+use bs_lex::{Lexeme, Name, is_name};
 use bs_verilog_scope::header_marks;
 use bs_verilog_syntax::{VerilogFault, name_of, place_of, rest_of, sort_of};
 use std::alloc::Global;

@@ -15,10 +15,10 @@ use crate::dealing::ModuleSpan;
 use crate::items::{item_size, own_items, written_items};
 use bs_bits::{List, NoMemory};
 use bs_flat_meaning::{FlatFault, MAX_OWN_NETS, Written};
+use bs_lex::{Lexeme, NameTable};
 use bs_net::Raw;
 use bs_verilog::meaning;
-use bs_verilog_lexemes::{Lexeme, Table};
-use bs_verilog_scope::Marks;
+use bs_verilog_scope::NameMarks;
 use bs_verilog_syntax::{Module, VerilogFault, place_of, syntax};
 use std::alloc::Global;
 
@@ -38,7 +38,7 @@ pub struct Modules {
 }
 
 /// Adds the own text of a module with this body.
-fn own_body(own: &mut List<Lexeme>, marks: &Marks, body: &[Lexeme]) -> Result<(), NoMemory>
+fn own_body(own: &mut List<Lexeme>, marks: &NameMarks, body: &[Lexeme]) -> Result<(), NoMemory>
     ensures { OnOk result (own.new ≡ own.old ++ spec.own_body (marked marks.now) body.now) }
 {
     let size = item_size(body);
@@ -52,7 +52,7 @@ fn own_text(
     alloc: Global,
     ts: &[Lexeme],
     others: &[Lexeme],
-    marks: &Marks,
+    marks: &NameMarks,
     place: ModuleSpan,
 ) -> Result<List<Lexeme>, NoMemory>
     ensures { IfOk result (λ own. own ≡ spec.own_text (marked marks.now) others.now ts.now place) }
@@ -66,7 +66,7 @@ fn own_text(
 }
 
 /// What an own text says, and the parts that it builds.
-fn said(alloc: Global, table: &Table, own: &[Lexeme]) -> Result<Own, VerilogFault>
+fn said(alloc: Global, table: &NameTable, own: &[Lexeme]) -> Result<Own, VerilogFault>
     ensures { Answers want spec.module_and_parts result (spec.said table.now own.now) }
 {
     let says = syntax(alloc, own)?;
@@ -83,7 +83,7 @@ fn said(alloc: Global, table: &Table, own: &[Lexeme]) -> Result<Own, VerilogFaul
 fn alone_text(
     alloc: Global,
     ts: &[Lexeme],
-    marks: &Marks,
+    marks: &NameMarks,
     place: ModuleSpan,
 ) -> Result<List<Lexeme>, NoMemory>
     ensures { IfOk result (λ own. own ≡ alone_spec.own_alone (marked marks.now) ts.now place) }
@@ -95,7 +95,7 @@ fn alone_text(
 }
 
 /// What an own text says that is shut; nothing where it is not, or has a fault.
-fn said_shut(alloc: Global, table: &Table, own: &[Lexeme]) -> Result<Option<Own>, NoMemory>
+fn said_shut(alloc: Global, table: &NameTable, own: &[Lexeme]) -> Result<Option<Own>, NoMemory>
     ensures { IfOk result (λ o. alone_spec.IsSaidOf table.now own.now o) }
 {
     if !is_shut(own) {
@@ -111,9 +111,9 @@ fn said_shut(alloc: Global, table: &Table, own: &[Lexeme]) -> Result<Option<Own>
 /// What the module at a place says alone, if what stands outside the modules need not be read with it.
 fn said_alone(
     alloc: Global,
-    table: &Table,
+    table: &NameTable,
     ts: &[Lexeme],
-    marks: &Marks,
+    marks: &NameMarks,
     place: ModuleSpan,
     tidy: bool,
 ) -> Result<Option<Own>, NoMemory>
@@ -130,10 +130,10 @@ fn said_alone(
 /// What the own text of the module at a place says, read with what stands outside the modules.
 fn said_among(
     alloc: Global,
-    table: &Table,
+    table: &NameTable,
     ts: &[Lexeme],
     others: &[Lexeme],
-    marks: &Marks,
+    marks: &NameMarks,
     place: ModuleSpan,
 ) -> Result<Own, VerilogFault>
     ensures { Answers want spec.module_and_parts result (spec.said table.now (spec.own_text (marked marks.now) others.now ts.now place)) }
@@ -146,10 +146,10 @@ fn said_among(
 /// What the own text of the module at a place says: read alone where that is the same, and else with what stands outside.
 fn own_said(
     alloc: Global,
-    table: &Table,
+    table: &NameTable,
     ts: &[Lexeme],
     others: &[Lexeme],
-    marks: &Marks,
+    marks: &NameMarks,
     place: ModuleSpan,
     tidy: bool,
 ) -> Result<Own, VerilogFault>
@@ -175,10 +175,10 @@ pub fn fault_of(fault: VerilogFault) -> FlatFault
 /// What the own text of the module at a place says, or why the text is refused.
 fn read_own(
     alloc: Global,
-    table: &Table,
+    table: &NameTable,
     ts: &[Lexeme],
     others: &[Lexeme],
-    marks: &Marks,
+    marks: &NameMarks,
     place: ModuleSpan,
     tidy: bool,
 ) -> Result<Own, FlatFault>
@@ -219,10 +219,10 @@ fn push_own(owns: &mut List<Own>, own: Own) -> Result<(), FlatFault>
 /// flag says that a module says alone what it says with what stands outside the modules.
 pub fn read_owns(
     alloc: Global,
-    table: &Table,
+    table: &NameTable,
     ts: &[Lexeme],
     others: &[Lexeme],
-    marks: &Marks,
+    marks: &NameMarks,
     modules: &[ModuleSpan],
     tidy: bool,
 ) -> Result<List<Own>, FlatFault>
@@ -242,7 +242,7 @@ pub fn read_owns(
 }
 
 /// The instances that a module with this body writes.
-fn written(alloc: Global, marks: &Marks, body: &[Lexeme]) -> Result<List<Written>, VerilogFault>
+fn written(alloc: Global, marks: &NameMarks, body: &[Lexeme]) -> Result<List<Written>, VerilogFault>
     ensures { Answers want (λ ws. ws) result (spec.written (marked marks.now) body.now) }
 {
     let size = item_size(body);
@@ -254,7 +254,7 @@ fn written(alloc: Global, marks: &Marks, body: &[Lexeme]) -> Result<List<Written
 pub fn read_written(
     alloc: Global,
     ts: &[Lexeme],
-    marks: &Marks,
+    marks: &NameMarks,
     modules: &[ModuleSpan],
 ) -> Result<List<List<Written>>, VerilogFault>
     ensures { Answers want (λ ws. ws) result (spec.all_written (marked marks.now) ts.now modules.now) }

@@ -6,7 +6,7 @@ ghost use Rattle.bs_flat_modules.specs.Dealing as spec;
 
 use crate::sorts::{is_cell, is_endmodule, is_module};
 use bs_bits::NoMemory;
-use bs_verilog_lexemes::Lexeme;
+use bs_lex::Lexeme;
 use bs_verilog_syntax::{VerilogFault, attributes, rest_of, sort_of};
 
 /// How many lexemes of a piece stand before its `module`, and how many it has. Both are its size where it is no module.

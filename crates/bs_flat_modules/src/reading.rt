@@ -17,8 +17,8 @@ use crate::names::{all_apart, are_rising, heads};
 use crate::owns::{Modules, Own, fault_of, read_owns, read_written};
 use bs_bits::List;
 use bs_flat_meaning::FlatFault;
-use bs_verilog_lexemes::{Lexeme, Table};
-use bs_verilog_scope::{Marks, header_marks};
+use bs_lex::{Lexeme, NameTable};
+use bs_verilog_scope::{NameMarks, header_marks};
 use bs_verilog_syntax::VerilogFault;
 use std::alloc::Global;
 
@@ -45,7 +45,7 @@ fn dealt_out(alloc: Global, ts: &[Lexeme]) -> Result<Dealt, VerilogFault>
 }
 
 /// The names of the modules, marked; a name that stands twice is refused.
-fn marks_of(alloc: Global, ts: &[Lexeme], dealt: &Dealt) -> Result<Marks, VerilogFault>
+fn marks_of(alloc: Global, ts: &[Lexeme], dealt: &Dealt) -> Result<NameMarks, VerilogFault>
     ensures { Checks result (repeated_fault (naming.heads ts.now dealt.now.modules)) (λ m. marked m ≡ is_in (naming.heads ts.now dealt.now.modules)) }
 {
     let names = heads(alloc, ts, dealt.modules.slice())?;
@@ -57,7 +57,7 @@ fn marks_of(alloc: Global, ts: &[Lexeme], dealt: &Dealt) -> Result<Marks, Verilo
 fn with_written(
     alloc: Global,
     ts: &[Lexeme],
-    marks: &Marks,
+    marks: &NameMarks,
     modules: &[ModuleSpan],
     owns: List<Own>,
 ) -> Result<Modules, FlatFault>
@@ -75,10 +75,10 @@ fn with_written(
 /// What the own texts say, and then the instances.
 fn read_all(
     alloc: Global,
-    table: &Table,
+    table: &NameTable,
     ts: &[Lexeme],
     dealt: &Dealt,
-    marks: &Marks,
+    marks: &NameMarks,
 ) -> Result<Modules, FlatFault>
     requires { IsDealt ts.now dealt.now }
     ensures { Answers want spec.parts_read result (spec.all_read table.now (marked marks.now) ts.now dealt.now) }
@@ -110,10 +110,10 @@ fn with_names_apart(alloc: Global, read: Modules) -> Result<Modules, FlatFault>
 /// The modules of a text that was dealt out, with its modules' names marked.
 fn read_marked(
     alloc: Global,
-    table: &Table,
+    table: &NameTable,
     ts: &[Lexeme],
     dealt: &Dealt,
-    marks: &Marks,
+    marks: &NameMarks,
 ) -> Result<Modules, FlatFault>
     requires dealt { spec.IsDealtOut ts.now dealt.now }
     requires marks { marked marks.now ≡ is_in (naming.heads ts.now dealt.now.modules) }
@@ -130,7 +130,7 @@ fn read_marked(
 /// The modules of a text that was dealt out.
 fn read_dealt(
     alloc: Global,
-    table: &Table,
+    table: &NameTable,
     ts: &[Lexeme],
     dealt: &Dealt,
 ) -> Result<Modules, FlatFault>
@@ -146,7 +146,7 @@ fn read_dealt(
 
 /// The modules of a text with these lexemes, read one by one: its first refusal up to a second instance name within a module,
 /// else what each says, with the parts that its own text builds, and its instances as they are written.
-pub fn read_modules(alloc: Global, table: &Table, ts: &[Lexeme]) -> Result<Modules, FlatFault>
+pub fn read_modules(alloc: Global, table: &NameTable, ts: &[Lexeme]) -> Result<Modules, FlatFault>
     ensures read { Answers want spec.read_modules_of result (flat.read_modules table.now ts.now) }
     ensures all { IfOk result (λ m. spec.AreAll ts.now m) }
 {

@@ -2,7 +2,7 @@
 ghost use Rattle.std.specs.Prelude.{◌≡◌};
 ghost use Rattle.bs_verilog_syntax.specs.Modules as modules;
 
-use bs_verilog_lexemes::{Sort, Word};
+use bs_lex::{Sort, Word};
 
 /// Whether a lexeme is `module`.
 pub fn is_module(sort: Sort) -> bool

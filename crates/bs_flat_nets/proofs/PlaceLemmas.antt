@@ -30,7 +30,7 @@ use Rattle.bs_flat_nets.specs.Numbering.{net_at, no_net, no_place, IsFirst, IsNu
 use Rattle.bs_flat_nets.specs.Rows.{AreRows}
 use Rattle.bs_flat_nets.specs.Tally.{bit_in, no_tally, with_nets, IsFound, IsTally, IsWholeTally}
 use Rattle.bs_flat_nets.specs.declared.numbers.Numbering.{Numbering}
-use Rattle.bs_flat_nets.specs.declared.tally.Tally.{Tally}
+use Rattle.bs_flat_nets.specs.declared.tally.NetTally.{NetTally}
 use Rattle.bs_flat_nets.proofs.FreeLemmas.{flat_apart, flat_in_roots}
 use Rattle.bs_flat_nets.proofs.TallyLemmas.{nets_tally, tally_none, Placed}
 use Rattle.bs_flat_nets.proofs.ClimbLemmas.{first_path}
@@ -143,7 +143,7 @@ free_whole d ps k lt =
     whole (q ∷ qs) (suc n) = ap (λ (u : List Path). q ∷ u) (whole qs n)
 
 -- one node more
-tally_more : (d : Design) → IsDesign d → (k : ℕ) (bits : List Bit) (ns : List ℕ) (t : Tally) → k < length (paths d) →
+tally_more : (d : Design) → IsDesign d → (k : ℕ) (bits : List Bit) (ns : List ℕ) (t : NetTally) → k < length (paths d) →
     bits ≡ known_constants (own d (path_in d k)) → ns ≡ free_on d (path_in d k) → IsTally d (free_of d (take k (paths d))) t →
     IsTally d (free_of d (take (k + 1) (paths d))) (with_nets t k bits ns)
 tally_more d h k bits ns t lt eb en it =
@@ -167,7 +167,7 @@ tally_top blocks nodes top h a =
     tally_more d h 0 (known_in blocks top) (free_nets [] (count_in blocks top)) no_tally (omega (arith, some, a.count))
     (ap known_constants (top_node_own blocks top)) (top_free blocks top) (tally_none d)
 
-pub tally_node : (blocks : List FlatModule) (nodes : List Node) (top k : ℕ) (t : Tally) → IsDesign (design_of blocks top) →
+pub tally_node : (blocks : List FlatModule) (nodes : List Node) (top k : ℕ) (t : NetTally) → IsDesign (design_of blocks top) →
     ArePaths (design_of blocks top) nodes (paths (design_of blocks top)) → 0 < k → k < length nodes →
     IsTally (design_of blocks top) (free_of (design_of blocks top) (take k (paths (design_of blocks top)))) t →
     IsTally (design_of blocks top) (free_of (design_of blocks top) (take (k + 1) (paths (design_of blocks top))))
@@ -187,7 +187,7 @@ first_is d b places (Some n) e f =
     let lt = f.within n refl in
     (omega (arith, lt, wide), ap (λ (l : List PathNet). get_or l n no_net) (sym e) ∙ f.is n refl)
 
-pub whole_tally : (blocks : List FlatModule) (nodes : List Node) (top k : ℕ) (t : Tally) →
+pub whole_tally : (blocks : List FlatModule) (nodes : List Node) (top k : ℕ) (t : NetTally) →
     ArePaths (design_of blocks top) nodes (paths (design_of blocks top)) → length nodes ≤ k →
     IsTally (design_of blocks top) (free_of (design_of blocks top) (take k (paths (design_of blocks top)))) t →
     IsTally (design_of blocks top) (roots (design_of blocks top)) t
@@ -196,7 +196,7 @@ whole_tally blocks nodes top k t a le it =
     let all : take k (paths d) ≡ paths d = take_all k (paths d) (omega (arith, le, a.count)) in
     subst (λ (ps : List Path). IsTally d (free_of d ps) t) all it
 
-pub numbering_is : (blocks : List FlatModule) (nodes : List Node) (top : ℕ) (t : Tally) (n : Numbering) → IsDesign (design_of blocks top) →
+pub numbering_is : (blocks : List FlatModule) (nodes : List Node) (top : ℕ) (t : NetTally) (n : Numbering) → IsDesign (design_of blocks top) →
     IsWholeTally blocks nodes top t n.starts → n.places ≡ t.places → n.bits ≡ all_bits_of blocks → n.zero ≡ t.zero → n.one ≡ t.one →
     AreRows blocks n.rows → IsNumbering blocks nodes top n
 numbering_is blocks nodes top t n h whole ep eb ez eo rows =

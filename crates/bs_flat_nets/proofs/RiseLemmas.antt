@@ -16,7 +16,7 @@ use Rattle.bs_flat_nets.specs.declared.climbing.NetOnPath.{NetOnPath}
 use Rattle.bs_flat_nets.specs.declared.constants.Bit.{Bit}
 use Rattle.bs_flat_nets.specs.Numbering.{no_place, is_before, AreRising, AreByNode, IsFirstFrom, IsNowhere}
 use Rattle.bs_flat_nets.specs.Tally.{bit_in, first_of, with_first, with_constant, with_net, with_nets}
-use Rattle.bs_flat_nets.specs.declared.tally.Tally.{Tally}
+use Rattle.bs_flat_nets.specs.declared.tally.NetTally.{NetTally}
 
 abbrev pub at : List NetOnPath → ℕ → NetOnPath
 at ps i = get_or ps i no_place
@@ -190,7 +190,7 @@ behind_same : (old new : List NetOnPath) (node least more : ℕ) → Behind old 
 behind_same old new node least more b le = record { are = b.are; under = λ i l. under_more (at new i) node least more (b.under i l) le }
 
 -- one net more
-behind_net : (old : List NetOnPath) (t : Tally) (node net least : ℕ) (o : Option Bool) → Behind old t.places node least → least ≤ net
+behind_net : (old : List NetOnPath) (t : NetTally) (node net least : ℕ) (o : Option Bool) → Behind old t.places node least → least ≤ net
     → Behind old (with_net t (record { node = node; net = net }) o).places node (net + 1)
 behind_net old t node net least None b le = behind_push old t.places (record { node = node; net = net }) least b le
 behind_net old t node net least (Some v) b le = by (is_some (first_of t v)) v
@@ -231,7 +231,7 @@ node_ascends blocks nodes k =
     (count_in blocks
     (instance_in (slice_index_or (map module_of blocks) (node_at nodes (node_at nodes k).parent).of no_module) (node_at nodes k).instance).of)
 
-behind_nets : (old : List NetOnPath) (t : Tally) (node least : ℕ) (bits : List Bit) (ns : List ℕ) → Ascends least ns → Behind old t.places node least
+behind_nets : (old : List NetOnPath) (t : NetTally) (node least : ℕ) (bits : List Bit) (ns : List ℕ) → Ascends least ns → Behind old t.places node least
     → AreBehind old (with_nets t node bits ns).places node
 behind_nets old t node least bits [] a b = b.are
 behind_nets old t node least bits (n ∷ ns) a b =
@@ -262,12 +262,12 @@ up_to_top =
     }
 
 -- the next node's nets
-pub up_to_more : (t u : Tally) (starts : List ℕ) (node : ℕ) (bits : List Bit) (ns : List ℕ) → u ≡ with_nets t node bits ns → Ascends 0 ns
+pub up_to_more : (t u : NetTally) (starts : List ℕ) (node : ℕ) (bits : List Bit) (ns : List ℕ) → u ≡ with_nets t node bits ns → Ascends 0 ns
     → AreUpTo t.places starts node → AreUpTo u.places (starts ++ length t.places ∷ []) (node + 1)
 up_to_more t u starts node bits ns e rise a =
     let old = t.places in
     let more : AreBehind old u.places node =
-    subst (λ (v : Tally). AreBehind old v.places node) (sym e)
+    subst (λ (v : NetTally). AreBehind old v.places node) (sym e)
     (behind_nets old t node 0 bits ns rise
     (record {
       are = record {

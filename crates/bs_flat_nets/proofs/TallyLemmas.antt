@@ -17,7 +17,7 @@ use Rattle.bs_flat_nets.specs.declared.constants.Bit.{Bit}
 use Rattle.bs_flat_nets.specs.Free.{roots}
 use Rattle.bs_flat_nets.specs.Numbering.{net_at, no_net}
 use Rattle.bs_flat_nets.specs.Tally.{bit_in, no_tally, first_of, with_plain, with_first, with_constant, with_net, with_nets, is_home, found_in, IsFound, IsTally}
-use Rattle.bs_flat_nets.specs.declared.tally.Tally.{Tally}
+use Rattle.bs_flat_nets.specs.declared.tally.NetTally.{NetTally}
 use Rattle.bs_flat_nets.proofs.FreeLemmas.{roots_apart, first_in_roots, plain_stays, constant_stays}
 use Rattle.bs_flat_meaning.proofs.HomeLemmas.{is_bit_same}
 
@@ -111,7 +111,7 @@ are_same d nets places a goes e =
 
 -- ---- one net more
 
-first_more : (d : Design) (t : Tally) (p : NetOnPath) (nets : List PathNet) (b : Bool) → IsFound d b nets (t.places ++ p ∷ []) (Some (length t.places)) →
+first_more : (d : Design) (t : NetTally) (p : NetOnPath) (nets : List PathNet) (b : Bool) → IsFound d b nets (t.places ++ p ∷ []) (Some (length t.places)) →
     ((c : Bool) → (c ≡ b → ⊥) → IsFound d c nets (t.places ++ p ∷ []) (first_of t c)) →
     (c : Bool) → IsFound d c nets (with_first t p b).places (first_of (with_first t p b) c)
 first_more d t p nets true n o true = n
@@ -120,18 +120,18 @@ first_more d t p nets false n o true = o true (λ e. false≢true (sym e))
 first_more d t p nets false n o false = n
 
 -- a bit of which the first is known hides no other
-hidden : (t : Tally) (b c : Bool) (n : ℕ) → first_of t b ≡ Some n → first_of t c ≡ None → is_bit c (Some b) ≡ false
+hidden : (t : NetTally) (b c : Bool) (n : ℕ) → first_of t b ≡ Some n → first_of t c ≡ None → is_bit c (Some b) ≡ false
 hidden t true true n e q = absurd cc
 hidden t true false n e q = refl
 hidden t false true n e q = refl
 hidden t false false n e q = absurd cc
 
-with_first_are : (t : Tally) (p : NetOnPath) (b : Bool) → (with_first t p b).places ≡ t.places ++ p ∷ []
+with_first_are : (t : NetTally) (p : NetOnPath) (b : Bool) → (with_first t p b).places ≡ t.places ++ p ∷ []
 with_first_are t p true = refl
 with_first_are t p false = refl
 
 module _ (d : Design) (h : IsDesign d) where
-  pub net_tally : (nets later : List PathNet) (t : Tally) (p : NetOnPath) (a : PathNet) → nets ++ a ∷ later ≡ roots d → net_at d p ≡ a → IsTally d nets t →
+  pub net_tally : (nets later : List PathNet) (t : NetTally) (p : NetOnPath) (a : PathNet) → nets ++ a ∷ later ≡ roots d → net_at d p ≡ a → IsTally d nets t →
       IsTally d (nets ++ a ∷ []) (with_net t p (bit_of d a))
   net_tally nets later t p a whole same k = by (bit_of d a) refl
     where
@@ -205,7 +205,7 @@ module _ (d : Design) (h : IsDesign d) where
           met (Some n) q = subst (λ (o : Option ℕ). IsTally d (nets ++ a ∷ []) (cond (is_some o) t (with_first t p b))) (sym q) (again b n e q)
 
   -- the nets of a node more
-  pub nets_tally : (node : ℕ) (p : Path) (bits : List Bit) (ns : List ℕ) (nets later : List PathNet) (t : Tally) → path_in d node ≡ p →
+  pub nets_tally : (node : ℕ) (p : Path) (bits : List Bit) (ns : List ℕ) (nets later : List PathNet) (t : NetTally) → path_in d node ≡ p →
       nets ++ (map (on p) ns ++ later) ≡ roots d → ((n : ℕ) → Member n ns → bit_in bits n ≡ bit_of d (on p n)) → IsTally d nets t →
       IsTally d (nets ++ map (on p) ns) (with_nets t node bits ns)
   nets_tally node p bits [] nets later t e whole same k = subst (λ (l : List PathNet). IsTally d l t) (sym (append-nil nets)) k
@@ -222,13 +222,13 @@ module _ (d : Design) (h : IsDesign d) where
 
 -- ---- places of nodes
 
-abbrev pub Placed : ℕ → Tally → Type 0
+abbrev pub Placed : ℕ → NetTally → Type 0
 Placed count t = All (λ (p : NetOnPath). p.node < count) t.places
 
 pub placed_none : (count : ℕ) → Placed count no_tally
 placed_none count = All-nil _
 
-placed_net : (count : ℕ) (t : Tally) (p : NetOnPath) (o : Option Bool) → p.node < count → Placed count t → Placed count (with_net t p o)
+placed_net : (count : ℕ) (t : NetTally) (p : NetOnPath) (o : Option Bool) → p.node < count → Placed count t → Placed count (with_net t p o)
 placed_net count t p None lt h = All-push (λ (q : NetOnPath). q.node < count) t.places p h lt
 placed_net count t p (Some b) lt h = by (is_some (first_of t b)) b
   where
@@ -237,7 +237,7 @@ placed_net count t p (Some b) lt h = by (is_some (first_of t b)) b
     by false true = All-push (λ (q : NetOnPath). q.node < count) t.places p h lt
     by false false = All-push (λ (q : NetOnPath). q.node < count) t.places p h lt
 
-pub placed_nets : (count node : ℕ) (bits : List Bit) (ns : List ℕ) (t : Tally) → node < count → Placed count t → Placed count (with_nets t node bits ns)
+pub placed_nets : (count node : ℕ) (bits : List Bit) (ns : List ℕ) (t : NetTally) → node < count → Placed count t → Placed count (with_nets t node bits ns)
 placed_nets count node bits [] t lt h = h
 placed_nets count node bits (n ∷ ns) t lt h =
     placed_nets count node bits ns (with_net t (record { node = node; net = n }) (bit_in bits n)) lt

@@ -5,7 +5,7 @@ use bs_net::{Const, Flop, Gate, NetId};
 
 /// Joined nets side by side: for each number below `width`, the net of the instance so far behind `inner` is joined with the
 /// net of the module around it so far behind `outer`.
-#[derive(Clone, Copy, Debug, PartialEq, Eq)]
+#[derive(Clone, Copy)]
 pub struct JoinedNets {
     pub inner: u32,
     pub outer: u32,

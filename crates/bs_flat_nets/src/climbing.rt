@@ -10,7 +10,7 @@ use bs_bits::List;
 use bs_flat_meaning::Node;
 
 /// A net on a path, by the number of the path's node.
-#[derive(Clone, Copy, Debug, PartialEq, Eq)]
+#[derive(Clone, Copy)]
 pub struct NetOnPath {
     pub node: u32,
     pub net: usize,

@@ -14,7 +14,7 @@ use bs_verilog_scope::constant_key;
 use std::alloc::Global;
 
 /// A net that is always 0, or always 1.
-#[derive(Clone, Copy, Debug, PartialEq, Eq)]
+#[derive(Clone, Copy)]
 pub struct Bit {
     pub net: usize,
     pub value: bool,

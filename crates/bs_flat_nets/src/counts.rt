@@ -13,12 +13,15 @@ use bs_flat_meaning::MAX_DEPTH;
 use std::alloc::Global;
 
 /// The depth at which a design is too deep.
+/// One more than `MAX_DEPTH`.
 const TOO_DEEP: u32 = 257;
 
 /// The greatest count that a design may have, the path of its top counted.
+/// `MAX_PARTS`, and one for the top.
 const MOST: u32 = 400_001;
 
 /// The count at which a design has too many parts, the path of its top counted.
+/// One more than `MOST`.
 const TOO_MANY: u32 = 400_002;
 
 /// A table of zeros.

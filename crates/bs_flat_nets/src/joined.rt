@@ -10,7 +10,7 @@ use crate::blocks::{FlatModule, JoinedNets};
 use crate::constants::Bit;
 
 /// Which nets of an instance are counted, of those that are joined with no net of the parent.
-#[derive(Clone, Copy, Debug, PartialEq, Eq)]
+#[derive(Clone, Copy)]
 pub enum Counted {
     /// Those that are no constant.
     Plain,

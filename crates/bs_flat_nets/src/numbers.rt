@@ -15,7 +15,7 @@ use crate::climbing::NetOnPath;
 use crate::constants::{Bit, all_bits};
 use crate::free::{free_nets, free_of_all, free_of_node};
 use crate::rows::rows_of_all;
-use crate::tally::{Tally, push_nets};
+use crate::tally::{NetTally, push_nets};
 use bs_bits::{List, NoMemory};
 use bs_flat_meaning::Node;
 use std::alloc::Global;
@@ -58,10 +58,10 @@ fn no_runs(alloc: Global) -> List<JoinedNets>
 }
 
 /// No nets.
-fn no_nets(alloc: Global) -> Tally
+fn no_nets(alloc: Global) -> NetTally
     ensures { result ≡ no_tally }
 {
-    Tally {
+    NetTally {
         places: List::new(alloc),
         zero: None,
         one: None,
@@ -84,7 +84,7 @@ fn top_tally(
     blocks: &[FlatModule],
     bits: &[List<Bit>],
     top: u32,
-) -> Result<Tally, NoMemory>
+) -> Result<NetTally, NoMemory>
     requires top { top < length blocks.now }
     requires bits { bits.now ≡ all_bits_of blocks.now }
     ensures { IfOk result (λ t. t ≡ with_nets no_tally 0 (spec.known_in blocks.now top) (spec.free_nets [] (spec.count_in blocks.now top))) }
@@ -97,7 +97,7 @@ fn top_tally(
 
 /// Adds the flat nets of a node, which is not the top's.
 fn push_node(
-    tally: &mut Tally,
+    tally: &mut NetTally,
     free: &[List<List<usize>>],
     bits: &[List<Bit>],
     blocks: &[FlatModule],
@@ -118,7 +118,7 @@ fn push_node(
 
 /// Adds the flat nets of the nodes below the top's, and notes where those of each node begin.
 fn push_nodes(
-    tally: &mut Tally,
+    tally: &mut NetTally,
     starts: &mut List<usize>,
     free: &[List<List<usize>>],
     bits: &[List<Bit>],
@@ -149,7 +149,7 @@ fn push_nodes(
 /// The same, where the nets that joins leave to each instance are not known yet.
 fn push_below(
     alloc: Global,
-    tally: &mut Tally,
+    tally: &mut NetTally,
     starts: &mut List<usize>,
     bits: &[List<Bit>],
     blocks: &[FlatModule],
@@ -175,7 +175,7 @@ fn push_below(
 /// The flat nets of all nodes, and where those of each node begin.
 #[derive(Drop)]
 struct NetsByNode {
-    tally: Tally,
+    tally: NetTally,
     starts: List<usize>,
 }
 

@@ -18,6 +18,7 @@ use bs_net::MAX_NETS;
 use std::alloc::Global;
 
 /// The count at which there are too many nets.
+/// One more than `MAX_NETS`.
 const TOO_MANY: usize = 100_001;
 
 /// A table of zeros.

@@ -9,7 +9,7 @@ use std::alloc::Global;
 
 /// The flat nets so far, and where the first net of the constants 0 and 1 stands, if it was met.
 #[derive(Drop)]
-pub struct Tally {
+pub struct NetTally {
     pub places: List<NetOnPath>,
     pub zero: Option<usize>,
     pub one: Option<usize>,
@@ -23,14 +23,14 @@ pub fn bit_in(bits: &[Bit], net: usize) -> Option<bool>
 }
 
 /// Where the first net of a constant stands, if it was met.
-fn first_of(tally: &Tally, value: bool) -> Option<usize>
+fn first_of(tally: &NetTally, value: bool) -> Option<usize>
     ensures { result ≡ spec.first_of tally.now value }
 {
     if value { tally.one } else { tally.zero }
 }
 
 /// Adds a net that is no constant.
-fn push_plain(tally: &mut Tally, place: NetOnPath) -> Result<(), NoMemory>
+fn push_plain(tally: &mut NetTally, place: NetOnPath) -> Result<(), NoMemory>
     ensures { OnOk result (tally.new ≡ spec.with_plain tally.old place) }
 {
     tally.places.push(place)?;
@@ -38,7 +38,7 @@ fn push_plain(tally: &mut Tally, place: NetOnPath) -> Result<(), NoMemory>
 }
 
 /// Adds the first net of a constant.
-fn push_first(tally: &mut Tally, place: NetOnPath, value: bool) -> Result<(), NoMemory>
+fn push_first(tally: &mut NetTally, place: NetOnPath, value: bool) -> Result<(), NoMemory>
     ensures { OnOk result (tally.new ≡ spec.with_first tally.old place value) }
 {
     let at = Some(tally.places.len());
@@ -52,7 +52,7 @@ fn push_first(tally: &mut Tally, place: NetOnPath, value: bool) -> Result<(), No
 }
 
 /// Adds a net that is a constant, where that was not met.
-fn push_constant(tally: &mut Tally, place: NetOnPath, value: bool) -> Result<(), NoMemory>
+fn push_constant(tally: &mut NetTally, place: NetOnPath, value: bool) -> Result<(), NoMemory>
     ensures { OnOk result (tally.new ≡ spec.with_constant tally.old place value) }
 {
     if first_of(tally, value).is_some() {
@@ -63,7 +63,7 @@ fn push_constant(tally: &mut Tally, place: NetOnPath, value: bool) -> Result<(),
 }
 
 /// Adds a net with its bit, where that is known.
-fn push_net(tally: &mut Tally, place: NetOnPath, bit: Option<bool>) -> Result<(), NoMemory>
+fn push_net(tally: &mut NetTally, place: NetOnPath, bit: Option<bool>) -> Result<(), NoMemory>
     ensures { OnOk result (tally.new ≡ spec.with_net tally.old place bit) }
 {
     match bit {
@@ -79,7 +79,12 @@ fn push_net(tally: &mut Tally, place: NetOnPath, bit: Option<bool>) -> Result<()
 }
 
 /// Adds nets of a node, by the constants of its block.
-pub fn push_nets(tally: &mut Tally, node: u32, bits: &[Bit], nets: &[usize]) -> Result<(), NoMemory>
+pub fn push_nets(
+    tally: &mut NetTally,
+    node: u32,
+    bits: &[Bit],
+    nets: &[usize],
+) -> Result<(), NoMemory>
     ensures { OnOk result (tally.new ≡ spec.with_nets tally.old node bits.now nets.now) }
 {
     'nets: for &net in nets {

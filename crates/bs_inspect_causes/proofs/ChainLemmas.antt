@@ -11,7 +11,7 @@ use Rattle.bs_bits.proofs.RangeLemmas.{range_push}
 use Rattle.bs_net_facts.specs.declared.fact.Fact.{Fact}
 use Rattle.bs_net_facts.specs.Facts.{is_again}
 use Rattle.bs_inspect_causes.specs.declared.account.Account.{Account}
-use Rattle.bs_inspect_causes.specs.declared.chain.Chain.{Chain}
+use Rattle.bs_inspect_causes.specs.declared.chain.AccountChain.{AccountChain}
 use Rattle.bs_inspect_causes.specs.Chains.{IsWithin, account_at, alone, chain_at, chained, chained_at, chains_of, come_again, comes_again, extended, goes_on, is_before, is_other, is_step, may_be_before, may_go, no_account, other_causes, same_nets}
 
 -- ---- facts of one kind
@@ -102,7 +102,7 @@ again_is later a count others all result each n m is =
 account_is : (accounts : List Account) (i : ℕ) (a : Account) → i < length accounts → a ≡ get_or accounts i a → a ≡ account_at accounts i
 account_is accounts i a lt e = e ∙ get_or_default accounts i a no_account lt
 
-pub on_here : (accounts : List Account) (number : ℕ) (chains : List Chain) (place : ℕ) (c : Chain) (later a : Account) (on : Bool) →
+pub on_here : (accounts : List Account) (number : ℕ) (chains : List AccountChain) (place : ℕ) (c : AccountChain) (later a : Account) (on : Bool) →
     place < length chains → c ≡ get_or chains place c → c.last < length accounts → number < length accounts →
     later ≡ get_or accounts c.last later → a ≡ get_or accounts number a → on ≡ is_before later a →
     on ≡ goes_on accounts number (chain_at chains place)
@@ -114,26 +114,26 @@ on_here accounts number chains place c later a on there at_place last_lt lt at_l
 
 -- ---- the first chain
 
-pub chain_within : (number : ℕ) (chains : List Chain) (k : ℕ) (c : Chain) → All (IsWithin number) chains → k < length chains → c ≡ get_or chains k c →
+pub chain_within : (number : ℕ) (chains : List AccountChain) (k : ℕ) (c : AccountChain) → All (IsWithin number) chains → k < length chains → c ≡ get_or chains k c →
     IsWithin number c
 chain_within number chains k c within lt e = subst (IsWithin number) (sym e) (within k c lt)
 
-pub last_here : (number count : ℕ) (chains : List Chain) (k : ℕ) (c : Chain) → All (IsWithin number) chains → k < length chains →
+pub last_here : (number count : ℕ) (chains : List AccountChain) (k : ℕ) (c : AccountChain) → All (IsWithin number) chains → k < length chains →
     c ≡ get_or chains k c → number < count → c.last < count
 last_here number count chains k c within there e lt = omega (arith, (chain_within number chains k c within there e).last, lt)
 
-pub steps_fit : (number : ℕ) (chains : List Chain) (k : ℕ) (c : Chain) → All (IsWithin number) chains → k < length chains → c ≡ get_or chains k c →
+pub steps_fit : (number : ℕ) (chains : List AccountChain) (k : ℕ) (c : AccountChain) → All (IsWithin number) chains → k < length chains → c ≡ get_or chains k c →
     number + 1 < 2 ^ 64 → c.steps + 1 < 2 ^ 64
 steps_fit number chains k c within there e lt = omega (arith, (chain_within number chains k c within there e).steps, lt)
 
 -- none of the first chains is gone on
-pub record NoneOn (accounts : List Account) (number : ℕ) (chains : List Chain) (count : ℕ) : Type 0 where
-  pub each : (k : ℕ) (d : Chain) → k < count → goes_on accounts number (get_or chains k d) ≡ false
+pub record NoneOn (accounts : List Account) (number : ℕ) (chains : List AccountChain) (count : ℕ) : Type 0 where
+  pub each : (k : ℕ) (d : AccountChain) → k < count → goes_on accounts number (get_or chains k d) ≡ false
 
-pub none_begin : (accounts : List Account) (number : ℕ) (chains : List Chain) → NoneOn accounts number chains 0
+pub none_begin : (accounts : List Account) (number : ℕ) (chains : List AccountChain) → NoneOn accounts number chains 0
 none_begin accounts number chains = record { each = λ k d lt. absurd (omega (arith, lt)) }
 
-none_more : (accounts : List Account) (number : ℕ) (chains : List Chain) (k : ℕ) (c : Chain) (on : Bool) → k < length chains → c ≡ get_or chains k c →
+none_more : (accounts : List Account) (number : ℕ) (chains : List AccountChain) (k : ℕ) (c : AccountChain) (on : Bool) → k < length chains → c ≡ get_or chains k c →
     on ≡ goes_on accounts number c → on ≡ false → NoneOn accounts number chains k → NoneOn accounts number chains (k + 1)
 none_more accounts number chains k c on lt at is off none = record {
   each = λ j d less.
@@ -145,7 +145,7 @@ none_more accounts number chains k c on lt at is off none = record {
       (cases_eq j k);
 }
 
-first_is : (accounts : List Account) (number : ℕ) (chains : List Chain) (k : ℕ) (c : Chain) (on : Bool) → k < length chains → c ≡ get_or chains k c →
+first_is : (accounts : List Account) (number : ℕ) (chains : List AccountChain) (k : ℕ) (c : AccountChain) (on : Bool) → k < length chains → c ≡ get_or chains k c →
     on ≡ goes_on accounts number c → on ≡ true → NoneOn accounts number chains k → Some k ≡ position (goes_on accounts number) chains
 first_is accounts number chains k c on lt at is goes none =
     let here : goes_on accounts number (get_or chains k c) ≡ true = ap (goes_on accounts number) (sym at) ∙ (sym is ∙ goes) in
@@ -155,18 +155,18 @@ first_is accounts number chains k c on lt at is goes none =
     sym (rw (at_k, below) refl)
 
 -- the chain at a place, as what is read there
-chain_read : (chains : List Chain) (k : ℕ) → k < length chains → chain_at chains k ≡ get_or chains k (chain_at chains k)
+chain_read : (chains : List AccountChain) (k : ℕ) → k < length chains → chain_at chains k ≡ get_or chains k (chain_at chains k)
 chain_read chains k lt = get_or_default chains k (alone 0) (chain_at chains k) lt
 
-pub more_at : (accounts : List Account) (number : ℕ) (chains : List Chain) (k : ℕ) (on : Bool) → k < length chains →
+pub more_at : (accounts : List Account) (number : ℕ) (chains : List AccountChain) (k : ℕ) (on : Bool) → k < length chains →
     on ≡ goes_on accounts number (chain_at chains k) → on ≡ false → NoneOn accounts number chains k → NoneOn accounts number chains (k + 1)
 more_at accounts number chains k on lt is off none = none_more accounts number chains k (chain_at chains k) on lt (chain_read chains k lt) is off none
 
-pub first_at : (accounts : List Account) (number : ℕ) (chains : List Chain) (k : ℕ) (on : Bool) → k < length chains →
+pub first_at : (accounts : List Account) (number : ℕ) (chains : List AccountChain) (k : ℕ) (on : Bool) → k < length chains →
     on ≡ goes_on accounts number (chain_at chains k) → on ≡ true → NoneOn accounts number chains k → Some k ≡ position (goes_on accounts number) chains
 first_at accounts number chains k on lt is goes none = first_is accounts number chains k (chain_at chains k) on lt (chain_read chains k lt) is goes none
 
-pub none_all : (accounts : List Account) (number : ℕ) (chains : List Chain) (k : ℕ) → length chains ≤ k → NoneOn accounts number chains k →
+pub none_all : (accounts : List Account) (number : ℕ) (chains : List AccountChain) (k : ℕ) → length chains ≤ k → NoneOn accounts number chains k →
     None ≡ position (goes_on accounts number) chains
 none_all accounts number chains k le none =
     let past : position_or_len (goes_on accounts number) chains ≡ length chains =
@@ -177,25 +177,25 @@ none_all accounts number chains k le none =
 
 -- ---- chains of the first accounts
 
-pub found_there : (accounts : List Account) (number : ℕ) (chains slice : List Chain) (found : Option ℕ) (k : ℕ) → slice ≡ chains →
+pub found_there : (accounts : List Account) (number : ℕ) (chains slice : List AccountChain) (found : Option ℕ) (k : ℕ) → slice ≡ chains →
     found ≡ position (goes_on accounts number) slice → found ≡ Some k → k < length chains
 found_there accounts number chains slice found k same e is =
     let at = position-Some (goes_on accounts number) slice k (alone 0) (sym e ∙ is) in
     let long : length slice ≡ length chains = ap length same in
     omega (arith, at.0, long)
 
-more_within : (number : ℕ) (c : Chain) → IsWithin number c → IsWithin (number + 1) c
+more_within : (number : ℕ) (c : AccountChain) → IsWithin number c → IsWithin (number + 1) c
 more_within number c within = record { first = omega (arith, within.first); last = omega (arith, within.last); steps = omega (arith, within.steps) }
 
-pub set_is : (chains after : List Chain) (k number : ℕ) (c : Chain) → k < length chains → c ≡ get_or chains k c →
+pub set_is : (chains after : List AccountChain) (k number : ℕ) (c : AccountChain) → k < length chains → c ≡ get_or chains k c →
     after ≡ set chains k (extended c number) → after ≡ chained_at (Some k) chains number
 set_is chains after k number c lt at goes =
-    goes ∙ ap (set chains k) (ap (λ (x : Chain). extended x number) (at ∙ get_or_default chains k c (alone number) lt))
+    goes ∙ ap (set chains k) (ap (λ (x : AccountChain). extended x number) (at ∙ get_or_default chains k c (alone number) lt))
 
-pub set_within : (chains after : List Chain) (k number : ℕ) (c : Chain) → k < length chains → c ≡ get_or chains k c →
+pub set_within : (chains after : List AccountChain) (k number : ℕ) (c : AccountChain) → k < length chains → c ≡ get_or chains k c →
     after ≡ set chains k (extended c number) → All (IsWithin number) chains → All (IsWithin (number + 1)) after
 set_within chains after k number c lt at goes within =
-    let new : Chain = extended c number in
+    let new : AccountChain = extended c number in
     subst (All (IsWithin (number + 1))) (sym goes)
     (λ j d less.
     let there : j < length chains = omega (arith, less, length-set chains k new) in
@@ -209,27 +209,27 @@ set_within chains after k number c lt at goes within =
     subst (IsWithin (number + 1)) (sym (get_or-set_other chains k j new d other)) (more_within number (get_or chains j d) (within j d there)))
     (cases_eq j k))
 
-pub push_within : (chains after : List Chain) (number : ℕ) → after ≡ chains ++ alone number ∷ [] → All (IsWithin number) chains →
+pub push_within : (chains after : List AccountChain) (number : ℕ) → after ≡ chains ++ alone number ∷ [] → All (IsWithin number) chains →
     All (IsWithin (number + 1)) after
 push_within chains after number goes within =
     subst (All (IsWithin (number + 1))) (sym goes)
     (All-append (IsWithin (number + 1)) chains (alone number ∷ []) (λ j d less. more_within number (get_or chains j d) (within j d less)) one)
   where
-    one : (j : ℕ) (d : Chain) → j < 1 → IsWithin (number + 1) (get_or (alone number ∷ []) j d)
+    one : (j : ℕ) (d : AccountChain) → j < 1 → IsWithin (number + 1) (get_or (alone number ∷ []) j d)
     one zero d less = record { first = omega arith; last = omega arith; steps = omega arith }
     one (suc j) d less = absurd (omega (arith, less))
 
-pub chained_by : (accounts : List Account) (chains slice after : List Chain) (number : ℕ) (found : Option ℕ) → slice ≡ chains →
+pub chained_by : (accounts : List Account) (chains slice after : List AccountChain) (number : ℕ) (found : Option ℕ) → slice ≡ chains →
     found ≡ position (goes_on accounts number) slice → after ≡ chained_at found chains number → after ≡ chained accounts chains number
 chained_by accounts chains slice after number found same e goes =
     goes ∙ ap (λ (o : Option ℕ). chained_at o chains number) (e ∙ ap (position (goes_on accounts number)) same)
 
-pub chains_more : (accounts : List Account) (chains after : List Chain) (i : ℕ) → chains ≡ chains_of accounts i → after ≡ chained accounts chains i →
+pub chains_more : (accounts : List Account) (chains after : List AccountChain) (i : ℕ) → chains ≡ chains_of accounts i → after ≡ chained accounts chains i →
     after ≡ chains_of accounts (i + 1)
 chains_more accounts chains after i e goes =
     goes
-    ∙ (ap (λ (cs : List Chain). chained accounts cs i) e
+    ∙ (ap (λ (cs : List AccountChain). chained accounts cs i) e
     ∙ sym (ap (fold (chained accounts) []) (range_push i) ∙ fold-append (chained accounts) [] (range_with_len 0 i) (i ∷ [])))
 
-pub none_within : (chains : List Chain) (number : ℕ) → chains ≡ [] → All (IsWithin number) chains
+pub none_within : (chains : List AccountChain) (number : ℕ) → chains ≡ [] → All (IsWithin number) chains
 none_within chains number e = subst (All (IsWithin number)) (sym e) (All-nil (IsWithin number))

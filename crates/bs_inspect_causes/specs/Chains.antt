@@ -8,8 +8,8 @@ use Rattle.bs_net_facts.specs.declared.block.Block.{Block}
 use Rattle.bs_net_facts.specs.declared.fact.Fact.{Fact}
 use Rattle.bs_net_facts.specs.Facts.{is_again}
 use Rattle.bs_inspect_causes.specs.declared.account.Account.{Account}
-use Rattle.bs_inspect_causes.specs.declared.chain.Chain.{Chain}
-use Rattle.bs_inspect_causes.specs.declared.chain.Place.{Place}
+use Rattle.bs_inspect_causes.specs.declared.chain.AccountChain.{AccountChain}
+use Rattle.bs_inspect_causes.specs.declared.chain.ChainPlace.{ChainPlace}
 
 abbrev pub no_block : Block
 no_block = record { bits = []; since = 0; at = 0; given = []; begun = false }
@@ -59,29 +59,29 @@ is_before later a =
 -- ---- chains
 
 -- whether an account goes on a chain
-abbrev pub goes_on : List Account → ℕ → Chain → Bool
+abbrev pub goes_on : List Account → ℕ → AccountChain → Bool
 goes_on accounts i c = is_before (account_at accounts c.last) (account_at accounts i)
 
-abbrev pub alone : ℕ → Chain
+abbrev pub alone : ℕ → AccountChain
 alone i = record { first = i; last = i; steps = 1 }
 
-abbrev pub extended : Chain → ℕ → Chain
+abbrev pub extended : AccountChain → ℕ → AccountChain
 extended c i = record { first = c.first; last = i; steps = c.steps + 1 }
 
-abbrev pub chained_at : Option ℕ → List Chain → ℕ → List Chain
+abbrev pub chained_at : Option ℕ → List AccountChain → ℕ → List AccountChain
 chained_at None chains i = chains ++ alone i ∷ []
 chained_at (Some k) chains i = slice_set chains k (extended (slice_index_or chains k (alone i)) i)
 
 -- an account more: on the first chain that it goes on, or by itself
-abbrev pub chained : List Account → List Chain → ℕ → List Chain
+abbrev pub chained : List Account → List AccountChain → ℕ → List AccountChain
 chained accounts chains i = chained_at (position (goes_on accounts i) chains) chains i
 
 -- the chains of so many accounts
-abbrev pub chains_of : List Account → ℕ → List Chain
+abbrev pub chains_of : List Account → ℕ → List AccountChain
 chains_of accounts count = fold (chained accounts) [] (range_with_len 0 count)
 
 -- a chain is of the first accounts
-pub record IsWithin (count : ℕ) (c : Chain) : Type 0 where
+pub record IsWithin (count : ℕ) (c : AccountChain) : Type 0 where
   pub first : c.first < count
   pub last : c.last < count
   pub steps : c.steps ≤ count
@@ -105,11 +105,11 @@ may_be_before later a =
 
 -- ---- their order
 
-abbrev pub chain_at : List Chain → ℕ → Chain
+abbrev pub chain_at : List AccountChain → ℕ → AccountChain
 chain_at chains i = slice_index_or chains i (alone 0)
 
 -- when a chain ends, its layer, and its place
-abbrev pub place_of : List Account → List Chain → ℕ → Place
+abbrev pub place_of : List Account → List AccountChain → ℕ → ChainPlace
 place_of accounts chains i =
     record {
       at = (account_at accounts (chain_at chains i).first).block.at;
@@ -117,14 +117,14 @@ place_of accounts chains i =
       place = i;
     }
 
-abbrev pub places_of : List Account → List Chain → ℕ → List Place
+abbrev pub places_of : List Account → List AccountChain → ℕ → List ChainPlace
 places_of accounts chains count = map (place_of accounts chains) (range_with_len 0 count)
 
 -- the last moment first, then by layers
-abbrev pub place_cmp : Place → Place → Ordering
+abbrev pub place_cmp : ChainPlace → ChainPlace → Ordering
 place_cmp a b = ordering_then (ordering_then (nat_cmp b.at a.at) (nat_cmp a.layer b.layer)) (nat_cmp a.place b.place)
 
 -- the places of all chains, in this order
-pub record ArePlaces (accounts : List Account) (chains : List Chain) (ordered : List Place) : Type 0 where
+pub record ArePlaces (accounts : List Account) (chains : List AccountChain) (ordered : List ChainPlace) : Type 0 where
   pub same : IsPermutation (places_of accounts chains (length chains)) ordered
   pub in_order : IsSorted place_cmp ordered

@@ -12,7 +12,7 @@ use crate::further::further_facts;
 use crate::layer::tell_facts;
 use crate::ledger::Ledger;
 use bs_bits::{List, NoMemory};
-use bs_inspect_holds::Scene;
+use bs_inspect_holds::TraceScene;
 use bs_net_facts::Fact;
 use std::alloc::Global;
 
@@ -110,7 +110,7 @@ fn accounts_by(basis: &Basis<'_>, asked: &[Fact], depth: u32) -> Result<List<Acc
 #[tactic(auto, using(crate::proofs::ExplainLemmas::ready))]
 pub fn accounts_of(
     alloc: Global,
-    scene: &Scene<'_>,
+    scene: &TraceScene<'_>,
     asked: &[Fact],
     depth: u32,
     all: bool,

@@ -10,7 +10,7 @@ use std::alloc::Global;
 
 /// Accounts from the one that ends last to that of the first step, by their places, and how many they are.
 #[derive(Clone, Copy)]
-pub struct Chain {
+pub struct AccountChain {
     pub first: usize,
     pub last: usize,
     pub steps: usize,
@@ -18,7 +18,7 @@ pub struct Chain {
 
 /// When a chain ends, its layer, and its place.
 #[derive(Clone, Copy)]
-pub struct Place {
+pub struct ChainPlace {
     pub at: u32,
     pub layer: u32,
     pub place: usize,
@@ -155,7 +155,7 @@ fn is_before(later: &Account, account: &Account) -> bool
 
 /// Whether an account goes on the chain at a place.
 #[tactic(auto, using(crate::proofs::ChainLemmas::last_here, crate::proofs::ChainLemmas::on_here))]
-fn goes_on_at(accounts: &[Account], chains: &[Chain], number: usize, place: usize) -> bool
+fn goes_on_at(accounts: &[Account], chains: &[AccountChain], number: usize, place: usize) -> bool
     requires number { number < length accounts.now }
     requires within { All (IsWithin number) chains.now }
     requires place { place < length chains.now }
@@ -167,7 +167,7 @@ fn goes_on_at(accounts: &[Account], chains: &[Chain], number: usize, place: usiz
 
 /// The first chain that an account goes on.
 #[tactic(auto, using(crate::proofs::ChainLemmas::none_begin))]
-fn chain_of(accounts: &[Account], chains: &[Chain], number: usize) -> Option<usize>
+fn chain_of(accounts: &[Account], chains: &[AccountChain], number: usize) -> Option<usize>
     requires number { number < length accounts.now }
     requires within { All (IsWithin number) chains.now }
     ensures { result ≡ position (goes_on accounts.now number) chains.now }
@@ -182,7 +182,7 @@ fn chain_of(accounts: &[Account], chains: &[Chain], number: usize) -> Option<usi
 
 /// Puts an account on the chain at a place.
 #[tactic(auto, using(crate::proofs::ChainLemmas::steps_fit, crate::proofs::ChainLemmas::set_is, crate::proofs::ChainLemmas::set_within))]
-fn extend(chains: &mut Vec<Chain>, place: usize, number: usize)
+fn extend(chains: &mut Vec<AccountChain>, place: usize, number: usize)
     requires place { place < length chains.old.items }
     requires number { number + 1 < 2 ^ 64 }
     requires within { All (IsWithin number) chains.old.items }
@@ -190,7 +190,7 @@ fn extend(chains: &mut Vec<Chain>, place: usize, number: usize)
     ensures within { All (IsWithin (number + 1)) chains.new.items }
 {
     let chain = chains[place];
-    chains[place] = Chain {
+    chains[place] = AccountChain {
         first: chain.first,
         last: number,
         steps: chain.steps + 1,
@@ -199,12 +199,12 @@ fn extend(chains: &mut Vec<Chain>, place: usize, number: usize)
 
 /// Puts an account at the end as a chain of its own.
 #[tactic(auto, using(crate::proofs::ChainLemmas::push_within))]
-fn push_alone(chains: &mut Vec<Chain>, number: usize) -> Result<(), NoMemory>
+fn push_alone(chains: &mut Vec<AccountChain>, number: usize) -> Result<(), NoMemory>
     requires within { All (IsWithin number) chains.old.items }
     ensures chains { OnOk result (chains.new.items ≡ chained_at None chains.old.items number) }
     ensures within { OnOk result (All (IsWithin (number + 1)) chains.new.items) }
 {
-    chains.push(Chain {
+    chains.push(AccountChain {
         first: number,
         last: number,
         steps: 1,
@@ -214,7 +214,11 @@ fn push_alone(chains: &mut Vec<Chain>, number: usize) -> Result<(), NoMemory>
 
 /// Puts an account on the first chain that it goes on, or at the end as one of its own.
 #[tactic(auto, using(crate::proofs::ChainLemmas::found_there, crate::proofs::ChainLemmas::chained_by))]
-fn add_account(accounts: &[Account], chains: &mut Vec<Chain>, number: usize) -> Result<(), NoMemory>
+fn add_account(
+    accounts: &[Account],
+    chains: &mut Vec<AccountChain>,
+    number: usize,
+) -> Result<(), NoMemory>
     requires number { number < length accounts.now }
     requires small { number + 1 < 2 ^ 64 }
     requires within { All (IsWithin number) chains.old.items }
@@ -232,7 +236,7 @@ fn add_account(accounts: &[Account], chains: &mut Vec<Chain>, number: usize) -> 
 
 /// The chains of accounts.
 #[tactic(auto, using(crate::proofs::ChainLemmas::none_within))]
-pub fn chains_of(alloc: Global, accounts: &[Account]) -> Result<Vec<Chain>, NoMemory>
+pub fn chains_of(alloc: Global, accounts: &[Account]) -> Result<Vec<AccountChain>, NoMemory>
     ensures chains { IfOk result (λ chains. chains.items ≡ chains_of accounts.now (length accounts.now)) }
     ensures within { IfOk result (λ chains. All (IsWithin (length accounts.now)) chains.items) }
 {

@@ -11,18 +11,20 @@ use crate::drivers::is_marked;
 use crate::facts::is_real;
 use crate::ledger::Ledger;
 use bs_bits::NoMemory;
-use bs_inspect_holds::{Driver, Scene};
+use bs_inspect_holds::{Driver, TraceScene};
 use bs_net_facts::Fact;
 
 /// Behind an account with more causes, old single bits are asked only where all are.
+/// As many have a line each (docs/FORMATS.md, "Causes").
 const MANY_CAUSES: usize = 8;
 
 /// So many cycles before a cause has an old one the same bit.
+/// A bit that stands for longer is likely a setting, and not what happened.
 const OLD_CYCLES: u32 = 4;
 
 /// Whether a cause of an account is left out where not all are asked: one of many, of a single net that has the bit in the cycles before
 /// it too.
-fn is_left_out(scene: &Scene<'_>, account: &Account, fact: Fact) -> bool {
+fn is_left_out(scene: &TraceScene<'_>, account: &Account, fact: Fact) -> bool {
     let many = account.causes.len() > MANY_CAUSES;
     if !many || !scene.is_single(fact.net) || fact.cycle < OLD_CYCLES {
         return false;

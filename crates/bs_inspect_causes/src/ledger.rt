@@ -8,7 +8,7 @@ use std::alloc::Global;
 
 /// What is told and counted of a net.
 #[derive(Clone, Copy)]
-struct Entry {
+struct LedgerEntry {
     /// The first cycle of the block that told it last, and the cycle behind its last one.
     since: u64,
     until: u64,
@@ -17,7 +17,7 @@ struct Entry {
 }
 
 /// Nothing.
-const NOTHING: Entry = Entry {
+const NOTHING: LedgerEntry = LedgerEntry {
     since: 0,
     until: 0,
     holds: 0,
@@ -26,7 +26,7 @@ const NOTHING: Entry = Entry {
 /// What is told so far, and counts, by nets.
 #[derive(Drop)]
 pub(crate) struct Ledger {
-    entries: Vec<Entry>,
+    entries: Vec<LedgerEntry>,
 }
 
 impl Ledger {
@@ -37,7 +37,7 @@ impl Ledger {
     }
 
     /// What is told and counted of a net.
-    fn entry(&self, net: NetId) -> Entry {
+    fn entry(&self, net: NetId) -> LedgerEntry {
         at(self.entries.as_slice(), net.0 as usize, NOTHING)
     }
 
@@ -47,7 +47,7 @@ impl Ledger {
         put(
             &mut self.entries,
             net.0 as usize,
-            Entry {
+            LedgerEntry {
                 since: entry.since,
                 until: entry.until,
                 holds,
@@ -57,7 +57,7 @@ impl Ledger {
 
     /// Notes the cycles of a block.
     pub(crate) fn note(&mut self, block: &Block) {
-        let entry = Entry {
+        let entry = LedgerEntry {
             since: u64::from(block.since),
             until: u64::from(block.at) + 1,
             holds: 0,

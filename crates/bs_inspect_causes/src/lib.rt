@@ -31,7 +31,7 @@ mod units;
 
 pub use account::Account;
 pub use accounts::accounts_of;
-pub use chain::{Chain, Place, chains_of};
+pub use chain::{AccountChain, ChainPlace, chains_of};
 pub use facts::input_facts;
 pub use order::ordered_chains;
 pub use since::{ages, known_bit};

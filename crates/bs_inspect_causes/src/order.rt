@@ -4,21 +4,21 @@ ghost use Rattle.std.specs.List.Sorted.{IsPermutation, IsSorted};
 ghost use Rattle.bs_inspect_causes.specs.Chains.{ArePlaces, IsWithin, place_cmp, place_of, places_of};
 
 use crate::account::Account;
-use crate::chain::{Chain, Place};
+use crate::chain::{AccountChain, ChainPlace};
 use bs_bits::NoMemory;
 use std::alloc::Global;
 use std::cmp::Reverse;
 
 /// When a chain ends, its layer, and its place.
 #[tactic(auto, using(crate::proofs::OrderLemmas::first_there, crate::proofs::OrderLemmas::place_is))]
-fn place_of(accounts: &[Account], chains: &[Chain], place: usize) -> Place
+fn place_of(accounts: &[Account], chains: &[AccountChain], place: usize) -> ChainPlace
     requires place { place < length chains.now }
     requires within { All (IsWithin (length accounts.now)) chains.now }
     ensures { result ≡ place_of accounts.now chains.now place }
 {
     let chain = chains[place];
     let account = &accounts[chain.first];
-    Place {
+    ChainPlace {
         at: account.block.at,
         layer: account.layer,
         place,
@@ -26,7 +26,11 @@ fn place_of(accounts: &[Account], chains: &[Chain], place: usize) -> Place
 }
 
 /// When chains end, their layers, and their places.
-fn places_of(alloc: Global, accounts: &[Account], chains: &[Chain]) -> Result<Vec<Place>, NoMemory>
+fn places_of(
+    alloc: Global,
+    accounts: &[Account],
+    chains: &[AccountChain],
+) -> Result<Vec<ChainPlace>, NoMemory>
     requires { All (IsWithin (length accounts.now)) chains.now }
     ensures { IfOk result (λ places. places.items ≡ places_of accounts.now chains.now (length chains.now)) }
 {
@@ -38,7 +42,7 @@ fn places_of(alloc: Global, accounts: &[Account], chains: &[Chain]) -> Result<Ve
 }
 
 /// Places in order.
-fn ordered(places: Vec<Place>) -> Result<Vec<Place>, NoMemory>
+fn ordered(places: Vec<ChainPlace>) -> Result<Vec<ChainPlace>, NoMemory>
     ensures same { IfOk result (λ ordered. IsPermutation places.items ordered.items) }
     ensures sorted { IfOk result (λ ordered. IsSorted place_cmp ordered.items) }
 {
@@ -52,8 +56,8 @@ fn ordered(places: Vec<Place>) -> Result<Vec<Place>, NoMemory>
 pub fn ordered_chains(
     alloc: Global,
     accounts: &[Account],
-    chains: &[Chain],
-) -> Result<Vec<Place>, NoMemory>
+    chains: &[AccountChain],
+) -> Result<Vec<ChainPlace>, NoMemory>
     requires { All (IsWithin (length accounts.now)) chains.now }
     ensures { IfOk result (λ ordered. ArePlaces accounts.now chains.now ordered.items) }
 {

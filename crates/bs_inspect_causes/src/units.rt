@@ -7,19 +7,23 @@ ghost use Rattle.bs_inspect_causes.specs.Layers.{IsLike, IsUnitAt, KeepsFirst, R
 use crate::basis::Basis;
 use crate::drivers::is_marked;
 use bs_bits::{List, NoMemory};
-use bs_inspect_holds::Scene;
+use bs_inspect_holds::TraceScene;
 use bs_net_facts::Fact;
 use std::alloc::Global;
 
 /// What facts are ordered by: the latest cycle first, and in it by vectors.
-fn order_of(scene: &Scene<'_>, by_flop: &[bool], fact: &Fact) -> (u32, u32, u32, u32) {
+fn order_of(scene: &TraceScene<'_>, by_flop: &[bool], fact: &Fact) -> (u32, u32, u32, u32) {
     let group = scene.group(fact.net);
     let kind = if is_marked(by_flop, fact.net) { 0 } else { 1 };
     (u32::MAX - fact.cycle, group, kind, fact.net.0)
 }
 
 /// Facts in the order of their units.
-fn in_order(scene: &Scene<'_>, by_flop: &[bool], facts: Vec<Fact>) -> Result<Vec<Fact>, NoMemory>
+fn in_order(
+    scene: &TraceScene<'_>,
+    by_flop: &[bool],
+    facts: Vec<Fact>,
+) -> Result<Vec<Fact>, NoMemory>
     ensures { IfOk result (λ ordered. IsPermutation facts.items ordered.items) }
 {
     let mut facts = facts;

@@ -9,7 +9,7 @@ use Rattle.bs_vcd_header.specs.declared.fault.VcdFault.{VcdFault}
 use Rattle.bs_vcd_header.specs.declared.fault.VcdFault.TheVariants.{NoMemory as Want}
 use Rattle.bs_inspect_report.specs.Keys.{input_keys}
 use Rattle.bs_inspect_check.specs.declared.comparison.Comparison.{Comparison}
-use Rattle.bs_inspect_check.specs.declared.comparison.Origin.{Origin}
+use Rattle.bs_inspect_check.specs.declared.comparison.RunOrigin.{RunOrigin}
 use Rattle.bs_inspect_check.specs.declared.flops.FlopComparison.{FlopComparison}
 use Rattle.bs_inspect_check.specs.Comparison.{compared_in, origin_of, whole}
 use Rattle.bs_inspect_check.specs.Flops.{flops_compared}
@@ -20,7 +20,7 @@ goes_on raw s number file text scope clock r =
     r >>= λ flops. Ok (whole (origin_of (run_at s number) file) flops (inputs_compared s (number - 1) (stimulus_in text scope clock (input_keys raw))))
 
 pub both_compared : (raw : Parts) (s : Stimulus) (number place : ℕ) (file text : List ℕ) (scope : Option (List ℕ)) (clock : List ℕ) (names : List (List ℕ))
-    (own : Origin) (flops : FlopComparison) (m : Comparison) → own ≡ origin_of (run_at s number) file → place ≡ number - 1 →
+    (own : RunOrigin) (flops : FlopComparison) (m : Comparison) → own ≡ origin_of (run_at s number) file → place ≡ number - 1 →
     flops_compared (circuit_of raw) (run_at s number).inputs text scope clock names ≡ Ok flops →
     m ≡ whole own flops (inputs_compared s place (stimulus_in text scope clock (input_keys raw))) → compared_in raw s number file text scope clock names ≡ Ok m
 both_compared raw s number place file text scope clock names own flops m same at goes is =

@@ -10,12 +10,12 @@ use Rattle.bs_vcd.specs.History.{History, Moment, begin_of}
 use Rattle.bs_vcd.specs.Levels.{known_by}
 use Rattle.bs_vcd.specs.Sampled.{or_fault}
 use Rattle.bs_inspect_check.specs.declared.flops.FlopComparison.{FlopComparison}
-use Rattle.bs_inspect_check.specs.declared.tally.Tally.{Tally as CodeTally}
-use Rattle.bs_inspect_check.specs.declared.walk.Watch.{Watch as CodeWatch}
+use Rattle.bs_inspect_check.specs.declared.tally.RunTally.{RunTally as CodeTally}
+use Rattle.bs_inspect_check.specs.declared.walk.RunWatch.{RunWatch as CodeWatch}
 use Rattle.bs_inspect_check.specs.Flops.{compared_by, comparison}
 use Rattle.bs_vcd.specs.Found.{is_found}
 use Rattle.bs_inspect_check.specs.Samples.{changes_of, edge_levels, levels_by, samples}
-use Rattle.bs_inspect_check.specs.Tallies.{comparison_by, comparison_in, IsBegin, IsSmall, lasted, moved, Replayed, stepped, Tally, tally_of, walked, Watch, watch_in, whole}
+use Rattle.bs_inspect_check.specs.Tallies.{comparison_by, comparison_in, IsBegin, IsSmall, lasted, moved, Replayed, stepped, RunTally, tally_of, walked, RunWatch, watch_in, whole}
 use Rattle.bs_inspect_check.proofs.TallyLemmas.{tally_push}
 use Rattle.bs_inspect_check.proofs.WalkLemmas.{moments_counted}
 
@@ -26,7 +26,7 @@ nothing_small w begun = subst IsSmall (sym begun.tally) (record { agreed = omega
 pub nothing_ended : (w : CodeWatch) → IsBegin w → w.tally.ended ≡ 0
 nothing_ended w begun = ap (λ (t : CodeTally). t.ended) begun.tally
 
-abbrev started : Circuit → Run → Watch
+abbrev started : Circuit → Run → RunWatch
 started c run = record { first = None; known = known_by []; tally = tally_of c run [] }
 
 -- a run begins at reset
@@ -52,7 +52,7 @@ start_is c run w state begun e =
 
 -- ---- the whole
 
-abbrev answered : Circuit → Run → List (Option BitSource) → Result Watch VcdFault → Result FlopComparison VcdFault
+abbrev answered : Circuit → Run → List (Option BitSource) → Result RunWatch VcdFault → Result FlopComparison VcdFault
 answered c run flops r = r >>= λ w. Ok (comparison_by (length run) (map is_found flops) w)
 
 -- the last cycle
@@ -74,7 +74,7 @@ compared_is c run clock flops h = by h.fault
     by : (fault : Option VcdFault) →
         or_fault fault (comparison c run clock flops h)
         ≡ answered c run flops (or_fault fault (fold (moved clock flops c run) (started c run) h.moments) >>= λ v. Ok (lasted flops c run v))
-    by None = ap (λ (w : Watch). Ok (comparison_by (length run) (map is_found flops) w)) (sym (last_is c run clock flops h.moments))
+    by None = ap (λ (w : RunWatch). Ok (comparison_by (length run) (map is_found flops) w)) (sym (last_is c run clock flops h.moments))
     by (Some fault) = refl
 
 -- what a replay that begins at reset gives
@@ -84,7 +84,7 @@ whole_is : (c : Circuit) (run : Run) (clock : BitSource) (flops : List (Option B
 whole_is c run clock flops h w r e begun =
     compared_is c run clock flops h
     ∙ ap (answered c run flops)
-    (ap (λ (v : Watch). whole clock flops c run v h) (sym (start_is c run w (reset_state c) begun refl))
+    (ap (λ (v : RunWatch). whole clock flops c run v h) (sym (start_is c run w (reset_state c) begun refl))
     ∙ ap (λ (p : Replayed). whole clock flops p.circuit p.run (watch_in w p.state) h) (sym e))
 
 pub run_watched : (c : Circuit) (run : Run) (clock : BitSource) (flops : List (Option BitSource)) (h : History) (w v : CodeWatch) (r : Replayed) (state : List Bool) →
@@ -101,14 +101,14 @@ run_faulty c run clock flops h w r fault e begun (inl want) = inl want
 run_faulty c run clock flops h w r fault e begun (inr goes) = inr (whole_is c run clock flops h w r e begun ∙ ap (answered c run flops) goes)
 
 -- all cycles, the last of which the end of the text ends
-pub all_walked : (clock : BitSource) (flops : List (Option BitSource)) (c d : Circuit) (run other : Run) (w v : Watch) (h : History) (t : Tally) → d ≡ c →
+pub all_walked : (clock : BitSource) (flops : List (Option BitSource)) (c d : Circuit) (run other : Run) (w v : RunWatch) (h : History) (t : RunTally) → d ≡ c →
     other ≡ run → walked clock flops c run w h ≡ Ok v → t ≡ stepped d other v.tally (levels_by flops v.known) →
     whole clock flops c run w h ≡ Ok (record { first = v.first; known = v.known; tally = t })
 all_walked clock flops c d run other w v h t e f goes is =
-    ap (λ (r : Result Watch VcdFault). r >>= λ u. Ok (lasted flops c run u)) goes
+    ap (λ (r : Result RunWatch VcdFault). r >>= λ u. Ok (lasted flops c run u)) goes
     ∙ λ i. Ok (record { first = v.first; known = v.known; tally = sym (is ∙ λ j. stepped (e j) (f j) v.tally (levels_by flops v.known)) i })
 
-pub all_faulty : (clock : BitSource) (flops : List (Option BitSource)) (c : Circuit) (run : Run) (w : Watch) (h : History) (fault : VcdFault) →
+pub all_faulty : (clock : BitSource) (flops : List (Option BitSource)) (c : Circuit) (run : Run) (w : RunWatch) (h : History) (fault : VcdFault) →
     (fault ≡ NoMemory) ⊎ (walked clock flops c run w h ≡ Err fault) → (fault ≡ NoMemory) ⊎ (whole clock flops c run w h ≡ Err fault)
 all_faulty clock flops c run w h fault (inl want) = inl want
-all_faulty clock flops c run w h fault (inr goes) = inr (ap (λ (r : Result Watch VcdFault). r >>= λ u. Ok (lasted flops c run u)) goes)
+all_faulty clock flops c run w h fault (inr goes) = inr (ap (λ (r : Result RunWatch VcdFault). r >>= λ u. Ok (lasted flops c run u)) goes)

@@ -13,7 +13,7 @@ use Rattle.bs_bits.proofs.RangeLemmas.{range_push}
 use Rattle.bs_inspect_report.specs.Signal.{bit_at}
 use Rattle.bs_scan.specs.Moments.{Run}
 use Rattle.bs_stim.specs.Runs.{IsRecorded, IsStimulus, no_run, Recorded, run_at, Stimulus}
-use Rattle.bs_vcd.specs.declared.sampling.SampledLines.{SampledLines}
+use Rattle.bs_vcd.specs.declared.clock_edges.SampledLines.{SampledLines}
 use Rattle.bs_vcd.specs.Stimulus.{stimulus_in}
 use Rattle.bs_vcd_header.specs.declared.fault.VcdFault.{VcdFault}
 use Rattle.bs_vcd_header.specs.declared.fault.VcdFault.TheVariants.{NoMemory as Want}

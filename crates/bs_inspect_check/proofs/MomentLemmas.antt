@@ -7,7 +7,7 @@ use Rattle.bs_vcd_header.specs.declared.fault.VcdFault.TheVariants.{Ended, Line,
 use Rattle.bs_vcd_header.specs.Tokens.{VcdToken}
 use Rattle.bs_vcd.specs.History.{ValueChange, Moment, History, WordPlace, Plain, Value, Skip, Remark, WordEffect, Goes, Changes, Begins, Stops, before, history_from, moment, step, stepped, stopped}
 use Rattle.bs_vcd.specs.Watching.{may_end}
-use Rattle.bs_inspect_check.specs.Taking.{Turn, turn, turned}
+use Rattle.bs_inspect_check.specs.Taking.{NextTime, turn, turned}
 
 abbrev now_of : ℕ → List ValueChange → Moment
 now_of time changes = record { time = time; changes = changes }
@@ -17,7 +17,7 @@ by_next time ts place changes None = history_from place (now_of time changes) ts
 by_next time ts place changes (Some next) = before (now_of time changes) (history_from Plain (moment next) ts)
 
 -- the moments behind a word
-abbrev by_turn : ℕ → List VcdToken → Result Turn VcdFault → History
+abbrev by_turn : ℕ → List VcdToken → Result NextTime VcdFault → History
 by_turn time ts (Err fault) = stopped fault
 by_turn time ts (Ok u) = by_next time ts u.place u.changes u.next
 
@@ -45,14 +45,14 @@ word_is : (h : History) (place : WordPlace) (time : ℕ) (changes : List ValueCh
 word_is h place time changes words ts t e f =
     e ∙ (ap (history_from place (now_of time changes)) f ∙ turn_is time t.line changes ts (step place t.text))
 
-pub word_taken : (h : History) (place : WordPlace) (time : ℕ) (changes : List ValueChange) (words ts : List VcdToken) (t : VcdToken) (u : Turn) →
+pub word_taken : (h : History) (place : WordPlace) (time : ℕ) (changes : List ValueChange) (words ts : List VcdToken) (t : VcdToken) (u : NextTime) →
     h ≡ history_from place (record { time = time; changes = changes }) words → words ≡ t ∷ ts →
     turned time t.line changes (step place t.text) ≡ Ok u → u.next ≡ None →
     h ≡ history_from u.place (record { time = time; changes = u.changes }) ts
 word_taken h place time changes words ts t u e f g n =
     word_is h place time changes words ts t e f ∙ (ap (by_turn time ts) g ∙ ap (by_next time ts u.place u.changes) n)
 
-pub word_last : (h : History) (place : WordPlace) (time next : ℕ) (changes : List ValueChange) (words ts : List VcdToken) (t : VcdToken) (u : Turn) →
+pub word_last : (h : History) (place : WordPlace) (time next : ℕ) (changes : List ValueChange) (words ts : List VcdToken) (t : VcdToken) (u : NextTime) →
     h ≡ history_from place (record { time = time; changes = changes }) words → words ≡ t ∷ ts →
     turned time t.line changes (step place t.text) ≡ Ok u → u.next ≡ Some next →
     h ≡ before (record { time = time; changes = u.changes }) (history_from Plain (moment next) ts)

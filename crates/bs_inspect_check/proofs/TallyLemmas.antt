@@ -10,9 +10,9 @@ use Rattle.bs_scan.specs.Moments.{Run, state_at}
 use Rattle.bs_stim.specs.declared.limits.TheConstants.{MAX_CYCLES}
 use Rattle.bs_inspect_check.specs.declared.level.FlopLevel.{FlopLevel}
 use Rattle.bs_inspect_check.specs.declared.tally.CycleEnd.{CycleEnd}
-use Rattle.bs_inspect_check.specs.declared.tally.Tally.{Tally as CodeTally}
+use Rattle.bs_inspect_check.specs.declared.tally.RunTally.{RunTally as CodeTally}
 use Rattle.bs_inspect_check.specs.Flops.{agreeing, count_unknown, cycle_end, differs, ends_from, first_different, is_different, is_recorded, shared, sum_unknown, unknown_at}
-use Rattle.bs_inspect_check.specs.Tallies.{agreed, different, is_open, IsSmall, looked, next_state, passed, stepped, tally_in, tally_of, Tally}
+use Rattle.bs_inspect_check.specs.Tallies.{agreed, different, is_open, IsSmall, looked, next_state, passed, stepped, tally_in, tally_of, RunTally}
 use Rattle.bs_inspect_check.proofs.ListLemmas.{before_all, before_push, first_push, none_first}
 
 right_part : (x y : Bool) → (x && y) ≡ true → y ≡ true
@@ -56,7 +56,7 @@ shared_length c run done le = ap length (all_shared c run 0 done (omega (arith, 
 -- ---- what is counted
 
 -- what is counted of cycles
-abbrev counted : Circuit → Run → ℕ → (agree first : List CycleEnd) → Tally
+abbrev counted : Circuit → Run → ℕ → (agree first : List CycleEnd) → RunTally
 counted c run ended agree first =
     record {
       ended = ended;
@@ -127,7 +127,7 @@ state_more c run n m le e = by (nat_lt n (length run)) refl
         cond-false (nat_lt n (length run)) (next c (state_at c run n) (slice_index_or run n [])) (state_at c run n) ge
         ∙ ap (state_at c run) (let h : n ≡ min m (length run) = omega (arith, e, le, ltb-false n (length run) ge) in h)
 
-abbrev by_look : Tally → List FlopLevel → List Bool → Bool → Tally
+abbrev by_look : RunTally → List FlopLevel → List Bool → Bool → RunTally
 by_look t levels behind b = cond b (different t levels) (agreed t (count_unknown levels) behind)
 
 -- a cycle at which the run is looked at
@@ -245,7 +245,7 @@ differs_is old new state levels e is ended agreed unknown differing = λ i. reco
   state = state;
 }
 
-pub looked_differs : (c : Circuit) (run : Run) (t u : Tally) (levels : List FlopLevel) (d : Bool) → d ≡ differs t.state levels → d ≡ true →
+pub looked_differs : (c : Circuit) (run : Run) (t u : RunTally) (levels : List FlopLevel) (d : Bool) → d ≡ differs t.state levels → d ≡ true →
     u ≡ different t levels → u ≡ looked c run t levels
 looked_differs c run t u levels d is on goes =
     goes
@@ -269,7 +269,7 @@ pub open_cycle : (cycles ended : ℕ) (differing : List CycleEnd) (b : Bool) →
 open_cycle cycles ended differing b is on few =
     omega (arith, leb-true ended cycles (right_part (length differing == 0) (nat_le ended cycles) (sym is ∙ on)), few)
 
-pub stepped_open : (c : Circuit) (run : Run) (t u : Tally) (levels : List FlopLevel) (cycles : ℕ) (b : Bool) → cycles ≡ length run →
+pub stepped_open : (c : Circuit) (run : Run) (t u : RunTally) (levels : List FlopLevel) (cycles : ℕ) (b : Bool) → cycles ≡ length run →
     b ≡ is_open cycles t.ended t.differing → b ≡ true → u ≡ looked c run t levels → u ≡ stepped c run t levels
 stepped_open c run t u levels cycles b n is on goes =
     goes

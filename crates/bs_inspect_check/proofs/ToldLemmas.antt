@@ -6,8 +6,8 @@ use Rattle.std.proofs.lemmas.Bool.{cond-true, cond-false, ltb-true, ltb-false}
 use Rattle.std.proofs.lemmas.Grind.{flat_map-append}
 use Rattle.std.proofs.lemmas.List.{length_push, map_more, take-append-le}
 use Rattle.std.proofs.lemmas.List.Elements.{filter-append}
-use Rattle.bs_net_names.specs.Signals.{Signal, signal_in}
-use Rattle.bs_net_names.specs.declared.signal.Signal.{Signal as CodeSignal}
+use Rattle.bs_inspect_view.specs.Signals.{Signal, signal_in}
+use Rattle.bs_inspect_view.specs.declared.signal.Signal.{Signal as CodeSignal}
 use Rattle.bs_inspect_check.specs.declared.lines.TheConstants.{MAX_LINES}
 use Rattle.bs_inspect_check.specs.Tallies.{one_if}
 use Rattle.bs_inspect_check.specs.Text.{told_piece}

@@ -9,17 +9,17 @@ use Rattle.bs_vcd_header.specs.declared.fault.VcdFault.{VcdFault}
 use Rattle.bs_vcd.specs.Stimulus.{stimulus_in}
 use Rattle.bs_inspect_report.specs.Keys.{input_keys}
 use Rattle.bs_inspect_check.specs.declared.comparison.Comparison.{Comparison}
-use Rattle.bs_inspect_check.specs.declared.comparison.Origin.{Origin}
+use Rattle.bs_inspect_check.specs.declared.comparison.RunOrigin.{RunOrigin}
 use Rattle.bs_inspect_check.specs.declared.flops.FlopComparison.{FlopComparison}
 use Rattle.bs_inspect_check.specs.declared.inputs.InputComparison.{InputComparison}
 use Rattle.bs_inspect_check.specs.Flops.{flops_compared}
 use Rattle.bs_inspect_check.specs.Inputs.{inputs_compared}
 
 -- the name of a run, and that of the file of its VCD
-abbrev pub origin_of : Recorded → (file : List ℕ) → Origin
+abbrev pub origin_of : Recorded → (file : List ℕ) → RunOrigin
 origin_of run file = record { run = run.name; file = file }
 
-abbrev pub whole : Origin → FlopComparison → InputComparison → Comparison
+abbrev pub whole : RunOrigin → FlopComparison → InputComparison → Comparison
 whole origin flops inputs = record { origin = origin; flops = flops; inputs = inputs }
 
 -- The run with a number beside the text of a VCD, which stands in the file with this name: its flip-flops, which have these names, and

@@ -6,7 +6,7 @@ use Rattle.bs_scan.specs.Moments.{Run}
 use Rattle.bs_stim.specs.Runs.{Stimulus, no_run}
 use Rattle.bs_vcd_header.specs.declared.fault.VcdFault.{VcdFault}
 use Rattle.bs_vcd_header.specs.declared.fault.VcdFault.TheVariants.{NoMemory as Want}
-use Rattle.bs_vcd.specs.declared.sampling.SampledLines.{SampledLines}
+use Rattle.bs_vcd.specs.declared.clock_edges.SampledLines.{SampledLines}
 use Rattle.bs_inspect_check.specs.declared.inputs.InputComparison.{InputComparison}
 use Rattle.bs_inspect_check.specs.declared.level.FlopLevel.{FlopLevel}
 use Rattle.bs_inspect_check.specs.declared.level.FlopLevel.TheVariants.{Known as Level}

@@ -13,8 +13,8 @@ use Rattle.bs_vcd.specs.Watching.{known_after}
 use Rattle.bs_inspect_check.specs.declared.flops.FlopComparison.{FlopComparison}
 use Rattle.bs_inspect_check.specs.declared.level.FlopLevel.{FlopLevel}
 use Rattle.bs_inspect_check.specs.declared.tally.CycleEnd.{CycleEnd}
-use Rattle.bs_inspect_check.specs.declared.tally.Tally.{Tally as CodeTally}
-use Rattle.bs_inspect_check.specs.declared.walk.Watch.{Watch as CodeWatch}
+use Rattle.bs_inspect_check.specs.declared.tally.RunTally.{RunTally as CodeTally}
+use Rattle.bs_inspect_check.specs.declared.walk.RunWatch.{RunWatch as CodeWatch}
 use Rattle.bs_inspect_check.specs.Flops.{agreeing, count_unknown, differs, first_different, shared, sum_unknown}
 use Rattle.bs_inspect_check.specs.Samples.{levels_by}
 
@@ -41,14 +41,14 @@ one_if is = if is then 1 else 0
 
 -- how many cycles have ended, how many agree before the first one that differs, how many bits are unknown in these, that one if there is
 -- one, and the state in which the run stands
-pub record Tally : Type 0 where
+pub record RunTally : Type 0 where
   pub ended : ℕ
   pub agreed : ℕ
   pub unknown : ℕ
   pub differing : List CycleEnd
   pub state : List Bool
 
-abbrev pub tally_in : CodeTally → List Bool → Tally
+abbrev pub tally_in : CodeTally → List Bool → RunTally
 tally_in t state =
     record { ended = t.ended; agreed = t.agreed; unknown = t.unknown; differing = t.differing; state = state }
 
@@ -56,10 +56,10 @@ tally_in t state =
 abbrev pub is_open : ℕ → (ended : ℕ) → List CycleEnd → Bool
 is_open cycles ended differing = (length differing == 0) && nat_le ended cycles
 
-abbrev pub passed : Tally → Tally
+abbrev pub passed : RunTally → RunTally
 passed t = record { ended = t.ended + 1; agreed = t.agreed; unknown = t.unknown; differing = t.differing; state = t.state }
 
-abbrev pub different : Tally → List FlopLevel → Tally
+abbrev pub different : RunTally → List FlopLevel → RunTally
 different t levels =
     record {
       ended = t.ended + 1;
@@ -69,20 +69,20 @@ different t levels =
       state = t.state;
     }
 
-abbrev pub agreed : Tally → ℕ → List Bool → Tally
+abbrev pub agreed : RunTally → ℕ → List Bool → RunTally
 agreed t unknown state =
     record { ended = t.ended + 1; agreed = t.agreed + 1; unknown = t.unknown + unknown; differing = t.differing; state = state }
 
 -- what comes of the end of a cycle
-abbrev pub looked : Circuit → Run → Tally → List FlopLevel → Tally
+abbrev pub looked : Circuit → Run → RunTally → List FlopLevel → RunTally
 looked c run t levels =
     if differs t.state levels then different t levels else agreed t (count_unknown levels) (next_state c run t.ended t.state)
 
-abbrev pub stepped : Circuit → Run → Tally → List FlopLevel → Tally
+abbrev pub stepped : Circuit → Run → RunTally → List FlopLevel → RunTally
 stepped c run t levels = if is_open (length run) t.ended t.differing then looked c run t levels else passed t
 
 -- what is counted by the ends of cycles
-abbrev pub tally_of : Circuit → Run → List (List FlopLevel) → Tally
+abbrev pub tally_of : Circuit → Run → List (List FlopLevel) → RunTally
 tally_of c run all =
     record {
       ended = length all;
@@ -100,20 +100,20 @@ pub record IsSmall (t : CodeTally) : Type 0 where
 -- ---- from moment to moment
 
 -- the time of the first change so far, what is known, and what is counted
-pub record Watch : Type 0 where
+pub record RunWatch : Type 0 where
   pub first : Option ℕ
   pub known : Known
-  pub tally : Tally
+  pub tally : RunTally
 
-abbrev pub watch_in : CodeWatch → List Bool → Watch
+abbrev pub watch_in : CodeWatch → List Bool → RunWatch
 watch_in w state = record { first = w.first; known = known_in w.known; tally = tally_in w.tally state }
 
 -- what is counted at the end of a moment
-abbrev pub closed : BitSource → List (Option BitSource) → Circuit → Run → Known → Known → Tally → Tally
+abbrev pub closed : BitSource → List (Option BitSource) → Circuit → Run → Known → Known → RunTally → RunTally
 closed clock sources c run before behind t = if rises clock before behind then stepped c run t (levels_by sources before) else t
 
 -- the moment behind
-abbrev pub moved : BitSource → List (Option BitSource) → Circuit → Run → Watch → Moment → Watch
+abbrev pub moved : BitSource → List (Option BitSource) → Circuit → Run → RunWatch → Moment → RunWatch
 moved clock sources c run w m =
     record {
       first = option_or w.first (time_if m.changes m.time);
@@ -122,15 +122,15 @@ moved clock sources c run w m =
     }
 
 -- behind all moments, where the text has no fault
-abbrev pub walked : BitSource → List (Option BitSource) → Circuit → Run → Watch → History → Result Watch VcdFault
+abbrev pub walked : BitSource → List (Option BitSource) → Circuit → Run → RunWatch → History → Result RunWatch VcdFault
 walked clock sources c run w h = or_fault h.fault (fold (moved clock sources c run) w h.moments)
 
 -- the end of the text ends the last cycle
-abbrev pub lasted : List (Option BitSource) → Circuit → Run → Watch → Watch
+abbrev pub lasted : List (Option BitSource) → Circuit → Run → RunWatch → RunWatch
 lasted sources c run w = record { first = w.first; known = w.known; tally = stepped c run w.tally (levels_by sources w.known) }
 
 -- all cycles
-abbrev pub whole : BitSource → List (Option BitSource) → Circuit → Run → Watch → History → Result Watch VcdFault
+abbrev pub whole : BitSource → List (Option BitSource) → Circuit → Run → RunWatch → History → Result RunWatch VcdFault
 whole clock sources c run w h = walked clock sources c run w h >>= λ v. Ok (lasted sources c run v)
 
 -- nothing is known and counted before the first moment
@@ -152,7 +152,7 @@ comparison_in cycles found w =
       found = found;
     }
 
-abbrev pub comparison_by : (cycles : ℕ) → (found : List Bool) → Watch → FlopComparison
+abbrev pub comparison_by : (cycles : ℕ) → (found : List Bool) → RunWatch → FlopComparison
 comparison_by cycles found w =
     record {
       cycles = cycles;

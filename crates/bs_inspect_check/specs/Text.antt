@@ -4,13 +4,13 @@ use Rattle.std.specs.List.{flat_map, list_all, list_any, range_with_len}
 use Rattle.bs_bits.specs.Lines.{line}
 use Rattle.bs_bits.specs.Text.{digit_of}
 use Rattle.bs_net.specs.Parts.{Parts}
-use Rattle.bs_net_names.specs.Rtl.{rtl_text}
-use Rattle.bs_net_names.specs.Signals.{AreSignals, Signal}
-use Rattle.bs_net_names.specs.Values.{value_text}
+use Rattle.bs_inspect_view.specs.Rtl.{rtl_text}
+use Rattle.bs_inspect_view.specs.Signals.{AreSignals, Signal}
+use Rattle.bs_inspect_view.specs.Values.{value_text}
 use Rattle.bs_inspect_report.specs.Keys.{flop_keys, input_keys}
 use Rattle.bs_inspect_report.specs.Signal.{bit_at, signal_bits}
 use Rattle.bs_inspect_check.specs.declared.comparison.Comparison.{Comparison}
-use Rattle.bs_inspect_check.specs.declared.comparison.Origin.{Origin}
+use Rattle.bs_inspect_check.specs.declared.comparison.RunOrigin.{RunOrigin}
 use Rattle.bs_inspect_check.specs.declared.inputs.InputComparison.{InputComparison}
 use Rattle.bs_inspect_check.specs.declared.level.FlopLevel.{FlopLevel}
 use Rattle.bs_inspect_check.specs.declared.level.FlopLevel.TheVariants.{Missing, Unknown, Known as Level}
@@ -89,7 +89,7 @@ abbrev pub is_set : Bool → Bool
 is_set bit = bit
 
 -- the name of the run, and the file of the VCD
-abbrev pub origin_text : Origin → List ℕ
+abbrev pub origin_text : RunOrigin → List ℕ
 origin_text o = codes " name " ++ (o.run ++ (codes " vcd " ++ o.file))
 
 -- how many flip-flops the VCD has, how many of their bits are unknown in the cycles that agree, and the names of both

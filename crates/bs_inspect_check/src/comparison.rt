@@ -19,7 +19,7 @@ use std::alloc::Global;
 
 /// The name of a run, and that of the file of its VCD.
 #[derive(Drop)]
-pub struct Origin {
+pub struct RunOrigin {
     pub run: List<u8>,
     pub file: List<u8>,
 }
@@ -27,7 +27,7 @@ pub struct Origin {
 /// A run beside its VCD: the names of both, the flip-flops, and the data inputs.
 #[derive(Drop)]
 pub struct Comparison {
-    pub origin: Origin,
+    pub origin: RunOrigin,
     pub flops: FlopComparison,
     pub inputs: InputComparison,
 }
@@ -41,7 +41,7 @@ fn copy_of(alloc: Global, name: &[u8]) -> Result<List<u8>, NoMemory>
 }
 
 /// The names of a run and of the file of its VCD.
-fn origin_of(alloc: Global, run: RunOf<'_>, file: &[u8]) -> Result<Origin, NoMemory>
+fn origin_of(alloc: Global, run: RunOf<'_>, file: &[u8]) -> Result<RunOrigin, NoMemory>
     requires from_one { 1 ≤ run.number }
     requires there { run.number ≤ length run.runs.now.runs }
     ensures { IfOk result (λ origin. origin ≡ origin_of (run_at run.entry.runs.now run.entry.number) file.now) }
@@ -49,7 +49,7 @@ fn origin_of(alloc: Global, run: RunOf<'_>, file: &[u8]) -> Result<Origin, NoMem
     let name = run.runs.name(run.number);
     let own = copy_of(alloc, name.as_bytes())?;
     match copy_of(alloc, file) {
-        Ok(path) => Ok(Origin {
+        Ok(path) => Ok(RunOrigin {
             run: own,
             file: path,
         }),
@@ -69,7 +69,7 @@ fn with_inputs(
     text: &[u8],
     scope: Option<&[u8]>,
     clock: &[u8],
-    origin: Origin,
+    origin: RunOrigin,
     flops: FlopComparison,
 ) -> Result<Comparison, NoMemory>
     requires { length text.now < 2 ^ 61 }

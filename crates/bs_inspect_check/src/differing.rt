@@ -1,7 +1,7 @@
 //! The signals that differ: flip-flops or data inputs.
 ghost use Rattle.std.specs.Prelude.{◌≡◌, ◌<◌, ◌^◌, ◌++◌, length, map, filter, take, All, IfOk, OnOk};
 ghost use Rattle.std.specs.List.{flat_map, list_any};
-ghost use Rattle.bs_net_names.specs.Signals.{signal_in};
+ghost use Rattle.bs_inspect_view.specs.Signals.{signal_in};
 ghost use Rattle.bs_inspect_check.specs.Flops.{differs_at};
 ghost use Rattle.bs_inspect_check.specs.declared.lines.TheConstants.{MAX_LINES};
 ghost use Rattle.bs_inspect_check.specs.Text.{difference_line, difference_text, signal_differs, told_piece};
@@ -12,7 +12,7 @@ use crate::lines::{MAX_LINES, push_more};
 use crate::tally::{CycleEnd, one_if};
 use bs_bits::{NoMemory, end_line, push_piece};
 use bs_inspect_report::{bit_at, push_signal_value};
-use bs_net_names::{Signal, push_rtl_name};
+use bs_inspect_view::{Signal, push_rtl_name};
 
 /// Whether the bit of the flip-flop at a place differs.
 fn differs_at(end: &CycleEnd, place: u32) -> bool

@@ -13,8 +13,8 @@ ghost use Rattle.bs_inspect_check.specs.Tallies.{comparison_in, IsBegin, IsSmall
 
 use crate::replay::Replay;
 use crate::sources::found_bits;
-use crate::tally::{CycleEnd, Tally, end_cycle};
-use crate::walk::{Sources, Watch, no_watch, walk};
+use crate::tally::{CycleEnd, RunTally, end_cycle};
+use crate::walk::{RunWatch, Sources, no_watch, walk};
 use bs_bits::{Bits, List};
 use bs_net::Netlist;
 use bs_net_names::key_parts;
@@ -51,7 +51,7 @@ fn walk_all<'a>(
     sources: Sources<'_>,
     behind: Behind<'a>,
     replay: &mut Replay<'_>,
-    watch: &mut Watch<'a>,
+    watch: &mut RunWatch<'a>,
 ) -> Result<(), VcdFault>
     requires lines { behind.line + length behind.rest.now < 2 ^ 64 }
     requires short { length behind.rest.now < 2 ^ 62 }
@@ -72,7 +72,7 @@ fn watch_run<'a>(
     run: RunOf<'_>,
     sources: Sources<'_>,
     behind: Behind<'a>,
-    watch: &mut Watch<'a>,
+    watch: &mut RunWatch<'a>,
 ) -> Result<(), VcdFault>
     requires inputs { run.runs.now.width ≡ length (circuit run.net.now).inputs }
     requires from_one { 1 ≤ run.number }
@@ -90,16 +90,16 @@ fn watch_run<'a>(
 }
 
 /// What is counted, as an answer.
-fn comparison_of(cycles: u32, found: Bits, watch: Watch<'_>) -> FlopComparison
+fn comparison_of(cycles: u32, found: Bits, watch: RunWatch<'_>) -> FlopComparison
     ensures { result ≡ comparison_in cycles found watch.entry }
 {
-    let Watch {
+    let RunWatch {
         first,
         known,
         tally,
     } = watch;
     drop(known);
-    let Tally {
+    let RunTally {
         ended,
         agreed,
         unknown,

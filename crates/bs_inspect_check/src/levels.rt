@@ -1,11 +1,11 @@
 //! What a VCD has of a signal.
 ghost use Rattle.std.specs.Prelude.{◌≡◌, ◌<◌, ◌^◌, ◌++◌, length, IfOk, OnOk};
-ghost use Rattle.bs_net_names.specs.Values.{value_text};
+ghost use Rattle.bs_inspect_view.specs.Values.{value_text};
 ghost use Rattle.bs_inspect_check.specs.Text.{all_known, is_known, known_bit, known_bits, level_at, level_char, level_chars, levels_text};
 
 use crate::level::FlopLevel;
 use bs_bits::{List, NoMemory, push_piece};
-use bs_net_names::push_value;
+use bs_inspect_view::push_value;
 use std::alloc::Global;
 
 /// What is known of the flip-flop at a place.

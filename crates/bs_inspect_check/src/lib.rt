@@ -23,7 +23,7 @@ mod tally;
 mod text;
 mod walk;
 
-pub use comparison::{Comparison, Origin, all_agree, compare};
+pub use comparison::{Comparison, RunOrigin, all_agree, compare};
 pub use flops::{FlopComparison, RunOf};
 pub use inputs::InputComparison;
 pub use level::FlopLevel;

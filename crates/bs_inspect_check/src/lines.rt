@@ -5,6 +5,7 @@ ghost use Rattle.bs_inspect_check.specs.Text.{more_text};
 use bs_bits::{NoMemory, end_line, push_number, push_piece};
 
 /// How many signals of one kind have a line.
+/// What differs further mostly follows from these. It is counted.
 pub const MAX_LINES: usize = 16;
 
 /// Appends how many signals have no line, where there are some.

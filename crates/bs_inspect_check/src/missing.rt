@@ -1,7 +1,7 @@
 //! The signals that some VCD does not have.
 ghost use Rattle.std.specs.Prelude.{◌≡◌, ◌++◌, length, map, filter, take, not, IfOk, OnOk};
 ghost use Rattle.std.specs.List.{flat_map, list_any};
-ghost use Rattle.bs_net_names.specs.Signals.{signal_in};
+ghost use Rattle.bs_inspect_view.specs.Signals.{signal_in};
 ghost use Rattle.bs_inspect_check.specs.declared.lines.TheConstants.{MAX_LINES};
 ghost use Rattle.bs_inspect_check.specs.Text.{is_missing, missing_line, missing_text, signal_missing, told_piece};
 
@@ -10,7 +10,7 @@ use crate::lines::{MAX_LINES, push_more};
 use crate::tally::one_if;
 use bs_bits::{NoMemory, end_line, push_piece};
 use bs_inspect_report::bit_at;
-use bs_net_names::{Signal, push_rtl_name};
+use bs_inspect_view::{Signal, push_rtl_name};
 
 /// Whether some VCD does not have the flip-flop at a place.
 fn is_missing(comparisons: &[Comparison], place: u32) -> bool

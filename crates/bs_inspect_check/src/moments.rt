@@ -13,7 +13,7 @@ use bs_vcd_header::{VcdFault, next_token};
 
 /// Where a moment begins: its time, and the text behind that, whose first line has this number.
 #[derive(Clone, Copy)]
-pub struct Spot<'a> {
+pub struct MomentStart<'a> {
     pub time: u64,
     pub line: u64,
     pub rest: &'a [u8],
@@ -21,7 +21,7 @@ pub struct Spot<'a> {
 
 /// Where the next word stands, and the time that begins before it, if a later one does.
 #[derive(Clone, Copy)]
-pub struct Turn<'a> {
+pub struct NextTime<'a> {
     pub place: WordPlace<'a>,
     pub next: Option<u64>,
 }
@@ -51,18 +51,18 @@ fn take_word<'a>(
     place: WordPlace<'a>,
     text: &'a [u8],
     changes: &mut Vec<ValueChange<'a>>,
-) -> Result<Turn<'a>, VcdFault>
+) -> Result<NextTime<'a>, VcdFault>
     ensures { Answers Want (λ turn. turn_in turn changes.new.items) result (turned time line (map change_in changes.old.items) (step (mode_in place.entry) text.now)) }
 {
     match word_step(place, text) {
         None => Err(VcdFault::Line(line)),
-        Some(WordEffect::Goes(next)) => Ok(Turn {
+        Some(WordEffect::Goes(next)) => Ok(NextTime {
             place: next,
             next: None,
         }),
         Some(WordEffect::Changes(change)) => {
             put_change(change, changes)?;
-            Ok(Turn {
+            Ok(NextTime {
                 place: WordPlace::Plain,
                 next: None,
             })
@@ -71,7 +71,7 @@ fn take_word<'a>(
             if next < time {
                 return Err(VcdFault::Line(line));
             }
-            Ok(Turn {
+            Ok(NextTime {
                 place: WordPlace::Plain,
                 next: later(time, next),
             })
@@ -93,9 +93,9 @@ fn may_end(place: WordPlace<'_>) -> bool
 /// Takes the words of a moment, and answers where the next one begins.
 #[tactic(auto, using(crate::proofs::MomentLemmas::word_taken, crate::proofs::MomentLemmas::word_last, crate::proofs::MomentLemmas::word_faulty, crate::proofs::MomentLemmas::text_ends, crate::proofs::MomentLemmas::text_faulty))]
 pub fn take_moment<'a>(
-    spot: Spot<'a>,
+    spot: MomentStart<'a>,
     changes: &mut Vec<ValueChange<'a>>,
-) -> Result<Option<Spot<'a>>, VcdFault>
+) -> Result<Option<MomentStart<'a>>, VcdFault>
     requires lines { spot.line + length spot.rest.now < 2 ^ 64 }
     requires none { changes.old.items ≡ [] }
     ensures is { MatchResult result (λ next. history_at (Some spot.entry) ≡ before (moment_in spot.entry.time changes.new.items) (history_at next)) (λ fault. (fault ≡ Want) ⊎ (history_at (Some spot.entry) ≡ stopped fault)) }
@@ -111,7 +111,7 @@ pub fn take_moment<'a>(
         let turn = take_word(spot.time, token.line, place, token.text, changes)?;
         match turn.next {
             Some(next) => {
-                return Ok(Some(Spot {
+                return Ok(Some(MomentStart {
                     time: next,
                     line,
                     rest,

@@ -26,7 +26,7 @@ pub struct CycleEnd {
 /// How many cycles have ended, how many agree before the first one that differs, how many bits are unknown in these, and that one, if
 /// there is one.
 #[derive(Drop)]
-pub struct Tally {
+pub struct RunTally {
     pub ended: u64,
     pub agreed: u64,
     pub unknown: u64,
@@ -35,7 +35,7 @@ pub struct Tally {
 
 /// Whether the bit of some flip-flop differs, and how many are unknown.
 #[derive(Clone, Copy)]
-pub struct Seen {
+pub struct SeenCount {
     pub differs: bool,
     pub unknown: usize,
 }
@@ -59,7 +59,7 @@ pub(crate) fn one_if(is: bool) -> usize
 
 /// Looks at the end of a cycle.
 #[tactic(auto, using(crate::proofs::LevelLemmas::look_more, crate::proofs::LevelLemmas::unknown_more, crate::proofs::LevelLemmas::look_all, crate::proofs::LevelLemmas::unknown_all))]
-fn look(known: &HashMap<u64, &[u8]>, sources: &[Option<BitSource>], state: &Bits) -> Seen
+fn look(known: &HashMap<u64, &[u8]>, sources: &[Option<BitSource>], state: &Bits) -> SeenCount
     requires { length sources.now < 2 ^ 32 }
     ensures differs { result.differs ≡ differs state.now (levels_by sources.now (known_in known.now)) }
     ensures unknown { result.unknown ≡ count_unknown (levels_by sources.now (known_in known.now)) }
@@ -72,7 +72,7 @@ fn look(known: &HashMap<u64, &[u8]>, sources: &[Option<BitSource>], state: &Bits
         differs = either(differs, is_other(bit_at(state, i), level));
         unknown += one_if(is_unknown(level));
     }
-    Seen { differs, unknown }
+    SeenCount { differs, unknown }
 }
 
 /// What is known of each flip-flop.
@@ -94,10 +94,10 @@ fn levels_of(
 // ---- what is counted
 
 /// Nothing is counted before the first cycle ends.
-pub fn no_tally(alloc: Global) -> Tally
+pub fn no_tally(alloc: Global) -> RunTally
     ensures { result ≡ record { ended = 0; agreed = 0; unknown = 0; differing = [] } }
 {
-    Tally {
+    RunTally {
         ended: 0,
         agreed: 0,
         unknown: 0,
@@ -106,7 +106,7 @@ pub fn no_tally(alloc: Global) -> Tally
 }
 
 /// Whether the cycle that ends is one of so many behind the first, and none before it differs.
-fn is_open(cycles: u32, tally: &Tally) -> bool
+fn is_open(cycles: u32, tally: &RunTally) -> bool
     ensures { result ≡ is_open cycles tally.now.ended tally.now.differing }
 {
     let none = tally.differing.len() == 0;
@@ -114,7 +114,7 @@ fn is_open(cycles: u32, tally: &Tally) -> bool
 }
 
 /// A cycle ends that is not looked at.
-fn pass(tally: &mut Tally)
+fn pass(tally: &mut RunTally)
     requires { tally.old.ended < 2 ^ 63 }
     ensures ended { tally.new.ended ≡ tally.old.ended + 1 }
     ensures agreed { tally.new.agreed ≡ tally.old.agreed }
@@ -125,7 +125,7 @@ fn pass(tally: &mut Tally)
 }
 
 /// A cycle ends that agrees, with so many unknown bits.
-fn count(tally: &mut Tally, unknown: u64)
+fn count(tally: &mut RunTally, unknown: u64)
     requires ended { tally.old.ended < 2 ^ 63 }
     requires agreed { tally.old.agreed < 2 ^ 63 }
     requires unknown { tally.old.unknown + unknown < 2 ^ 64 }
@@ -170,7 +170,7 @@ fn differ(
     known: &HashMap<u64, &[u8]>,
     sources: &[Option<BitSource>],
     state: &Bits,
-    tally: &mut Tally,
+    tally: &mut RunTally,
 ) -> Result<(), NoMemory>
     requires { tally.old.ended < 2 ^ 63 }
     ensures is { OnOk result (tally_in tally.new state.now ≡ different (tally_in tally.old state.now) (levels_by sources.now (known_in known.now))) }
@@ -191,7 +191,7 @@ fn look_at(
     known: &HashMap<u64, &[u8]>,
     sources: &[Option<BitSource>],
     replay: &mut Replay<'_>,
-    tally: &mut Tally,
+    tally: &mut RunTally,
 ) -> Result<(), NoMemory>
     requires flops { length sources.now < 2 ^ 32 }
     requires cycle { tally.old.ended ≤ MAX_CYCLES }
@@ -219,7 +219,7 @@ pub fn end_cycle(
     known: &HashMap<u64, &[u8]>,
     sources: &[Option<BitSource>],
     replay: &mut Replay<'_>,
-    tally: &mut Tally,
+    tally: &mut RunTally,
 ) -> Result<(), NoMemory>
     requires flops { length sources.now < 2 ^ 32 }
     requires ended { tally.old.ended < 2 ^ 63 }

@@ -1,19 +1,19 @@
 //! The text of recorded runs beside their VCDs.
 ghost use Rattle.std.specs.Prelude.{◌≡◌, ◌<◌, ◌+◌, ◌^◌, ◌++◌, ◌∷◌, [], length, map, count_by, All, IfOk, OnOk};
 ghost use Rattle.std.specs.List.{flat_map, range_with_len};
-ghost use Rattle.bs_net_names.specs.Signals.{AreSignals, signal_in};
+ghost use Rattle.bs_inspect_view.specs.Signals.{AreSignals, signal_in};
 ghost use Rattle.bs_inspect_report.specs.Keys.{flop_keys};
 ghost use Rattle.bs_inspect_check.specs.Text.{begin_text, check_text, counts_text, difference_text, flops_text, inputs_text, is_set, like_text, origin_text, other_text, outcome_line, outcome_text, run_at, run_text, size_text, TellsCheck, unread_line, word_line};
 
-use crate::comparison::{Comparison, Origin};
+use crate::comparison::{Comparison, RunOrigin};
 use crate::differing::push_differences;
 use crate::inputs::InputComparison;
 use crate::missing::push_all_missing;
 use crate::tally::{CycleEnd, one_if};
 use bs_bits::{Bits, NoMemory, end_line, push_number, push_piece};
 use bs_inspect_report::{flop_signals, input_signals};
+use bs_inspect_view::Signal;
 use bs_net::Netlist;
-use bs_net_names::Signal;
 use std::alloc::Global;
 
 /// How many bits are 1.
@@ -45,7 +45,7 @@ fn push_outcome(text: &mut Vec<u8>, agreed: u64, differing: &[CycleEnd]) -> Resu
 }
 
 /// Appends the name of a run, and the file of its VCD.
-fn push_origin(text: &mut Vec<u8>, origin: &Origin) -> Result<(), NoMemory>
+fn push_origin(text: &mut Vec<u8>, origin: &RunOrigin) -> Result<(), NoMemory>
     ensures { OnOk result (text.new.items ≡ text.old.items ++ origin_text origin.now) }
 {
     push_piece(text, b" name ")?;

@@ -10,9 +10,9 @@ ghost use Rattle.bs_vcd.specs.Watching.{known_after};
 ghost use Rattle.bs_inspect_check.specs.Taking.{history_at, last_line, left, moment_in};
 ghost use Rattle.bs_inspect_check.specs.Tallies.{closed, IsBegin, IsSmall, moved, tally_in, walked, watch_in};
 
-use crate::moments::{Spot, take_moment};
+use crate::moments::{MomentStart, take_moment};
 use crate::replay::Replay;
-use crate::tally::{Tally, end_cycle, no_tally};
+use crate::tally::{RunTally, end_cycle, no_tally};
 use bs_bits::NoMemory;
 use bs_vcd::{ValueChange, apply, rises};
 use bs_vcd_header::{BitSource, VcdFault};
@@ -28,17 +28,17 @@ pub struct Sources<'a> {
 
 /// The time of the first change so far, what is known, and what is counted.
 #[derive(Drop)]
-pub struct Watch<'a> {
+pub struct RunWatch<'a> {
     pub first: Option<u64>,
     pub known: HashMap<u64, &'a [u8]>,
-    pub tally: Tally,
+    pub tally: RunTally,
 }
 
 /// Nothing is known and counted before the first moment.
-pub fn no_watch<'a>(alloc: Global) -> Watch<'a>
+pub fn no_watch<'a>(alloc: Global) -> RunWatch<'a>
     ensures { IsBegin result }
 {
-    Watch {
+    RunWatch {
         first: None,
         known: HashMap::new(alloc),
         tally: no_tally(alloc),
@@ -72,7 +72,7 @@ fn close(
     changes: &[ValueChange<'_>],
     known: &HashMap<u64, &[u8]>,
     replay: &mut Replay<'_>,
-    tally: &mut Tally,
+    tally: &mut RunTally,
 ) -> Result<(), NoMemory>
     requires flops { length sources.flops.now < 2 ^ 32 }
     requires ended { tally.old.ended < 2 ^ 63 }
@@ -98,7 +98,7 @@ fn end_moment<'a>(
     time: u64,
     changes: &[ValueChange<'a>],
     replay: &mut Replay<'_>,
-    watch: &mut Watch<'a>,
+    watch: &mut RunWatch<'a>,
 ) -> Result<(), NoMemory>
     requires flops { length sources.flops.now < 2 ^ 32 }
     requires ended { watch.old.tally.ended < 2 ^ 63 }
@@ -127,11 +127,11 @@ fn end_moment<'a>(
 fn walk_moment<'a>(
     alloc: Global,
     sources: Sources<'_>,
-    spot: Spot<'a>,
+    spot: MomentStart<'a>,
     changes: &mut Vec<ValueChange<'a>>,
     replay: &mut Replay<'_>,
-    watch: &mut Watch<'a>,
-) -> Result<Option<Spot<'a>>, VcdFault>
+    watch: &mut RunWatch<'a>,
+) -> Result<Option<MomentStart<'a>>, VcdFault>
     requires lines { spot.line + length spot.rest.now < 2 ^ 64 }
     requires flops { length sources.flops.now < 2 ^ 32 }
     requires ended { watch.old.tally.ended < 2 ^ 63 }
@@ -161,7 +161,7 @@ pub fn walk<'a>(
     line: u64,
     text: &'a [u8],
     replay: &mut Replay<'_>,
-    watch: &mut Watch<'a>,
+    watch: &mut RunWatch<'a>,
 ) -> Result<(), VcdFault>
     requires lines { line + length text.now < 2 ^ 64 }
     requires short { length text.now < 2 ^ 62 }
@@ -175,7 +175,7 @@ pub fn walk<'a>(
     ensures run { replay.new.run ≡ replay.old.run }
 {
     let mut changes = Vec::new(alloc);
-    let mut at = Some(Spot {
+    let mut at = Some(MomentStart {
         time: 0,
         line,
         rest: text,

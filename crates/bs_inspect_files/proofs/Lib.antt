@@ -2,6 +2,6 @@ pub mod CalledLemmas
 pub mod FitLemmas
 pub mod PatternLemmas
 pub mod CountLemmas
-pub mod ReadingLemmas
+pub mod OrderLemmas
 pub mod BehindLemmas
 pub mod NameLemmas

@@ -7,23 +7,26 @@ use Rattle.bs_bits.specs.Reading.{◌>>=◌}
 use Rattle.bs_net.specs.Parts.{Parts, PartsArePlaced}
 use Rattle.bs_inspect_report.specs.Keys.{flop_keys}
 use Rattle.bs_inspect_report.proofs.KeyLemmas.{flops_few}
-use Rattle.bs_top_files.specs.Refusals.{with_reason}
+use Rattle.bs_outside.specs.Plan.{Reason}
+use Rattle.bs_top_files.specs.Causes.{Case, with_reason}
 use Rattle.bs_inspect_names.specs.declared.fault.MapFault.{MapFault}
-use Rattle.bs_inspect_names.specs.Mapping.{Entry, entries_from, name_of, names_of}
+use Rattle.bs_inspect_names.specs.Mapping.{MapEntry, entries_from, name_of, names_of}
 use Rattle.bs_inspect_values.specs.Simulated.{names_read}
-use Rattle.bs_inspect_values.specs.Words.{map_reason}
+use Rattle.bs_inspect_notes.specs.declared.name.Subject.{Subject}
+use Rattle.bs_inspect_values.specs.Saying.{map_reason}
 
-each_named : (keys names : List (List ℕ)) (r : Result (List Entry) MapFault) → with_reason map_reason (r >>= λ es. Ok (names_of es keys)) ≡ Ok names →
-    length names ≡ length keys
-each_named keys names (Ok es) e = IfOk-at_ok (λ (ns : List (List ℕ)). length ns ≡ length keys) e (length-map keys (name_of es))
-each_named keys names (Err fault) e = absurd cc
+each_named : (reason : MapFault → Reason Case) (keys names : List (List ℕ)) (r : Result (List MapEntry) MapFault) →
+    with_reason reason (r >>= λ es. Ok (names_of es keys)) ≡ Ok names → length names ≡ length keys
+each_named reason keys names (Ok es) e = IfOk-at_ok (λ (ns : List (List ℕ)). length ns ≡ length keys) e (length-map keys (name_of es))
+each_named reason keys names (Err fault) e = absurd cc
 
 -- few names, where there are few keys
-pub few_names : (keys : List (Bor (List ℕ))) (names : List (List ℕ)) (text : List ℕ) → names_read (map (λ k. k.now) keys) text ≡ Ok names →
-    length keys < 2 ^ 32 → length names < 2 ^ 32
-few_names keys names text is few =
+pub few_names : (subject : Subject) (path : List ℕ) (keys : List (Bor (List ℕ))) (names : List (List ℕ)) (text : List ℕ) →
+    names_read subject path (map (λ k. k.now) keys) text ≡ Ok names → length keys < 2 ^ 32 → length names < 2 ^ 32
+few_names subject path keys names text is few =
     let shown : Bor (List ℕ) → List ℕ = λ (k : Bor (List ℕ)). k.now in
-    let each : length names ≡ length (map shown keys) = each_named (map shown keys) names (entries_from (map shown keys) [] (lines_of text)) is in
+    let each : length names ≡ length (map shown keys) =
+    each_named (map_reason subject path text (map shown keys)) (map shown keys) names (entries_from (map shown keys) [] (lines_of text)) is in
     omega (arith, each, few, length-map keys shown)
 
 -- the same of these as slices

@@ -8,16 +8,14 @@ use Rattle.bs_inspect_report.specs.Keys.{flop_keys}
 use Rattle.bs_inspect_check.specs.declared.comparison.Comparison.{Comparison}
 use Rattle.bs_outside.specs.declared.file.File.TheVariants as files
 use Rattle.bs_outside.specs.Plan.{Plan, ◌>>=◌, end, fetched, read_as}
-use Rattle.bs_top_files.specs.NoteCases.{NoteCase}
-use Rattle.bs_top_files.specs.Refusals.{Case}
-use Rattle.bs_inspect_files.specs.Taken.{run_files_looked, run_files_of, RunFiles}
+use Rattle.bs_top_files.specs.Causes.{Case}
+use Rattle.bs_inspect_files.specs.Taken.{run_files_of, RunFiles}
 use Rattle.bs_inspect_values.specs.Dumped.{clock_or}
-use Rattle.bs_inspect_values.specs.Saying.{names_noted}
 use Rattle.bs_inspect_values.specs.Simulated.{names_read}
 use Rattle.bs_inspect_files.specs.declared.checking.Checked.{Checked as CodeChecked}
 use Rattle.bs_inspect_files.specs.declared.checking.CheckFiles.{CheckFiles as CodeCheckFiles}
 use Rattle.bs_inspect_files.specs.declared.comparing.Beside.{Beside as CodeBeside}
-use Rattle.bs_inspect_files.specs.VcdReadings.{compared_noted, compared_read, count_in, count_noted}
+use Rattle.bs_inspect_files.specs.VcdReadings.{compared_read, count_in}
 
 -- a netlist's parts and recorded runs, the clock of the VCDs, and a scope, where one is asked for
 pub record Beside : Type 0 where
@@ -34,54 +32,32 @@ beside_in t = record { raw = t.net.now.raw; runs = t.runs.now; clock = t.clock.n
 -- the run with a number beside its VCD
 abbrev pub one_of : (keys names : List (List ℕ)) → Beside → ℕ → List ℕ → Plan Case Comparison
 one_of keys names t number vcd = do
-  bytes ← fetched files.Vcd vcd
-  read_as files.Vcd (compared_read t.raw t.runs number vcd keys names t.scope t.clock bytes)
-
-abbrev pub one_looked : (keys names : List (List ℕ)) → Beside → ℕ → List ℕ → Plan NoteCase Comparison
-one_looked keys names t number vcd = do
   text ← fetched files.Vcd vcd
-  read_as files.Vcd (compared_noted t.raw t.runs number vcd keys names t.scope t.clock text)
+  read_as files.Vcd (compared_read t.raw t.runs number vcd keys names t.scope t.clock text)
 
 -- the next run, behind others
 abbrev pub next_of : (keys names : List (List ℕ)) → Beside → List Comparison → List ℕ → Plan Case (List Comparison)
 next_of keys names t before vcd = one_of keys names t (length before + 1) vcd >>= λ m. end (before ++ m ∷ [])
-
-abbrev pub next_looked : (keys names : List (List ℕ)) → Beside → List Comparison → List ℕ → Plan NoteCase (List Comparison)
-next_looked keys names t before vcd = one_looked keys names t (length before + 1) vcd >>= λ m. end (before ++ m ∷ [])
 
 -- the next runs, behind others
 unfoldable pub all_behind : (keys names : List (List ℕ)) → Beside → List Comparison → List (List ℕ) → Plan Case (List Comparison)
 all_behind keys names t before [] = end before
 all_behind keys names t before (vcd ∷ vcds) = next_of keys names t before vcd >>= λ more. all_behind keys names t more vcds
 
-unfoldable pub all_behind_looked : (keys names : List (List ℕ)) → Beside → List Comparison → List (List ℕ) → Plan NoteCase (List Comparison)
-all_behind_looked keys names t before [] = end before
-all_behind_looked keys names t before (vcd ∷ vcds) = next_looked keys names t before vcd >>= λ more. all_behind_looked keys names t more vcds
-
 -- all runs, from the first on
 abbrev pub all_of : (keys names : List (List ℕ)) → Beside → List (List ℕ) → Plan Case (List Comparison)
 all_of keys names t vcds = all_behind keys names t [] vcds >>= λ comparisons. end comparisons
 
-abbrev pub all_looked : (keys names : List (List ℕ)) → Beside → List (List ℕ) → Plan NoteCase (List Comparison)
-all_looked keys names t vcds = all_behind_looked keys names t [] vcds >>= λ comparisons. end comparisons
-
 -- ---- the names
 
 -- once the file of names is fetched
-abbrev pub names_step : List (List ℕ) → List ℕ → Beside → List (List ℕ) → Plan Case (List Comparison)
-names_step keys text t vcds = read_as files.Map (names_read keys text) >>= λ names. all_of keys names t vcds
-
-abbrev pub names_step_looked : List ℕ → List (List ℕ) → List ℕ → Beside → List (List ℕ) → Plan NoteCase (List Comparison)
-names_step_looked path keys text t vcds = read_as files.Map (names_noted Flops path keys text) >>= λ names. all_looked keys names t vcds
+abbrev pub names_step : List ℕ → List (List ℕ) → List ℕ → Beside → List (List ℕ) → Plan Case (List Comparison)
+names_step path keys text t vcds = read_as files.Map (names_read Flops path keys text) >>= λ names. all_of keys names t vcds
 
 -- a file of names, where there is one, and the VCDs
 abbrev pub named_of : List (List ℕ) → Option (List ℕ) → Beside → List (List ℕ) → Plan Case (List Comparison)
 named_of keys None t vcds = all_of keys keys t vcds
-named_of keys (Some file) t vcds = fetched files.Map file >>= λ text. names_step keys text t vcds
-
-abbrev pub named_looked : List (List ℕ) → Option (List ℕ) → Beside → List (List ℕ) → Plan NoteCase (List Comparison)
-named_looked keys None t vcds = all_looked keys keys t vcds
-named_looked keys (Some file) t vcds = fetched files.Map file >>= λ text. names_step_looked file keys text t vcds
+named_of keys (Some file) t vcds = fetched files.Map file >>= λ text. names_step file keys text t vcds
 
 -- ---- the whole
 
@@ -118,19 +94,9 @@ abbrev pub all_step : CheckFiles → RunFiles → List (List ℕ) → Plan Case 
 all_step f r vcds =
     named_of (flop_keys r.raw) f.names (beside_of f r) vcds >>= λ comparisons. end record { raw = r.raw; comparisons = comparisons }
 
-abbrev pub all_step_looked : CheckFiles → RunFiles → List (List ℕ) → Plan NoteCase Checked
-all_step_looked f r vcds =
-    named_looked (flop_keys r.raw) f.names (beside_of f r) vcds >>= λ comparisons. end record { raw = r.raw; comparisons = comparisons }
-
 -- behind the netlist and the stimulus
 abbrev pub checked_step : CheckFiles → RunFiles → List (List ℕ) → Plan Case Checked
-checked_step f r vcds = read_as files.Vcd (count_in r.runs vcds) >>= λ fits. all_step f r vcds
-
-abbrev pub checked_step_looked : CheckFiles → RunFiles → List (List ℕ) → Plan NoteCase Checked
-checked_step_looked f r vcds = read_as files.Vcd (count_noted r.runs f.stimulus vcds) >>= λ fits. all_step_looked f r vcds
+checked_step f r vcds = read_as files.Vcd (count_in r.runs f.stimulus vcds) >>= λ fits. all_step f r vcds
 
 abbrev pub checked_of : CheckFiles → List (List ℕ) → Plan Case Checked
 checked_of f vcds = run_files_of f.netlist f.stimulus >>= λ r. checked_step f r vcds
-
-abbrev pub checked_looked : CheckFiles → List (List ℕ) → Plan NoteCase Checked
-checked_looked f vcds = run_files_looked f.netlist f.stimulus >>= λ r. checked_step_looked f r vcds

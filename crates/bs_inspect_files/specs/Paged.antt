@@ -5,12 +5,9 @@ use Rattle.bs_scan.specs.Choice.{Chosen}
 use Rattle.bs_outside.specs.declared.file.File.TheVariants as files
 use Rattle.bs_outside.specs.Plan.{Plan, end, ◌>>=◌, read_as}
 use Rattle.bs_top_files.specs.Entry.{netlist_of, signature_of}
-use Rattle.bs_top_files.specs.Looking.{netlist_looked, signature_looked}
-use Rattle.bs_top_files.specs.NoteCases.{NoteCase}
-use Rattle.bs_top_files.specs.Refusals.{Case}
+use Rattle.bs_top_files.specs.Causes.{Case}
 use Rattle.bs_inspect_files.specs.Fits.{known_in}
-use Rattle.bs_inspect_files.specs.Saying.{known_noted}
-use Rattle.bs_inspect_files.specs.Taken.{TraceFiles, report_step, report_step_looked, trace_files_in}
+use Rattle.bs_inspect_files.specs.Taken.{TraceFiles, report_step, trace_files_in}
 use Rattle.bs_inspect_files.specs.declared.ready.PageFiles.{PageFiles as CodePageFiles}
 
 -- a netlist's parts and a report, and what the signature is taken of, where one is given
@@ -40,22 +37,3 @@ signed_step raw (Some file) report only = signature_of raw file >>= λ choice. c
 -- the netlist, the signature, where there is one, and the report, and last whether the netlist has these names
 abbrev pub page_files_of : (netlist : List ℕ) → Option (List ℕ) → (report : List ℕ) → List (List ℕ) → Plan Case PageFiles
 page_files_of netlist signature report only = netlist_of netlist >>= λ raw. signed_step raw signature report only
-
--- ---- the same as the notes see them
-
-abbrev pub known_step_looked : List (List ℕ) → TraceFiles → Plan NoteCase TraceFiles
-known_step_looked only trace_files = read_as files.Name (known_noted trace_files.raw only) >>= λ known. end trace_files
-
-abbrev pub picked_step_looked : Parts → List ℕ → List (List ℕ) → Plan NoteCase TraceFiles
-picked_step_looked raw report only = report_step_looked false raw report >>= λ trace_files. known_step_looked only trace_files
-
-abbrev pub chosen_step_looked : Parts → Option Chosen → List ℕ → List (List ℕ) → Plan NoteCase PageFiles
-chosen_step_looked raw choice report only =
-    picked_step_looked raw report only >>= λ trace_files. end record { trace_files = trace_files; choice = choice }
-
-abbrev pub signed_step_looked : Parts → Option (List ℕ) → List ℕ → List (List ℕ) → Plan NoteCase PageFiles
-signed_step_looked raw None report only = chosen_step_looked raw None report only
-signed_step_looked raw (Some file) report only = signature_looked raw file >>= λ choice. chosen_step_looked raw (Some choice) report only
-
-abbrev pub page_files_looked : (netlist : List ℕ) → Option (List ℕ) → (report : List ℕ) → List (List ℕ) → Plan NoteCase PageFiles
-page_files_looked netlist signature report only = netlist_looked netlist >>= λ raw. signed_step_looked raw signature report only

@@ -1,4 +1,4 @@
--- What names, an order and a pattern are to a request: a value, or the reason of their refusal; and the same as the notes see them.
+-- What names, an order and a pattern are to a request: a value, or the reason of their refusal.
 use Rattle.std.specs.Prelude.{ℕ, ◌==◌, ◌&&◌, ◌||◌, nat_eq, nat_le, not, Bool, true, List, [], ◌++◌, codes, decimal, drop, filter, length, Option, Some, None, Result, Ok, Err, if◌then◌else◌}
 use Rattle.std.specs.List.{starts_with}
 use Rattle.bs_net.specs.Parts.{Parts}
@@ -12,37 +12,21 @@ use Rattle.bs_note_files.specs.Notes.{Saying, saying, plain_text}
 use Rattle.bs_inspect_notes.specs.declared.name.Subject.TheVariants.{Flops}
 use Rattle.bs_inspect_notes.specs.Names.{key_saying, net_text, numbered}
 use Rattle.bs_inspect_report.specs.Keys.{flop_keys}
-use Rattle.bs_outside.specs.Plan.{Reason, exactly, any_of}
-use Rattle.bs_top_files.specs.NoteCases.{NoteCase, at_line}
-use Rattle.bs_top_files.specs.Noting.{noted_by}
-use Rattle.bs_top_files.specs.Refusals.{Case, with_reason}
+use Rattle.bs_outside.specs.Plan.{Reason, any_of}
+use Rattle.bs_top_files.specs.Causes.{Case, at_line, stated, with_reason}
 use Rattle.bs_inspect_files.specs.FlopWords.{order_words, pattern_words, unnamed_words}
 
 -- ---- names
 
-abbrev pub called_of : Option (List ℕ) → Result Bool (Reason Case)
-called_of None = Ok true
-called_of (Some name) = Err (exactly (unnamed_words name))
+abbrev pub called_of : List (List ℕ) → Option (List ℕ) → Result Bool (Reason Case)
+called_of keys None = Ok true
+called_of keys (Some name) = Err (any_of (stated (unnamed_words name) (net_text name keys)))
 
 -- some net has each name, or the first that none has
 abbrev pub called_in : Parts → List (List ℕ) → Result Bool (Reason Case)
-called_in r names = called_of (first_unnamed r names)
-
-abbrev pub called_said : List (List ℕ) → Option (List ℕ) → Result Bool (Reason NoteCase)
-called_said keys None = Ok true
-called_said keys (Some name) = Err (exactly (net_text name keys))
-
-abbrev pub called_noted : Parts → List (List ℕ) → Result Bool (Reason NoteCase)
-called_noted r names = called_said r.names (first_unnamed r names)
+called_in r names = called_of r.names (first_unnamed r names)
 
 -- ---- the order of a scan chain
-
-abbrev pub order_reason : OrderFault → Reason Case
-order_reason fault = exactly (order_words fault)
-
--- the flip-flops that the lines name
-abbrev pub order_read : Parts → List ℕ → Result (List ℕ) (Reason Case)
-order_read r text = with_reason order_reason (order_in r text)
 
 abbrev pub form_saying : Saying
 form_saying = saying (codes "a line is one name, of visible characters alone") (codes "the key of a flip-flop, or its name as RTL writes it")
@@ -50,23 +34,22 @@ form_saying = saying (codes "a line is one name, of visible characters alone") (
 abbrev pub twice_saying : Saying
 twice_saying = saying (codes "the flip-flop of this line has a line already") (codes "take one of them out")
 
-abbrev pub order_note_reason : Parts → (path text : List ℕ) → OrderFault → Reason NoteCase
-order_note_reason r path text (chain.Line number) = any_of (at_line path text number form_saying)
-order_note_reason r path text (chain.Unknown number) = any_of (at_line path text number (key_saying Flops (flop_keys r) (numbered text number)))
-order_note_reason r path text (chain.Twice number) = any_of (at_line path text number twice_saying)
-order_note_reason r path text chain.NoMemory = exactly []
+-- a fault of a text, which has these words
+abbrev pub order_case : (words : List ℕ) → Parts → (path text : List ℕ) → OrderFault → Case
+order_case words r path text (chain.Line number) = at_line words path text number form_saying
+order_case words r path text (chain.Unknown number) = at_line words path text number (key_saying Flops (flop_keys r) (numbered text number))
+order_case words r path text (chain.Twice number) = at_line words path text number twice_saying
+order_case words r path text chain.NoMemory = stated words []
 
-abbrev pub order_noted : List ℕ → Parts → List ℕ → Result (List ℕ) (Reason NoteCase)
-order_noted path r text = noted_by (order_note_reason r path text) (order_in r text)
+-- why a text is no order
+abbrev pub order_reason : Parts → (path text : List ℕ) → OrderFault → Reason Case
+order_reason r path text fault = any_of (order_case (order_words fault) r path text fault)
+
+-- the flip-flops that the lines name
+abbrev pub order_read : List ℕ → Parts → List ℕ → Result (List ℕ) (Reason Case)
+order_read path r text = with_reason (order_reason r path text) (order_in r text)
 
 -- ---- a pattern
-
-abbrev pub pattern_reason : PatternFault → Reason Case
-pattern_reason fault = exactly (pattern_words fault)
-
--- a bit for each line of the order
-abbrev pub pattern_read : ℕ → List ℕ → Result (List Bool) (Reason Case)
-pattern_read count text = with_reason pattern_reason (pattern_in count text)
 
 abbrev pub bits_text : List ℕ
 bits_text = plain_text (codes "the bits of a pattern are characters 0 and 1 alone, the first one for the first line of the order")
@@ -79,11 +62,13 @@ pattern_text lines pattern.Bits = bits_text
 pattern_text lines (pattern.Width count) = width_text lines count
 pattern_text lines pattern.NoMemory = []
 
-abbrev pub pattern_note_reason : ℕ → PatternFault → Reason NoteCase
-pattern_note_reason lines fault = exactly (pattern_text lines fault)
+-- why bits are no pattern of so many
+abbrev pub pattern_reason : ℕ → PatternFault → Reason Case
+pattern_reason lines fault = any_of (stated (pattern_words fault) (pattern_text lines fault))
 
-abbrev pub pattern_noted : ℕ → List ℕ → Result (List Bool) (Reason NoteCase)
-pattern_noted lines text = noted_by (pattern_note_reason lines) (pattern_in lines text)
+-- a bit for each line of the order
+abbrev pub pattern_read : ℕ → List ℕ → Result (List Bool) (Reason Case)
+pattern_read lines text = with_reason (pattern_reason lines) (pattern_in lines text)
 
 -- the file that a word names behind `@`
 abbrev pub file_in : List ℕ → Option (List ℕ)

@@ -3,11 +3,11 @@ ghost use Rattle.std.specs.Prelude.{◌≡◌, true, map, IfOk};
 ghost use Rattle.bs_outside.specs.Plan.{exactly};
 ghost use Rattle.bs_outside.specs.Diagnostic.{note_refusal, noted, word_refusal, worded};
 ghost use Rattle.bs_outside.specs.Walks.{Reads};
-ghost use Rattle.bs_top_files.specs.NoteCases.{HasNote, NoteSays};
-ghost use Rattle.bs_top_files.specs.Refusals.{CheckSays, HasWords};
+ghost use Rattle.bs_top_files.specs.Causes.{CheckSays, HasNote, NoteSays};
+ghost use Rattle.bs_top_files.specs.Refusals.{HasWords};
 ghost use Rattle.bs_net.specs.Netlist.{parts_of};
 ghost use Rattle.bs_inspect_notes.specs.Names.{net_text};
-ghost use Rattle.bs_inspect_files.specs.Readings.{called_in, called_noted};
+ghost use Rattle.bs_inspect_files.specs.Readings.{called_in};
 ghost use Rattle.bs_inspect_files.specs.FlopWords.{unnamed_words};
 
 use crate::flop_refusals::unnamed_refusal;
@@ -57,7 +57,7 @@ fn unnamed_diagnostic(alloc: Global, net: &Netlist, name: &str) -> Unread
 #[tactic(auto, using(crate::proofs::CalledLemmas::called_words, crate::proofs::CalledLemmas::called_note))]
 pub fn called_or_diagnostic(alloc: Global, net: &Netlist, names: &[&str]) -> Result<(), Unread>
     ensures words { Reads CheckSays (λ _. true) (called_in net.now.raw (map (λ s. s.now) names.now)) (worded result) }
-    ensures note { Reads NoteSays (λ _. true) (called_noted net.now.raw (map (λ s. s.now) names.now)) (noted result) }
+    ensures note { Reads NoteSays (λ _. true) (called_in net.now.raw (map (λ s. s.now) names.now)) (noted result) }
 {
     match first_unnamed(alloc, net, names) {
         Ok(None) => Ok(()),

@@ -2,11 +2,10 @@
 ghost use Rattle.std.specs.Prelude.{◌≡◌, length, map};
 ghost use Rattle.bs_net.specs.Netlist.{circuit};
 ghost use Rattle.bs_outside.specs.Telling.{WalksDiagnosed};
-ghost use Rattle.bs_top_files.specs.NoteCases.{NoteSays};
-ghost use Rattle.bs_top_files.specs.Refusals.{CheckSays};
+ghost use Rattle.bs_top_files.specs.Causes.{CheckSays, NoteSays};
 ghost use Rattle.bs_inspect_files.specs.Taken.{run_files_in};
 ghost use Rattle.bs_inspect_report.specs.Keys.{flop_keys};
-ghost use Rattle.bs_inspect_files.specs.Checked.{all_step, all_step_looked, beside_in, beside_of, checked_in, checked_looked, checked_of, checked_step, checked_step_looked, files_in, named_looked, named_of};
+ghost use Rattle.bs_inspect_files.specs.Checked.{all_step, beside_in, beside_of, checked_in, checked_of, checked_step, files_in, named_of};
 
 use crate::comparing::Beside;
 use crate::counting::count_or_diagnostic;
@@ -46,8 +45,7 @@ fn load_compared<S: Shelf>(
     requires { length run_files.now.runs.runs ≡ length vcds.now }
     ensures { WalksDiagnosed CheckSays NoteSays S.held S.faults S.leads shelf.old shelf.new
         (named_of (flop_keys run_files.now.net.raw) (files_in files.entry).names (beside_of (files_in files.entry) (run_files_in run_files.now)) (map (λ s. s.now) vcds.now))
-        (named_looked (flop_keys run_files.now.net.raw) (files_in files.entry).names (beside_of (files_in files.entry) (run_files_in run_files.now)) (map (λ s. s.now) vcds.now))
-        (λ ms. ms.items) (λ ms. ms.items) result }
+        (λ ms. ms.items) result }
 {
     let beside = Beside {
         net: &run_files.net,
@@ -68,9 +66,7 @@ fn load_all<S: Shelf>(
 ) -> Result<Checked, WalkStop>
     requires { length run_files.runs.runs ≡ length vcds.now }
     ensures { WalksDiagnosed CheckSays NoteSays S.held S.faults S.leads shelf.old shelf.new
-        (all_step (files_in files.entry) (run_files_in run_files) (map (λ s. s.now) vcds.now))
-        (all_step_looked (files_in files.entry) (run_files_in run_files) (map (λ s. s.now) vcds.now))
-        checked_in checked_in result }
+        (all_step (files_in files.entry) (run_files_in run_files) (map (λ s. s.now) vcds.now)) checked_in result }
 {
     match load_compared(alloc, shelf, files, &run_files, vcds) {
         Ok(comparisons) => Ok(Checked {
@@ -93,9 +89,7 @@ fn load_counted<S: Shelf>(
     vcds: &[&str],
 ) -> Result<Checked, WalkStop>
     ensures { WalksDiagnosed CheckSays NoteSays S.held S.faults S.leads shelf.old shelf.new
-        (checked_step (files_in files.entry) (run_files_in run_files) (map (λ s. s.now) vcds.now))
-        (checked_step_looked (files_in files.entry) (run_files_in run_files) (map (λ s. s.now) vcds.now))
-        checked_in checked_in result }
+        (checked_step (files_in files.entry) (run_files_in run_files) (map (λ s. s.now) vcds.now)) checked_in result }
 {
     match settle_diagnostic(
         File::Vcd,
@@ -117,7 +111,7 @@ pub fn load_checked<S: Shelf>(
     vcds: &[&str],
 ) -> Result<Checked, WalkStop>
     ensures { WalksDiagnosed CheckSays NoteSays S.held S.faults S.leads shelf.old shelf.new
-        (checked_of (files_in files.entry) (map (λ s. s.now) vcds.now)) (checked_looked (files_in files.entry) (map (λ s. s.now) vcds.now)) checked_in checked_in result }
+        (checked_of (files_in files.entry) (map (λ s. s.now) vcds.now)) checked_in result }
 {
     match load_run_files(alloc, shelf, files.netlist, files.stimulus) {
         Ok(run_files) => load_counted(alloc, shelf, files, run_files, vcds),

@@ -2,11 +2,10 @@
 ghost use Rattle.std.specs.Prelude.{◌≡◌, ◌<◌, ◌≤◌, ◌+◌, ◌^◌, ◌++◌, ◌∷◌, [], length, map, IfErr, OnOk};
 ghost use Rattle.bs_net.specs.Netlist.{circuit};
 ghost use Rattle.bs_outside.specs.declared.diagnostic.WalkStop.TheVariants.{Plain};
-ghost use Rattle.bs_outside.specs.declared.walk.JobFault.TheVariants.{NoMemory as NoRoom};
+ghost use Rattle.bs_outside.specs.declared.file_fetch.JobFault.TheVariants.{NoMemory as NoRoom};
 ghost use Rattle.bs_outside.specs.Telling.{WalksDiagnosed};
-ghost use Rattle.bs_top_files.specs.NoteCases.{NoteSays};
-ghost use Rattle.bs_top_files.specs.Refusals.{CheckSays};
-ghost use Rattle.bs_inspect_files.specs.Checked.{all_behind, all_behind_looked, all_looked, all_of, beside_in, next_looked, next_of, one_looked, one_of};
+ghost use Rattle.bs_top_files.specs.Causes.{CheckSays, NoteSays};
+ghost use Rattle.bs_inspect_files.specs.Checked.{all_behind, all_of, beside_in, next_of, one_of};
 
 use crate::reading::compared_or_diagnostic;
 use bs_bits::NoMemory;
@@ -41,9 +40,7 @@ fn load_one<'a, S: Shelf>(
     requires there { number ≤ length beside.runs.now.runs }
     requires flops { length names.now < 2 ^ 32 }
     ensures { WalksDiagnosed CheckSays NoteSays S.held S.faults S.leads shelf.old shelf.new
-        (one_of (map (λ k. k.now) keys.now) (map (λ n. n.now) names.now) (beside_in beside.entry) number vcd.now)
-        (one_looked (map (λ k. k.now) keys.now) (map (λ n. n.now) names.now) (beside_in beside.entry) number vcd.now)
-        (λ m. m) (λ m. m) result }
+        (one_of (map (λ k. k.now) keys.now) (map (λ n. n.now) names.now) (beside_in beside.entry) number vcd.now) (λ m. m) result }
 {
     let sampling = Sampling {
         vcd,
@@ -96,8 +93,7 @@ fn load_next<'a, S: Shelf>(
     requires flops { length names.now < 2 ^ 32 }
     ensures walks { WalksDiagnosed CheckSays NoteSays S.held S.faults S.leads shelf.old shelf.new
         (next_of (map (λ k. k.now) keys.now) (map (λ n. n.now) names.now) (beside_in beside.entry) comparisons.old.items vcd.now)
-        (next_looked (map (λ k. k.now) keys.now) (map (λ n. n.now) names.now) (beside_in beside.entry) comparisons.old.items vcd.now)
-        (λ _. comparisons.new.items) (λ _. comparisons.new.items) result }
+        (λ _. comparisons.new.items) result }
     ensures one { OnOk result (length comparisons.new.items ≡ length comparisons.old.items + 1) }
 {
     let _count = beside.runs.count();
@@ -123,8 +119,7 @@ fn load_behind<'a, S: Shelf>(
     requires flops { length names.now < 2 ^ 32 }
     ensures { WalksDiagnosed CheckSays NoteSays S.held S.faults S.leads shelf.old shelf.new
         (all_behind (map (λ k. k.now) keys.now) (map (λ n. n.now) names.now) (beside_in beside.entry) comparisons.old.items (map (λ s. s.now) vcds.now))
-        (all_behind_looked (map (λ k. k.now) keys.now) (map (λ n. n.now) names.now) (beside_in beside.entry) comparisons.old.items (map (λ s. s.now) vcds.now))
-        (λ _. comparisons.new.items) (λ _. comparisons.new.items) result }
+        (λ _. comparisons.new.items) result }
 {
     match vcds.split_first() {
         None => Ok(()),
@@ -149,8 +144,7 @@ pub(crate) fn load_all<'a, S: Shelf>(
     requires flops { length names.now < 2 ^ 32 }
     ensures { WalksDiagnosed CheckSays NoteSays S.held S.faults S.leads shelf.old shelf.new
         (all_of (map (λ k. k.now) keys.now) (map (λ n. n.now) names.now) (beside_in beside.entry) (map (λ s. s.now) vcds.now))
-        (all_looked (map (λ k. k.now) keys.now) (map (λ n. n.now) names.now) (beside_in beside.entry) (map (λ s. s.now) vcds.now))
-        (λ ms. ms.items) (λ ms. ms.items) result }
+        (λ ms. ms.items) result }
 {
     let mut comparisons = Vec::new(alloc);
     match load_behind(alloc, shelf, keys, names, beside, &mut comparisons, vcds) {

@@ -3,9 +3,9 @@ ghost use Rattle.std.specs.Prelude.{◌≡◌, length, map, true, IfOk};
 ghost use Rattle.bs_outside.specs.Plan.{exactly};
 ghost use Rattle.bs_outside.specs.Diagnostic.{note_refusal, noted, word_refusal, worded};
 ghost use Rattle.bs_outside.specs.Walks.{Reads};
-ghost use Rattle.bs_top_files.specs.NoteCases.{HasNote, NoteSays};
-ghost use Rattle.bs_top_files.specs.Refusals.{CheckSays, HasWords};
-ghost use Rattle.bs_inspect_files.specs.VcdReadings.{count_in, count_noted, count_text, count_words};
+ghost use Rattle.bs_top_files.specs.Causes.{CheckSays, HasNote, NoteSays};
+ghost use Rattle.bs_top_files.specs.Refusals.{HasWords};
+ghost use Rattle.bs_inspect_files.specs.VcdReadings.{count_in, count_text, count_words};
 
 use bs_bits::{NoMemory, push_number, push_piece};
 use bs_inspect_values::numbered;
@@ -49,8 +49,8 @@ pub(crate) fn count_or_diagnostic(
     runs: &Runs,
     vcds: &[&str],
 ) -> Result<(), Unread>
-    ensures words { Reads CheckSays (λ _. true) (count_in runs.now (map (λ s. s.now) vcds.now)) (worded result) }
-    ensures note { Reads NoteSays (λ _. true) (count_noted runs.now path.now (map (λ s. s.now) vcds.now)) (noted result) }
+    ensures words { Reads CheckSays (λ _. true) (count_in runs.now path.now (map (λ s. s.now) vcds.now)) (worded result) }
+    ensures note { Reads NoteSays (λ _. true) (count_in runs.now path.now (map (λ s. s.now) vcds.now)) (noted result) }
     ensures same { IfOk result (λ _. length runs.now.runs ≡ length vcds.now) }
 {
     let count = u64::from(runs.count());

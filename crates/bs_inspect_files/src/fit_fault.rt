@@ -2,7 +2,7 @@
 ghost use Rattle.std.specs.Prelude.{◌≡◌, IfOk};
 ghost use Rattle.bs_outside.specs.Plan.{exactly};
 ghost use Rattle.bs_outside.specs.Diagnostic.{note_refusal, word_refusal};
-ghost use Rattle.bs_top_files.specs.NoteCases.{HasNote};
+ghost use Rattle.bs_top_files.specs.Causes.{HasNote};
 ghost use Rattle.bs_top_files.specs.Refusals.{HasWords};
 ghost use Rattle.bs_inspect_files.specs.Fits.{fault_words};
 ghost use Rattle.bs_inspect_files.specs.Saying.{break_text, candidate_text, fault_text};

@@ -4,13 +4,12 @@ ghost use Rattle.bs_net.specs.Netlist.{circuit};
 ghost use Rattle.bs_outside.specs.Plan.{exactly};
 ghost use Rattle.bs_outside.specs.Diagnostic.{note_refusal, noted, word_refusal, worded};
 ghost use Rattle.bs_outside.specs.Walks.{Reads};
-ghost use Rattle.bs_top_files.specs.NoteCases.{HasNote, NoteSays};
-ghost use Rattle.bs_top_files.specs.Refusals.{CheckSays, HasWords};
+ghost use Rattle.bs_top_files.specs.Causes.{CheckSays, HasNote, NoteSays};
+ghost use Rattle.bs_top_files.specs.Refusals.{HasWords};
 ghost use Rattle.bs_inspect_notes.specs.Names.{name_text};
 ghost use Rattle.bs_inspect_report_texts.specs.Fits.{fit_fault};
 ghost use Rattle.bs_inspect_files.specs.Fits.{fit_in, fit_of, is_enough, known_in};
 ghost use Rattle.bs_inspect_values.specs.Saying.{all_keys};
-ghost use Rattle.bs_inspect_files.specs.Saying.{fit_noted, fit_said, known_noted};
 ghost use Rattle.bs_inspect_files.specs.Words.{name_words};
 
 use crate::fit_fault::fault_diagnostic;
@@ -37,8 +36,8 @@ fn fits_or_diagnostic(
     report: &Report,
 ) -> Result<(), Unread>
     requires { length report.now.states ≡ length report.now.inputs + 1 }
-    ensures words { Reads CheckSays (λ _. true) (fit_of (fit_fault net.now.raw report.now)) (worded result) }
-    ensures note { Reads NoteSays (λ _. true) (fit_said path.now (fit_fault net.now.raw report.now)) (noted result) }
+    ensures words { Reads CheckSays (λ _. true) (fit_of path.now (fit_fault net.now.raw report.now)) (worded result) }
+    ensures note { Reads NoteSays (λ _. true) (fit_of path.now (fit_fault net.now.raw report.now)) (noted result) }
     ensures states { IfOk result (λ _. All (λ s. length s ≡ length (circuit net.now).flops) report.now.states) }
     ensures inputs { IfOk result (λ _. All (λ x. length x ≡ length (circuit net.now).inputs) report.now.inputs) }
     ensures fits { IfOk result (λ _. None ≡ fit_fault net.now.raw report.now) }
@@ -58,7 +57,7 @@ fn is_enough(partial: bool, report: &Report) -> bool
 }
 
 /// Whether a report fits a netlist, whose trace may be known in part or not, or the diagnostic of it.
-#[tactic(auto, using(bs_top_files::proofs::NotingLemmas::words_where, bs_top_files::proofs::NotingLemmas::note_where, bs_top_files::proofs::NotingLemmas::words_not, bs_top_files::proofs::NotingLemmas::note_not))]
+#[tactic(auto, using(bs_top_files::proofs::NotingLemmas::reads_where, bs_top_files::proofs::NotingLemmas::words_not, bs_top_files::proofs::NotingLemmas::note_not))]
 pub fn fit_or_diagnostic(
     alloc: Global,
     partial: bool,
@@ -67,8 +66,8 @@ pub fn fit_or_diagnostic(
     report: &Report,
 ) -> Result<(), Unread>
     requires { length report.now.states ≡ length report.now.inputs + 1 }
-    ensures words { Reads CheckSays (λ _. true) (fit_in partial net.now.raw report.now) (worded result) }
-    ensures note { Reads NoteSays (λ _. true) (fit_noted partial path.now net.now.raw report.now) (noted result) }
+    ensures words { Reads CheckSays (λ _. true) (fit_in partial path.now net.now.raw report.now) (worded result) }
+    ensures note { Reads NoteSays (λ _. true) (fit_in partial path.now net.now.raw report.now) (noted result) }
     ensures states { IfOk result (λ _. All (λ s. length s ≡ length (circuit net.now).flops) report.now.states) }
     ensures inputs { IfOk result (λ _. All (λ x. length x ≡ length (circuit net.now).inputs) report.now.inputs) }
     ensures fits { IfOk result (λ _. None ≡ fit_fault net.now.raw report.now) }
@@ -108,7 +107,7 @@ fn unknown_diagnostic(alloc: Global, net: &Netlist, name: &str) -> Unread
 #[tactic(auto, using(crate::proofs::FitLemmas::known_words, crate::proofs::FitLemmas::known_note))]
 pub fn known_or_diagnostic(alloc: Global, net: &Netlist, only: &[&str]) -> Result<(), Unread>
     ensures words { Reads CheckSays (λ _. true) (known_in net.now.raw (map (λ s. s.now) only.now)) (worded result) }
-    ensures note { Reads NoteSays (λ _. true) (known_noted net.now.raw (map (λ s. s.now) only.now)) (noted result) }
+    ensures note { Reads NoteSays (λ _. true) (known_in net.now.raw (map (λ s. s.now) only.now)) (noted result) }
 {
     match first_unknown(alloc, net, only) {
         Ok(None) => Ok(()),

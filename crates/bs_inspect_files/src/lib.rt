@@ -7,14 +7,14 @@
 //! `BenchFiles`, `ReportFiles`, `OneRun`, `Scanned`), `tracing`, `paging` and `loading` (the walks). The
 //! netlist, the report and the stimulus are fetched and read by bs_top_files; an answer of `reach` in place
 //! of a report by bs_top_reach; a simulation's values by bs_inspect_values; what names, an order and a
-//! pattern are is said by bs_inspect_netlist. Used above: `WalksTold CheckSays NoteSays ..` over the two
-//! plans of `specs/Taken`, `specs/Paged` and `specs/FlopFiles`. A refusal: `specs/Words` or
-//! `specs/FlopWords`, its note in `specs/Saying` or `specs/Readings`; a file: its two plans and a walk.
+//! pattern are is said by bs_inspect_netlist. Used above: `WalksDiagnosed CheckSays NoteSays ..` over the
+//! plans of `specs/Taken`, `specs/Paged` and `specs/FlopFiles`. A refusal: its words in `specs/Words`,
+//! `specs/FlopWords` or `specs/Fits`, its note in `specs/Saying` or `specs/Readings`; a file: its plan and a walk.
 //!
 //! Of recorded runs beside a simulation: `counting` (as many VCDs as runs), `reading` (a run beside the text
 //! of its VCD), `comparing` (all runs, one after another), `naming` (the names that the flip-flops have in a
 //! simulation), `checking` (`load_checked`). A VCD is let go before the next one is fetched. Used above:
-//! `WalksDiagnosed CheckSays NoteSays ..` over the two plans of `specs/Checked`.
+//! `WalksDiagnosed CheckSays NoteSays ..` over the plans of `specs/Checked`.
 #![tactic(auto)]
 
 mod called;

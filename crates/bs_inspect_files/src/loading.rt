@@ -3,10 +3,9 @@ ghost use Rattle.std.specs.Prelude.{◌≡◌, map};
 ghost use Rattle.bs_outside.specs.declared.file.File.TheVariants as files;
 ghost use Rattle.bs_outside.specs.Plan.{read_as};
 ghost use Rattle.bs_outside.specs.Telling.{WalksDiagnosed};
-ghost use Rattle.bs_top_files.specs.NoteCases.{NoteSays};
-ghost use Rattle.bs_top_files.specs.Refusals.{CheckSays};
-ghost use Rattle.bs_inspect_files.specs.Readings.{pattern_noted, pattern_read};
-ghost use Rattle.bs_inspect_files.specs.FlopFiles.{bits_file, bits_file_looked, bits_looked, bits_of, chain_step, chain_step_looked, joined_step, joined_step_looked, named_looked, named_of, order_looked, order_of, pattern_step, pattern_step_looked, scanned_in, scanned_looked, scanned_of};
+ghost use Rattle.bs_top_files.specs.Causes.{CheckSays, NoteSays};
+ghost use Rattle.bs_inspect_files.specs.Readings.{pattern_read};
+ghost use Rattle.bs_inspect_files.specs.FlopFiles.{bits_file, bits_of, chain_step, joined_step, named_of, order_of, pattern_step, scanned_in, scanned_of};
 
 use crate::called::called_or_diagnostic;
 use crate::order::order_or_diagnostic;
@@ -29,7 +28,7 @@ pub fn load_named<S: Shelf>(
     names: &[&str],
 ) -> Result<Netlist, WalkStop>
     ensures { WalksDiagnosed CheckSays NoteSays S.held S.faults S.leads shelf.old shelf.new
-        (named_of netlist.now (map (λ s. s.now) names.now)) (named_looked netlist.now (map (λ s. s.now) names.now)) (λ net. net.raw) (λ net. net.raw) result }
+        (named_of netlist.now (map (λ s. s.now) names.now)) (λ net. net.raw) result }
 {
     let net = load_netlist(alloc, shelf, netlist)?;
     let known = called_or_diagnostic(alloc, &net, names);
@@ -50,7 +49,7 @@ fn load_order<S: Shelf>(
     order: &str,
 ) -> Result<Vec<usize>, WalkStop>
     ensures { WalksDiagnosed CheckSays NoteSays S.held S.faults S.leads shelf.old shelf.new
-        (order_of net.now.raw order.now) (order_looked net.now.raw order.now) (λ chain. chain.items) (λ chain. chain.items) result }
+        (order_of net.now.raw order.now) (λ chain. chain.items) result }
 {
     let bytes = fetch_file(alloc, shelf, File::Map, order)?;
     settle_diagnostic(File::Map, order_or_diagnostic(alloc, order, &bytes, net))
@@ -64,7 +63,7 @@ fn load_bits<S: Shelf>(
     lines: usize,
 ) -> Result<Bits, WalkStop>
     ensures { WalksDiagnosed CheckSays NoteSays S.held S.faults S.leads _shelf.old _shelf.new
-        (read_as files.State (pattern_read lines text.now)) (read_as files.State (pattern_noted lines text.now)) (λ bits. bits) (λ bits. bits) result }
+        (read_as files.State (pattern_read lines text.now)) (λ bits. bits) result }
 {
     settle_diagnostic(File::State, pattern_or_diagnostic(alloc, text, lines))
 }
@@ -77,7 +76,7 @@ fn load_joined<S: Shelf>(
     lines: usize,
 ) -> Result<Bits, WalkStop>
     ensures { WalksDiagnosed CheckSays NoteSays S.held S.faults S.leads shelf.old shelf.new
-        (joined_step lines text.now) (joined_step_looked lines text.now) (λ bits. bits) (λ bits. bits) result }
+        (joined_step lines text.now) (λ bits. bits) result }
 {
     match joined(alloc, text) {
         Ok(bits) => load_bits(alloc, shelf, bits.as_slice(), lines),
@@ -93,7 +92,7 @@ fn load_bits_file<S: Shelf>(
     lines: usize,
 ) -> Result<Bits, WalkStop>
     ensures { WalksDiagnosed CheckSays NoteSays S.held S.faults S.leads shelf.old shelf.new
-        (bits_file lines name.now) (bits_file_looked lines name.now) (λ bits. bits) (λ bits. bits) result }
+        (bits_file lines name.now) (λ bits. bits) result }
 {
     let bytes = fetch_file(alloc, shelf, File::Dump, name)?;
     load_joined(alloc, shelf, &bytes, lines)
@@ -107,7 +106,7 @@ fn load_word<S: Shelf>(
     lines: usize,
 ) -> Result<Bits, WalkStop>
     ensures { WalksDiagnosed CheckSays NoteSays S.held S.faults S.leads shelf.old shelf.new
-        (bits_of lines word.now) (bits_looked lines word.now) (λ bits. bits) (λ bits. bits) result }
+        (bits_of lines word.now) (λ bits. bits) result }
 {
     match file_in(word) {
         Some(name) => load_bits_file(alloc, shelf, name, lines),
@@ -124,7 +123,7 @@ fn load_pattern<S: Shelf>(
     pattern: &str,
 ) -> Result<Scanned, WalkStop>
     ensures { WalksDiagnosed CheckSays NoteSays S.held S.faults S.leads shelf.old shelf.new
-        (pattern_step net.raw order.items pattern.now) (pattern_step_looked net.raw order.items pattern.now) scanned_in scanned_in result }
+        (pattern_step net.raw order.items pattern.now) scanned_in result }
 {
     match load_word(alloc, shelf, pattern, order.len()) {
         Ok(bits) => Ok(Scanned {
@@ -149,7 +148,7 @@ fn load_chain<S: Shelf>(
     pattern: &str,
 ) -> Result<Scanned, WalkStop>
     ensures { WalksDiagnosed CheckSays NoteSays S.held S.faults S.leads shelf.old shelf.new
-        (chain_step net.raw order.now pattern.now) (chain_step_looked net.raw order.now pattern.now) scanned_in scanned_in result }
+        (chain_step net.raw order.now pattern.now) scanned_in result }
 {
     match load_order(alloc, shelf, &net, order) {
         Ok(chain) => load_pattern(alloc, shelf, net, chain, pattern),
@@ -170,7 +169,7 @@ pub fn load_scanned<S: Shelf>(
     pattern: &str,
 ) -> Result<Scanned, WalkStop>
     ensures { WalksDiagnosed CheckSays NoteSays S.held S.faults S.leads shelf.old shelf.new
-        (scanned_of netlist.now order.now pattern.now) (scanned_looked netlist.now order.now pattern.now) scanned_in scanned_in result }
+        (scanned_of netlist.now order.now pattern.now) scanned_in result }
 {
     match load_netlist(alloc, shelf, netlist) {
         Ok(net) => load_chain(alloc, shelf, net, order, pattern),

@@ -3,10 +3,9 @@ ghost use Rattle.std.specs.Prelude.{◌≡◌, ◌<◌, ◌≤◌, ◌^◌, leng
 ghost use Rattle.bs_net.specs.Netlist.{circuit};
 ghost use Rattle.bs_outside.specs.declared.limits.TheConstants.{MAX_MAP_BYTES};
 ghost use Rattle.bs_outside.specs.Telling.{WalksDiagnosed};
-ghost use Rattle.bs_top_files.specs.NoteCases.{NoteSays};
-ghost use Rattle.bs_top_files.specs.Refusals.{CheckSays};
+ghost use Rattle.bs_top_files.specs.Causes.{CheckSays, NoteSays};
 ghost use Rattle.bs_inspect_report.specs.Keys.{flop_keys};
-ghost use Rattle.bs_inspect_files.specs.Checked.{all_looked, all_of, beside_in, named_looked, named_of, names_step, names_step_looked};
+ghost use Rattle.bs_inspect_files.specs.Checked.{all_of, beside_in, named_of, names_step};
 
 use crate::comparing::{Beside, load_all};
 use bs_bits::List;
@@ -28,9 +27,7 @@ fn load_keyed<S: Shelf>(
     requires inputs { beside.runs.now.width ≡ length (circuit beside.net.now).inputs }
     requires there { length vcds.now ≤ length beside.runs.now.runs }
     ensures { WalksDiagnosed CheckSays NoteSays S.held S.faults S.leads shelf.old shelf.new
-        (named_of (flop_keys beside.entry.net.now.raw) None (beside_in beside.entry) (map (λ s. s.now) vcds.now))
-        (named_looked (flop_keys beside.entry.net.now.raw) None (beside_in beside.entry) (map (λ s. s.now) vcds.now))
-        (λ ms. ms.items) (λ ms. ms.items) result }
+        (named_of (flop_keys beside.entry.net.now.raw) None (beside_in beside.entry) (map (λ s. s.now) vcds.now)) (λ ms. ms.items) result }
 {
     let _raw = beside.net.raw();
     match flop_bytes(alloc, beside.net) {
@@ -55,9 +52,7 @@ fn load_spelled<S: Shelf>(
     requires there { length vcds.now ≤ length beside.runs.now.runs }
     requires flops { length names.now < 2 ^ 32 }
     ensures { WalksDiagnosed CheckSays NoteSays S.held S.faults S.leads shelf.old shelf.new
-        (all_of (map (λ k. k.now) keys.now) names.now (beside_in beside.entry) (map (λ s. s.now) vcds.now))
-        (all_looked (map (λ k. k.now) keys.now) names.now (beside_in beside.entry) (map (λ s. s.now) vcds.now))
-        (λ ms. ms.items) (λ ms. ms.items) result }
+        (all_of (map (λ k. k.now) keys.now) names.now (beside_in beside.entry) (map (λ s. s.now) vcds.now)) (λ ms. ms.items) result }
 {
     match slices_of(alloc, names) {
         Ok(slices) => {
@@ -83,9 +78,7 @@ fn load_by_names<S: Shelf>(
     requires there { length vcds.now ≤ length beside.runs.now.runs }
     requires flops { length keys.now < 2 ^ 32 }
     ensures { WalksDiagnosed CheckSays NoteSays S.held S.faults S.leads shelf.old shelf.new
-        (names_step (map (λ k. k.now) keys.now) text.now (beside_in beside.entry) (map (λ s. s.now) vcds.now))
-        (names_step_looked path.now (map (λ k. k.now) keys.now) text.now (beside_in beside.entry) (map (λ s. s.now) vcds.now))
-        (λ ms. ms.items) (λ ms. ms.items) result }
+        (names_step path.now (map (λ k. k.now) keys.now) text.now (beside_in beside.entry) (map (λ s. s.now) vcds.now)) (λ ms. ms.items) result }
 {
     match names_or_diagnostic(alloc, Subject::Flops, path, text, keys) {
         Ok(names) => load_spelled(alloc, shelf, keys, &names, beside, vcds),
@@ -107,9 +100,8 @@ fn load_renamed<S: Shelf>(
     requires inputs { beside.runs.now.width ≡ length (circuit beside.net.now).inputs }
     requires there { length vcds.now ≤ length beside.runs.now.runs }
     ensures { WalksDiagnosed CheckSays NoteSays S.held S.faults S.leads shelf.old shelf.new
-        (names_step (flop_keys beside.entry.net.now.raw) text.now (beside_in beside.entry) (map (λ s. s.now) vcds.now))
-        (names_step_looked path.now (flop_keys beside.entry.net.now.raw) text.now (beside_in beside.entry) (map (λ s. s.now) vcds.now))
-        (λ ms. ms.items) (λ ms. ms.items) result }
+        (names_step path.now (flop_keys beside.entry.net.now.raw) text.now (beside_in beside.entry) (map (λ s. s.now) vcds.now))
+        (λ ms. ms.items) result }
 {
     let _raw = beside.net.raw();
     match flop_bytes(alloc, beside.net) {
@@ -132,9 +124,7 @@ fn load_mapped<S: Shelf>(
     requires inputs { beside.runs.now.width ≡ length (circuit beside.net.now).inputs }
     requires there { length vcds.now ≤ length beside.runs.now.runs }
     ensures { WalksDiagnosed CheckSays NoteSays S.held S.faults S.leads shelf.old shelf.new
-        (named_of (flop_keys beside.entry.net.now.raw) (Some file.now) (beside_in beside.entry) (map (λ s. s.now) vcds.now))
-        (named_looked (flop_keys beside.entry.net.now.raw) (Some file.now) (beside_in beside.entry) (map (λ s. s.now) vcds.now))
-        (λ ms. ms.items) (λ ms. ms.items) result }
+        (named_of (flop_keys beside.entry.net.now.raw) (Some file.now) (beside_in beside.entry) (map (λ s. s.now) vcds.now)) (λ ms. ms.items) result }
 {
     let bytes = fetch_file(alloc, shelf, File::Map, file)?;
     load_renamed(alloc, shelf, file, &bytes, beside, vcds)
@@ -152,8 +142,7 @@ pub(crate) fn load_named<S: Shelf>(
     requires there { length vcds.now ≤ length beside.runs.now.runs }
     ensures { WalksDiagnosed CheckSays NoteSays S.held S.faults S.leads shelf.old shelf.new
         (named_of (flop_keys beside.entry.net.now.raw) (option_map (λ s. s.now) names.entry) (beside_in beside.entry) (map (λ s. s.now) vcds.now))
-        (named_looked (flop_keys beside.entry.net.now.raw) (option_map (λ s. s.now) names.entry) (beside_in beside.entry) (map (λ s. s.now) vcds.now))
-        (λ ms. ms.items) (λ ms. ms.items) result }
+        (λ ms. ms.items) result }
 {
     match names {
         Some(file) => load_mapped(alloc, shelf, file, beside, vcds),

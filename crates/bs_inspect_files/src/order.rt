@@ -1,14 +1,14 @@
 //! The order of a scan chain, or the diagnostic of its text.
 ghost use Rattle.std.specs.Prelude.{◌≡◌, IfOk};
 ghost use Rattle.bs_note_files.specs.Notes.{said};
-ghost use Rattle.bs_outside.specs.declared.walk.Refusal.TheVariants.{NoMemory as Want};
+ghost use Rattle.bs_outside.specs.declared.file_fetch.Refusal.TheVariants.{NoMemory as Want};
 ghost use Rattle.bs_outside.specs.Plan.{Says};
 ghost use Rattle.bs_outside.specs.Diagnostic.{note_refusal, noted, word_refusal, worded};
 ghost use Rattle.bs_outside.specs.Walks.{Reads};
-ghost use Rattle.bs_top_files.specs.NoteCases.{HasNote, IsNoteAtLine, NoteSays};
-ghost use Rattle.bs_top_files.specs.Refusals.{CheckSays, HasWords};
+ghost use Rattle.bs_top_files.specs.Causes.{CheckSays, HasNote, IsNoteAtLine, NoteSays};
+ghost use Rattle.bs_top_files.specs.Refusals.{HasWords};
 ghost use Rattle.bs_inspect_netlist.specs.declared.fault.OrderFault.TheVariants.{NoMemory as OrderWant};
-ghost use Rattle.bs_inspect_files.specs.Readings.{form_saying, order_note_reason, order_noted, order_read, twice_saying};
+ghost use Rattle.bs_inspect_files.specs.Readings.{form_saying, order_read, order_reason, twice_saying};
 ghost use Rattle.bs_inspect_notes.specs.declared.name.Subject.TheVariants.{Flops};
 ghost use Rattle.bs_inspect_notes.specs.Names.{key_saying, numbered};
 ghost use Rattle.bs_inspect_report.specs.Keys.{flop_keys};
@@ -22,7 +22,7 @@ use bs_inspect_values::{flop_bytes, key_note};
 use bs_net::Netlist;
 use bs_note_files::Message;
 use bs_outside::{Unread, both};
-use bs_top_reach::line_note;
+use bs_reach_answer::line_note;
 use std::alloc::Global;
 
 /// What is said of a line that is no name.
@@ -87,7 +87,7 @@ fn order_note(
     text: &[u8],
     fault: OrderFault,
 ) -> Result<Vec<u8>, NoMemory>
-    ensures { IfOk result (λ note. Says NoteSays (order_note_reason net.now.raw path.now text.now fault) note.items) }
+    ensures { IfOk result (λ note. Says NoteSays (order_reason net.now.raw path.now text.now fault) note.items) }
 {
     match fault {
         OrderFault::Line(number) => form_note(alloc, path, text, number),
@@ -108,7 +108,7 @@ fn order_diagnostic(
 ) -> Unread
     ensures words { HasWords (order_words fault) (word_refusal result) }
     ensures want { fault ≡ OrderWant → word_refusal result ≡ Want }
-    ensures note { HasNote (order_note_reason net.now.raw path.now text.now fault) (note_refusal result) }
+    ensures note { HasNote (order_reason net.now.raw path.now text.now fault) (note_refusal result) }
     ensures none { fault ≡ OrderWant → note_refusal result ≡ Want }
 {
     let words = order_refusal(alloc, fault);
@@ -123,8 +123,8 @@ pub fn order_or_diagnostic(
     text: &[u8],
     net: &Netlist,
 ) -> Result<Vec<usize>, Unread>
-    ensures words { Reads CheckSays (λ order. order.items) (order_read net.now.raw text.now) (worded result) }
-    ensures note { Reads NoteSays (λ order. order.items) (order_noted path.now net.now.raw text.now) (noted result) }
+    ensures words { Reads CheckSays (λ order. order.items) (order_read path.now net.now.raw text.now) (worded result) }
+    ensures note { Reads NoteSays (λ order. order.items) (order_read path.now net.now.raw text.now) (noted result) }
 {
     match read_order(alloc, net, text) {
         Ok(order) => Ok(order),

@@ -1,9 +1,8 @@
 //! The walk over the files of a page: each file is fetched and read once, up to the first that stops the walk.
 ghost use Rattle.std.specs.Prelude.{◌≡◌, None, Some, map, option_map};
 ghost use Rattle.bs_outside.specs.Telling.{WalksDiagnosed};
-ghost use Rattle.bs_top_files.specs.NoteCases.{NoteSays};
-ghost use Rattle.bs_top_files.specs.Refusals.{CheckSays};
-ghost use Rattle.bs_inspect_files.specs.Paged.{chosen_step, chosen_step_looked, known_step, known_step_looked, page_files_in, page_files_looked, page_files_of, picked_step, picked_step_looked, signed_step, signed_step_looked};
+ghost use Rattle.bs_top_files.specs.Causes.{CheckSays, NoteSays};
+ghost use Rattle.bs_inspect_files.specs.Paged.{chosen_step, known_step, page_files_in, page_files_of, picked_step, signed_step};
 ghost use Rattle.bs_inspect_files.specs.Taken.{trace_files_in};
 
 use crate::fits::known_or_diagnostic;
@@ -26,7 +25,7 @@ fn load_known<S: Shelf>(
     only: &[&str],
 ) -> Result<TraceFiles, WalkStop>
     ensures { WalksDiagnosed CheckSays NoteSays S.held S.faults S.leads _shelf.old _shelf.new
-        (known_step (map (λ s. s.now) only.now) (trace_files_in trace_files)) (known_step_looked (map (λ s. s.now) only.now) (trace_files_in trace_files)) trace_files_in trace_files_in result }
+        (known_step (map (λ s. s.now) only.now) (trace_files_in trace_files)) trace_files_in result }
 {
     let known = known_or_diagnostic(alloc, &trace_files.net, only);
     match settle_diagnostic(File::Name, known) {
@@ -47,7 +46,7 @@ fn load_picked_report<S: Shelf>(
     only: &[&str],
 ) -> Result<TraceFiles, WalkStop>
     ensures { WalksDiagnosed CheckSays NoteSays S.held S.faults S.leads shelf.old shelf.new
-        (picked_step net.raw report.now (map (λ s. s.now) only.now)) (picked_step_looked net.raw report.now (map (λ s. s.now) only.now)) trace_files_in trace_files_in result }
+        (picked_step net.raw report.now (map (λ s. s.now) only.now)) trace_files_in result }
 {
     match load_reported(alloc, shelf, false, net, report) {
         Ok(trace_files) => load_known(alloc, shelf, trace_files, only),
@@ -64,7 +63,7 @@ fn load_plain<S: Shelf>(
     only: &[&str],
 ) -> Result<PageFiles, WalkStop>
     ensures { WalksDiagnosed CheckSays NoteSays S.held S.faults S.leads shelf.old shelf.new
-        (chosen_step net.raw None report.now (map (λ s. s.now) only.now)) (chosen_step_looked net.raw None report.now (map (λ s. s.now) only.now)) page_files_in page_files_in result }
+        (chosen_step net.raw None report.now (map (λ s. s.now) only.now)) page_files_in result }
 {
     match load_picked_report(alloc, shelf, net, report, only) {
         Ok(trace_files) => Ok(PageFiles {
@@ -85,7 +84,7 @@ fn load_chosen<S: Shelf>(
     only: &[&str],
 ) -> Result<PageFiles, WalkStop>
     ensures { WalksDiagnosed CheckSays NoteSays S.held S.faults S.leads shelf.old shelf.new
-        (chosen_step net.raw (Some choice) report.now (map (λ s. s.now) only.now)) (chosen_step_looked net.raw (Some choice) report.now (map (λ s. s.now) only.now)) page_files_in page_files_in result }
+        (chosen_step net.raw (Some choice) report.now (map (λ s. s.now) only.now)) page_files_in result }
 {
     match load_picked_report(alloc, shelf, net, report, only) {
         Ok(trace_files) => Ok(PageFiles {
@@ -109,7 +108,7 @@ fn load_by_signature<S: Shelf>(
     only: &[&str],
 ) -> Result<PageFiles, WalkStop>
     ensures { WalksDiagnosed CheckSays NoteSays S.held S.faults S.leads shelf.old shelf.new
-        (signed_step net.raw (Some file.now) report.now (map (λ s. s.now) only.now)) (signed_step_looked net.raw (Some file.now) report.now (map (λ s. s.now) only.now)) page_files_in page_files_in result }
+        (signed_step net.raw (Some file.now) report.now (map (λ s. s.now) only.now)) page_files_in result }
 {
     match load_signature(alloc, shelf, file, &net) {
         Ok(choice) => load_chosen(alloc, shelf, net, choice, report, only),
@@ -130,7 +129,7 @@ fn load_signed<S: Shelf>(
     only: &[&str],
 ) -> Result<PageFiles, WalkStop>
     ensures { WalksDiagnosed CheckSays NoteSays S.held S.faults S.leads shelf.old shelf.new
-        (signed_step net.raw (option_map (λ s. s.now) signature.entry) report.now (map (λ s. s.now) only.now)) (signed_step_looked net.raw (option_map (λ s. s.now) signature.entry) report.now (map (λ s. s.now) only.now)) page_files_in page_files_in result }
+        (signed_step net.raw (option_map (λ s. s.now) signature.entry) report.now (map (λ s. s.now) only.now)) page_files_in result }
 {
     match signature {
         Some(file) => load_by_signature(alloc, shelf, net, file, report, only),
@@ -148,7 +147,7 @@ pub fn load_page_files<S: Shelf>(
     only: &[&str],
 ) -> Result<PageFiles, WalkStop>
     ensures { WalksDiagnosed CheckSays NoteSays S.held S.faults S.leads shelf.old shelf.new
-        (page_files_of netlist.now (option_map (λ s. s.now) signature.entry) report.now (map (λ s. s.now) only.now)) (page_files_looked netlist.now (option_map (λ s. s.now) signature.entry) report.now (map (λ s. s.now) only.now)) page_files_in page_files_in result }
+        (page_files_of netlist.now (option_map (λ s. s.now) signature.entry) report.now (map (λ s. s.now) only.now)) page_files_in result }
 {
     match load_netlist(alloc, shelf, netlist) {
         Ok(net) => load_signed(alloc, shelf, net, signature, report, only),

@@ -1,14 +1,14 @@
 //! The pattern of a scan chain, or the diagnostic of its bits.
 ghost use Rattle.std.specs.Prelude.{◌≡◌, ◌++◌, ◌∷◌, [], not, IfOk, OnOk, if◌then◌else◌};
 ghost use Rattle.std.specs.Option.{option_copied};
-ghost use Rattle.bs_outside.specs.declared.walk.Refusal.TheVariants.{NoMemory as Want};
+ghost use Rattle.bs_outside.specs.declared.file_fetch.Refusal.TheVariants.{NoMemory as Want};
 ghost use Rattle.bs_outside.specs.Plan.{exactly};
 ghost use Rattle.bs_outside.specs.Diagnostic.{note_refusal, noted, word_refusal, worded};
 ghost use Rattle.bs_outside.specs.Walks.{Reads};
-ghost use Rattle.bs_top_files.specs.NoteCases.{HasNote, NoteSays};
-ghost use Rattle.bs_top_files.specs.Refusals.{CheckSays, HasWords};
+ghost use Rattle.bs_top_files.specs.Causes.{CheckSays, HasNote, NoteSays};
+ghost use Rattle.bs_top_files.specs.Refusals.{HasWords};
 ghost use Rattle.bs_inspect_netlist.specs.declared.fault.PatternFault.TheVariants.{NoMemory as PatternWant};
-ghost use Rattle.bs_inspect_files.specs.Readings.{bits_text, file_in, is_white, joined, pattern_noted, pattern_read, pattern_text, width_text};
+ghost use Rattle.bs_inspect_files.specs.Readings.{bits_text, file_in, is_white, joined, pattern_read, pattern_text, width_text};
 ghost use Rattle.bs_inspect_files.specs.FlopWords.{pattern_words};
 
 use crate::flop_refusals::pattern_refusal;
@@ -67,7 +67,7 @@ fn pattern_diagnostic(alloc: Global, lines: usize, fault: PatternFault) -> Unrea
 /// A pattern of a scan chain in an order of so many lines, or the diagnostic of its bits.
 pub fn pattern_or_diagnostic(alloc: Global, text: &[u8], lines: usize) -> Result<Bits, Unread>
     ensures words { Reads CheckSays (λ bits. bits) (pattern_read lines text.now) (worded result) }
-    ensures note { Reads NoteSays (λ bits. bits) (pattern_noted lines text.now) (noted result) }
+    ensures note { Reads NoteSays (λ bits. bits) (pattern_read lines text.now) (noted result) }
 {
     match read_pattern(alloc, text, lines) {
         Ok(bits) => Ok(bits),

@@ -7,9 +7,8 @@ ghost use Rattle.bs_inspect_check.specs.Comparison.{compared_in};
 ghost use Rattle.bs_outside.specs.declared.limits.TheConstants.{MAX_VCD_BYTES};
 ghost use Rattle.bs_outside.specs.Diagnostic.{noted, worded};
 ghost use Rattle.bs_outside.specs.Walks.{Reads};
-ghost use Rattle.bs_top_files.specs.NoteCases.{NoteSays};
-ghost use Rattle.bs_top_files.specs.Refusals.{CheckSays};
-ghost use Rattle.bs_inspect_files.specs.VcdReadings.{compared_noted, compared_read};
+ghost use Rattle.bs_top_files.specs.Causes.{CheckSays, NoteSays};
+ghost use Rattle.bs_inspect_files.specs.VcdReadings.{compared_read};
 
 use bs_inspect_check::{Comparison, RunOf, compare};
 use bs_inspect_notes::Subject;
@@ -54,7 +53,7 @@ pub(crate) fn compared_or_diagnostic(
     requires short { length text.now ≤ MAX_VCD_BYTES }
     requires flops { length names.now < 2 ^ 32 }
     ensures words { Reads CheckSays (λ m. m) (compared_read run.entry.net.now.raw run.entry.runs.now run.entry.number sampling.entry.vcd.now (map (λ k. k.now) keys.now) (map (λ n. n.now) names.now) (option_map (λ s. s.now) sampling.entry.scope) sampling.entry.clock.now text.now) (worded result) }
-    ensures note { Reads NoteSays (λ m. m) (compared_noted run.entry.net.now.raw run.entry.runs.now run.entry.number sampling.entry.vcd.now (map (λ k. k.now) keys.now) (map (λ n. n.now) names.now) (option_map (λ s. s.now) sampling.entry.scope) sampling.entry.clock.now text.now) (noted result) }
+    ensures note { Reads NoteSays (λ m. m) (compared_read run.entry.net.now.raw run.entry.runs.now run.entry.number sampling.entry.vcd.now (map (λ k. k.now) keys.now) (map (λ n. n.now) names.now) (option_map (λ s. s.now) sampling.entry.scope) sampling.entry.clock.now text.now) (noted result) }
 {
     match compared(alloc, run, text, names, sampling) {
         Ok(comparison) => Ok(comparison),

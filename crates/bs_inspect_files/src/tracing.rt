@@ -2,22 +2,21 @@
 ghost use Rattle.std.specs.Prelude.{◌≡◌, ◌+◌, length, map};
 ghost use Rattle.bs_net.specs.Netlist.{circuit};
 ghost use Rattle.bs_outside.specs.Telling.{WalksDiagnosed};
-ghost use Rattle.bs_top_files.specs.NoteCases.{NoteSays};
-ghost use Rattle.bs_top_files.specs.Refusals.{CheckSays};
-ghost use Rattle.bs_inspect_files.specs.Taken.{bench_files_in, bench_files_looked, bench_files_of, chart_step, chart_step_looked, charted_looked, charted_of, one_run_in, one_run_looked, one_run_of, drawn_step, drawn_step_looked, drive_step, drive_step_looked, driven_step, driven_step_looked, run_files_in, run_files_looked, run_files_of, picked_looked, picked_of, choice_step, choice_step_looked, fit_step, fit_step_looked, report_files_in, report_files_looked, report_files_of, report_files_step, report_files_step_looked, report_step, report_step_looked, runs_step, runs_step_looked, trace_files_in, trace_files_looked, trace_files_of};
+ghost use Rattle.bs_top_files.specs.Causes.{CheckSays, NoteSays};
+ghost use Rattle.bs_inspect_files.specs.Taken.{bench_files_in, bench_files_of, chart_step, charted_of, choice_step, drawn_step, drive_step, driven_step, fit_step, one_run_in, one_run_of, picked_of, report_files_in, report_files_of, report_files_step, report_step, run_files_in, run_files_of, runs_step, trace_files_in, trace_files_of};
 
 use crate::called::called_or_diagnostic;
 use crate::fits::{fit_or_diagnostic, known_or_diagnostic};
 use crate::ready::{BenchFiles, OneRun, ReportFiles, RunFiles, TraceFiles};
 use bs_net::Netlist;
 use bs_outside::{File, Shelf, WalkStop, settle_diagnostic};
+use bs_reach_answer::load_trace;
 use bs_report::Report;
 use bs_scan::Choice;
 use bs_top_files::{
     load_netlist, load_report, load_signature, load_stimulus, moment_or_diagnostic,
     size_or_diagnostic,
 };
-use bs_top_reach::load_trace;
 use std::alloc::Global;
 
 /// Drops a value, which a walk that stops lets go.
@@ -34,7 +33,7 @@ fn load_fitting<S: Shelf>(
 ) -> Result<TraceFiles, WalkStop>
     requires { length report.states ≡ length report.inputs + 1 }
     ensures { WalksDiagnosed CheckSays NoteSays S.held S.faults S.leads _shelf.old _shelf.new
-        (fit_step partial net.raw report) (fit_step_looked partial path.now net.raw report) trace_files_in trace_files_in result }
+        (fit_step partial path.now net.raw report) trace_files_in result }
 {
     let fits = fit_or_diagnostic(alloc, partial, path, &net, &report);
     match settle_diagnostic(File::Report, fits) {
@@ -57,7 +56,7 @@ pub(crate) fn load_reported<S: Shelf>(
     path: &str,
 ) -> Result<TraceFiles, WalkStop>
     ensures { WalksDiagnosed CheckSays NoteSays S.held S.faults S.leads shelf.old shelf.new
-        (report_step partial net.raw path.now) (report_step_looked partial net.raw path.now) trace_files_in trace_files_in result }
+        (report_step partial net.raw path.now) trace_files_in result }
 {
     match load_trace(alloc, shelf, path) {
         Ok(report) => load_fitting(alloc, shelf, partial, net, report, path),
@@ -77,7 +76,7 @@ fn load_trace_files<S: Shelf>(
     report: &str,
 ) -> Result<TraceFiles, WalkStop>
     ensures { WalksDiagnosed CheckSays NoteSays S.held S.faults S.leads shelf.old shelf.new
-        (trace_files_of partial netlist.now report.now) (trace_files_looked partial netlist.now report.now) trace_files_in trace_files_in result }
+        (trace_files_of partial netlist.now report.now) trace_files_in result }
 {
     match load_netlist(alloc, shelf, netlist) {
         Ok(net) => load_reported(alloc, shelf, partial, net, report),
@@ -94,8 +93,7 @@ pub fn load_picked<S: Shelf>(
     only: &[&str],
 ) -> Result<TraceFiles, WalkStop>
     ensures { WalksDiagnosed CheckSays NoteSays S.held S.faults S.leads shelf.old shelf.new
-        (picked_of netlist.now report.now (map (λ s. s.now) only.now)) (picked_looked netlist.now report.now (map (λ s. s.now) only.now))
-        trace_files_in trace_files_in result }
+        (picked_of netlist.now report.now (map (λ s. s.now) only.now)) trace_files_in result }
 {
     let trace_files = load_trace_files(alloc, shelf, true, netlist, report)?;
     let known = known_or_diagnostic(alloc, &trace_files.net, only);
@@ -116,7 +114,7 @@ fn load_drawn<S: Shelf>(
     only: &[&str],
 ) -> Result<TraceFiles, WalkStop>
     ensures { WalksDiagnosed CheckSays NoteSays S.held S.faults S.leads _shelf.old _shelf.new
-        (drawn_step (map (λ s. s.now) only.now) (trace_files_in trace_files)) (drawn_step_looked (map (λ s. s.now) only.now) (trace_files_in trace_files)) trace_files_in trace_files_in result }
+        (drawn_step (map (λ s. s.now) only.now) (trace_files_in trace_files)) trace_files_in result }
 {
     match settle_diagnostic(
         File::Name,
@@ -139,7 +137,7 @@ fn load_small<S: Shelf>(
     only: &[&str],
 ) -> Result<TraceFiles, WalkStop>
     ensures { WalksDiagnosed CheckSays NoteSays S.held S.faults S.leads shelf.old shelf.new
-        (chart_step (map (λ s. s.now) only.now) (trace_files_in trace_files)) (chart_step_looked path.now (map (λ s. s.now) only.now) (trace_files_in trace_files)) trace_files_in trace_files_in result }
+        (chart_step path.now (map (λ s. s.now) only.now) (trace_files_in trace_files)) trace_files_in result }
 {
     let size = size_or_diagnostic(alloc, path, &trace_files.net, &trace_files.report);
     match settle_diagnostic(File::Report, size) {
@@ -160,8 +158,7 @@ pub fn load_charted<S: Shelf>(
     only: &[&str],
 ) -> Result<TraceFiles, WalkStop>
     ensures { WalksDiagnosed CheckSays NoteSays S.held S.faults S.leads shelf.old shelf.new
-        (charted_of netlist.now report.now (map (λ s. s.now) only.now)) (charted_looked netlist.now report.now (map (λ s. s.now) only.now))
-        trace_files_in trace_files_in result }
+        (charted_of netlist.now report.now (map (λ s. s.now) only.now)) trace_files_in result }
 {
     match load_trace_files(alloc, shelf, false, netlist, report) {
         Ok(trace_files) => load_small(alloc, shelf, trace_files, report, only),
@@ -177,7 +174,7 @@ fn load_runs<S: Shelf>(
     runs: &str,
 ) -> Result<RunFiles, WalkStop>
     ensures { WalksDiagnosed CheckSays NoteSays S.held S.faults S.leads shelf.old shelf.new
-        (runs_step net.raw runs.now) (runs_step_looked net.raw runs.now) run_files_in run_files_in result }
+        (runs_step net.raw runs.now) run_files_in result }
 {
     match load_stimulus(alloc, shelf, runs, &net) {
         Ok(runs) => Ok(RunFiles { net, runs }),
@@ -196,7 +193,7 @@ pub fn load_run_files<S: Shelf>(
     runs: &str,
 ) -> Result<RunFiles, WalkStop>
     ensures { WalksDiagnosed CheckSays NoteSays S.held S.faults S.leads shelf.old shelf.new
-        (run_files_of netlist.now runs.now) (run_files_looked netlist.now runs.now) run_files_in run_files_in result }
+        (run_files_of netlist.now runs.now) run_files_in result }
 {
     match load_netlist(alloc, shelf, netlist) {
         Ok(net) => load_runs(alloc, shelf, net, runs),
@@ -214,7 +211,7 @@ fn load_list<S: Shelf>(
 ) -> Result<ReportFiles, WalkStop>
     requires { choice.width ≡ length (circuit net).flops }
     ensures { WalksDiagnosed CheckSays NoteSays S.held S.faults S.leads shelf.old shelf.new
-        (report_files_step net.raw choice report.now) (report_files_step_looked net.raw choice report.now) report_files_in report_files_in result }
+        (report_files_step net.raw choice report.now) report_files_in result }
 {
     match load_report(alloc, shelf, report) {
         Ok(report) => Ok(ReportFiles {
@@ -239,7 +236,7 @@ fn load_choice<S: Shelf>(
     report: &str,
 ) -> Result<ReportFiles, WalkStop>
     ensures { WalksDiagnosed CheckSays NoteSays S.held S.faults S.leads shelf.old shelf.new
-        (choice_step net.raw signature.now report.now) (choice_step_looked net.raw signature.now report.now) report_files_in report_files_in result }
+        (choice_step net.raw signature.now report.now) report_files_in result }
 {
     match load_signature(alloc, shelf, signature, &net) {
         Ok(choice) => load_list(alloc, shelf, net, choice, report),
@@ -259,7 +256,7 @@ pub fn load_report_files<S: Shelf>(
     report: &str,
 ) -> Result<ReportFiles, WalkStop>
     ensures { WalksDiagnosed CheckSays NoteSays S.held S.faults S.leads shelf.old shelf.new
-        (report_files_of netlist.now signature.now report.now) (report_files_looked netlist.now signature.now report.now) report_files_in report_files_in result }
+        (report_files_of netlist.now signature.now report.now) report_files_in result }
 {
     match load_netlist(alloc, shelf, netlist) {
         Ok(net) => load_choice(alloc, shelf, net, signature, report),
@@ -276,7 +273,7 @@ pub fn load_one_run<S: Shelf>(
     run: u64,
 ) -> Result<OneRun, WalkStop>
     ensures { WalksDiagnosed CheckSays NoteSays S.held S.faults S.leads shelf.old shelf.new
-        (one_run_of netlist.now runs.now run) (one_run_looked netlist.now runs.now run) one_run_in one_run_in result }
+        (one_run_of netlist.now runs.now run) one_run_in result }
 {
     let run_files = load_run_files(alloc, shelf, netlist, runs)?;
     match settle_diagnostic(
@@ -301,7 +298,7 @@ fn load_driven<S: Shelf>(
 ) -> Result<BenchFiles, WalkStop>
     requires { length report.states ≡ length report.inputs + 1 }
     ensures { WalksDiagnosed CheckSays NoteSays S.held S.faults S.leads _shelf.old _shelf.new
-        (driven_step (run_files_in run_files) report) (driven_step_looked path.now (run_files_in run_files) report) bench_files_in bench_files_in result }
+        (driven_step path.now (run_files_in run_files) report) bench_files_in result }
 {
     let fits = fit_or_diagnostic(alloc, false, path, &run_files.net, &report);
     match settle_diagnostic(File::Report, fits) {
@@ -322,7 +319,7 @@ fn load_driving<S: Shelf>(
     path: &str,
 ) -> Result<BenchFiles, WalkStop>
     ensures { WalksDiagnosed CheckSays NoteSays S.held S.faults S.leads shelf.old shelf.new
-        (drive_step (run_files_in run_files) path.now) (drive_step_looked (run_files_in run_files) path.now) bench_files_in bench_files_in result }
+        (drive_step (run_files_in run_files) path.now) bench_files_in result }
 {
     match load_trace(alloc, shelf, path) {
         Ok(report) => load_driven(alloc, shelf, run_files, report, path),
@@ -342,7 +339,7 @@ pub fn load_bench_files<S: Shelf>(
     report: &str,
 ) -> Result<BenchFiles, WalkStop>
     ensures { WalksDiagnosed CheckSays NoteSays S.held S.faults S.leads shelf.old shelf.new
-        (bench_files_of netlist.now runs.now report.now) (bench_files_looked netlist.now runs.now report.now) bench_files_in bench_files_in result }
+        (bench_files_of netlist.now runs.now report.now) bench_files_in result }
 {
     match load_run_files(alloc, shelf, netlist, runs) {
         Ok(run_files) => load_driving(alloc, shelf, run_files, report),

@@ -9,11 +9,12 @@ use bs_bits::NoMemory;
 use bs_net::NetId;
 
 /// From how many sources on none is tried to be left out.
+/// Each try goes over the gates once more.
 const MAX_SOURCES: usize = 200;
 
 /// Sources that decide the bits of a block.
 #[derive(Drop)]
-pub(crate) struct Choice {
+pub(crate) struct ChosenSources {
     /// The sources, by ascending numbers, without the block's own nets where they are free.
     pub(crate) nets: Vec<NetId>,
     /// Whether there are free ones beside them.
@@ -48,7 +49,11 @@ fn is_needed(desk: &mut Desk<'_>, gates: &[usize], net: NetId) -> bool {
 
 /// Leaves out each source without which all bits are decided, one after another, unless there are too many. The block's own nets are not
 /// tried where they are free.
-fn leave_out(desk: &mut Desk<'_>, gates: &[usize], sources: &[NetId]) -> Result<Choice, NoMemory> {
+fn leave_out(
+    desk: &mut Desk<'_>,
+    gates: &[usize],
+    sources: &[NetId],
+) -> Result<ChosenSources, NoMemory> {
     let mut nets = Vec::new(desk.site.alloc);
     let mut own = false;
     'sources: for net in sources {
@@ -58,11 +63,11 @@ fn leave_out(desk: &mut Desk<'_>, gates: &[usize], sources: &[NetId]) -> Result<
             nets.push(*net)?;
         }
     }
-    Ok(Choice { nets, own })
+    Ok(ChosenSources { nets, own })
 }
 
 /// Leaves out sources, and notes which gates are needed. What is known are then the sources that are left.
-fn lessen(desk: &mut Desk<'_>, sources: &[NetId]) -> Result<Choice, NoMemory> {
+fn lessen(desk: &mut Desk<'_>, sources: &[NetId]) -> Result<ChosenSources, NoMemory> {
     let site = desk.site;
     put_nets(&mut desk.given, sources, true);
     know_by_given(desk, site.fanin);
@@ -77,7 +82,7 @@ fn lessen(desk: &mut Desk<'_>, sources: &[NetId]) -> Result<Choice, NoMemory> {
 
 /// Sources of the fan-in that decide the bits at a cycle, or what their flip-flops load there. None can be left out. Where the block's
 /// own nets are free they cost nothing.
-pub(crate) fn choose(desk: &mut Desk<'_>) -> Result<Choice, NoMemory> {
+pub(crate) fn choose(desk: &mut Desk<'_>) -> Result<ChosenSources, NoMemory> {
     know_by_trace(desk);
     let sources = cheapest_sources(desk)?;
     let choice = lessen(desk, sources.as_slice());

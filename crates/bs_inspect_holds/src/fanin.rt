@@ -1,7 +1,7 @@
 //! The nets below some nets, down to where a cone ends.
 
 use crate::driver::Driver;
-use crate::scene::Scene;
+use crate::scene::TraceScene;
 use crate::tables::{flag, put};
 use bs_bits::NoMemory;
 use bs_net::NetId;
@@ -24,7 +24,7 @@ pub(crate) struct Fanin {
 
 impl Fanin {
     /// The place of a net's gate in the netlist's order, unless the cone ends at the net.
-    pub(crate) fn gate(&self, scene: &Scene<'_>, net: NetId) -> Option<usize> {
+    pub(crate) fn gate(&self, scene: &TraceScene<'_>, net: NetId) -> Option<usize> {
         if flag(self.ends.as_slice(), net) {
             return None;
         }
@@ -47,7 +47,7 @@ fn reach(fanin: &mut Fanin, nets: &[NetId]) -> Result<(), NoMemory> {
 }
 
 /// Puts in what is below a net, unless the cone ends there.
-fn visit(scene: &Scene<'_>, fanin: &mut Fanin, net: NetId) -> Result<(), NoMemory> {
+fn visit(scene: &TraceScene<'_>, fanin: &mut Fanin, net: NetId) -> Result<(), NoMemory> {
     let Some(place) = fanin.gate(scene, net) else {
         fanin.leaves.push(net)?;
         return Ok(());
@@ -60,7 +60,7 @@ fn visit(scene: &Scene<'_>, fanin: &mut Fanin, net: NetId) -> Result<(), NoMemor
 }
 
 /// Puts in some nets, and what is below the nets that are in.
-fn fill(scene: &Scene<'_>, fanin: &mut Fanin, roots: &[NetId]) -> Result<(), NoMemory> {
+fn fill(scene: &TraceScene<'_>, fanin: &mut Fanin, roots: &[NetId]) -> Result<(), NoMemory> {
     reach(fanin, roots)?;
     'nets: for i in 0..scene.nets {
         if i < fanin.nets.len() {
@@ -75,7 +75,7 @@ fn fill(scene: &Scene<'_>, fanin: &mut Fanin, roots: &[NetId]) -> Result<(), NoM
 /// The nets below some nets. The cone ends at these ends, and where no gate drives a net.
 pub(crate) fn fanin_of(
     alloc: Global,
-    scene: &Scene<'_>,
+    scene: &TraceScene<'_>,
     roots: &[NetId],
     ends: Vec<bool>,
 ) -> Result<Fanin, NoMemory> {

@@ -1,6 +1,6 @@
 //! What keeps the bits of flip-flops: sets of sources, each at all cycles at which it does.
 
-use crate::choice::{Choice, choose};
+use crate::choice::{ChosenSources, choose};
 use crate::known::{know_by_given, note_gates};
 use crate::need::all_kept;
 use crate::tables::{at, bit_of, has, put, put_facts, put_nets};
@@ -9,6 +9,7 @@ use bs_bits::NoMemory;
 use bs_net::NetId;
 
 /// So many holds get their cycles in the order of how many these are. No more are looked for in a line.
+/// Each takes a look at all holds behind it.
 const MAX_SHARES: usize = 64;
 
 /// Sources that keep some bits, and the cycles at which they do, or are told.
@@ -79,7 +80,7 @@ fn push_hold(holds: &mut Vec<Hold>, cycle: u32, hold: Hold) -> Result<bool, NoMe
 /// own nets are not among the sources, they set the bits once more.
 fn keep(desk: &mut Desk<'_>, keeping: &mut Keeping, cycle: u32) -> Result<bool, NoMemory> {
     desk.look(cycle, bit_of(cycle), true);
-    let Choice { nets, own } = choose(desk)?;
+    let ChosenSources { nets, own } = choose(desk)?;
     if !own {
         drop(nets);
         return Ok(false);

@@ -3,7 +3,7 @@
 use crate::driver::Driver;
 use crate::fanin::fanin_of;
 use crate::known::know_by_given;
-use crate::scene::Scene;
+use crate::scene::TraceScene;
 use crate::tables::{flag, put_nets};
 use crate::view::{Desk, give_constants};
 use bs_bits::{List, NoMemory};
@@ -11,7 +11,7 @@ use bs_net::NetId;
 use bs_net_facts::Fact;
 
 /// Whether one of these nets is of the same vector as a net.
-pub(crate) fn shares_vector(scene: &Scene<'_>, nets: &[NetId], net: NetId) -> bool {
+pub(crate) fn shares_vector(scene: &TraceScene<'_>, nets: &[NetId], net: NetId) -> bool {
     let group = scene.group(net);
     'nets: for other in nets {
         if scene.group(*other) == group {

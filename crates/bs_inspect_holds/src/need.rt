@@ -1,7 +1,7 @@
 //! Which nets decide a bit of a block.
 
 use crate::driver::Driver;
-use crate::scene::Scene;
+use crate::scene::TraceScene;
 use crate::view::Desk;
 use bs_bits::NoMemory;
 use bs_net::{Flop, Mode, NetId};
@@ -60,7 +60,7 @@ pub(crate) fn need_of(desk: &Desk<'_>, net: NetId) -> Need {
 /// The nets of some bits, or the nets by which their flip-flops load them.
 pub(crate) fn roots_of(
     alloc: Global,
-    scene: &Scene<'_>,
+    scene: &TraceScene<'_>,
     facts: &[Fact],
 ) -> Result<Vec<NetId>, NoMemory> {
     let mut roots = Vec::new(alloc);

@@ -2,7 +2,7 @@
 
 use crate::hold::Hold;
 use crate::idle::{is_beside, push_unforced, shares_vector};
-use crate::scene::Scene;
+use crate::scene::TraceScene;
 use crate::tables::{bit_of, has, put_facts};
 use crate::view::{Desk, Site};
 use bs_bits::{List, NoMemory};
@@ -10,14 +10,16 @@ use bs_net::NetId;
 use bs_net_facts::Fact;
 
 /// At how many cycles of a block at most a net is rare.
+/// What comes in so few cycles is an event, which a reader might take for a cause.
 const MAX_CYCLES: u64 = 3;
 
 /// How many rare nets are told of a block.
+/// More would hide the causes.
 const MAX_NETS: usize = 3;
 
 /// The cycles from one on up to the block's, each with the hold that keeps the bits of flip-flops there.
 #[derive(Clone, Copy)]
-pub(crate) struct Kept<'a> {
+pub(crate) struct KeptCycles<'a> {
     pub(crate) site: &'a Site<'a>,
     pub(crate) holds: &'a [Hold],
     pub(crate) first: u32,
@@ -31,7 +33,7 @@ struct Rare {
 }
 
 /// At how many of a hold's cycles a net shows 1.
-fn ones_of_hold(scene: &Scene<'_>, hold: &Hold, net: NetId) -> u64 {
+fn ones_of_hold(scene: &TraceScene<'_>, hold: &Hold, net: NetId) -> u64 {
     let mut ones = 0u64;
     let mut first = 0u32;
     'words: for cycles in hold.cycles.as_slice() {
@@ -43,7 +45,7 @@ fn ones_of_hold(scene: &Scene<'_>, hold: &Hold, net: NetId) -> u64 {
 }
 
 /// At how many cycles a net shows 1 beside the sources that keep the bits there.
-fn ones_of(kept: &Kept<'_>, desk: &Desk<'_>, net: NetId) -> u64 {
+fn ones_of(kept: &KeptCycles<'_>, desk: &Desk<'_>, net: NetId) -> u64 {
     let mut ones = 0u64;
     'holds: for hold in kept.holds {
         if is_beside(desk, hold.nets.as_slice(), net) {
@@ -54,7 +56,7 @@ fn ones_of(kept: &Kept<'_>, desk: &Desk<'_>, net: NetId) -> u64 {
 }
 
 /// The rare leaves of the fan-in, the nearest first.
-fn rare_leaves(kept: &Kept<'_>, desk: &Desk<'_>) -> Result<Vec<Rare>, NoMemory> {
+fn rare_leaves(kept: &KeptCycles<'_>, desk: &Desk<'_>) -> Result<Vec<Rare>, NoMemory> {
     let cycles = u64::from(kept.site.end.saturating_sub(kept.first));
     let mut rare = Vec::new(kept.site.alloc);
     'leaves: for net in kept.site.fanin.leaves.as_slice() {
@@ -68,7 +70,7 @@ fn rare_leaves(kept: &Kept<'_>, desk: &Desk<'_>) -> Result<Vec<Rare>, NoMemory> 
 
 /// Tells that a net shows 1 at a cycle, unless the sources that keep the bits there force it or are of its vector.
 fn push_cycle(
-    kept: &Kept<'_>,
+    kept: &KeptCycles<'_>,
     desk: &mut Desk<'_>,
     net: NetId,
     cycle: u32,
@@ -87,7 +89,7 @@ fn push_cycle(
 
 /// Tells at which cycles a net shows 1. It gives whether there is one.
 fn push_net(
-    kept: &Kept<'_>,
+    kept: &KeptCycles<'_>,
     desk: &mut Desk<'_>,
     net: NetId,
     idle: &mut List<Fact>,
@@ -103,7 +105,7 @@ fn push_net(
 
 /// Tells of the nets that show 1 at so many cycles, up to so many of them. It gives how many more there may be.
 fn push_nets(
-    kept: &Kept<'_>,
+    kept: &KeptCycles<'_>,
     desk: &mut Desk<'_>,
     rare: &[Rare],
     ones: u64,
@@ -123,7 +125,7 @@ fn push_nets(
 
 /// Tells what shows 1 at few cycles at which bits are kept, and does not matter there: the rarest nets first.
 pub(crate) fn push_rare(
-    kept: &Kept<'_>,
+    kept: &KeptCycles<'_>,
     desk: &mut Desk<'_>,
     idle: &mut List<Fact>,
 ) -> Result<(), NoMemory> {

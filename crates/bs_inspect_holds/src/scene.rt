@@ -10,7 +10,7 @@ use std::alloc::Global;
 
 /// What the choice looks at: a trace, and where cones end.
 #[derive(Drop)]
-pub struct Scene<'a> {
+pub struct TraceScene<'a> {
     /// The trace.
     pub moments: &'a Moments<'a>,
     /// Whether cones end at a net, for each net. They end at flip-flops, data inputs and constants anyway.
@@ -64,14 +64,14 @@ fn shown_of(alloc: Global, moments: &Moments<'_>, nets: u32) -> Result<Vec<u64>,
     Ok(words)
 }
 
-impl<'a> Scene<'a> {
+impl<'a> TraceScene<'a> {
     /// What the choice looks at, with tables over all nets and moments. They take a bit for each net and moment.
     pub fn new(
         alloc: Global,
         moments: &'a Moments<'a>,
         stops: &'a [bool],
         groups: &'a [u32],
-    ) -> Result<Scene<'a>, NoMemory>
+    ) -> Result<TraceScene<'a>, NoMemory>
         ensures moments { IfOk result (λ s. s.moments.now ≡ moments.now) }
         ensures stops { IfOk result (λ s. s.stops.now ≡ stops.now) }
         ensures groups { IfOk result (λ s. s.groups.now ≡ groups.now) }
@@ -80,7 +80,7 @@ impl<'a> Scene<'a> {
         let drivers = drivers_of(alloc, net)?;
         let sizes = sizes_of(alloc, groups)?;
         let shown = shown_of(alloc, moments, net.raw().names.len())?;
-        Ok(Scene {
+        Ok(TraceScene {
             moments,
             stops,
             groups,

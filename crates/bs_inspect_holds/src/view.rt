@@ -2,7 +2,7 @@
 
 use crate::driver::Driver;
 use crate::fanin::Fanin;
-use crate::scene::Scene;
+use crate::scene::TraceScene;
 use crate::tables::{at, put};
 use bs_bits::NoMemory;
 use bs_net::NetId;
@@ -13,7 +13,7 @@ use std::alloc::Global;
 #[derive(Clone, Copy)]
 pub(crate) struct Site<'a> {
     pub(crate) alloc: Global,
-    pub(crate) scene: &'a Scene<'a>,
+    pub(crate) scene: &'a TraceScene<'a>,
     pub(crate) fanin: &'a Fanin,
     pub(crate) facts: &'a [Fact],
     /// Whether flip-flops drive the bits.

@@ -9,7 +9,7 @@ use bs_net::NetId;
 
 /// What a walk has come to.
 #[derive(Drop)]
-struct Walk {
+struct ConeWalk {
     /// The nets that are taken.
     nets: Vec<NetId>,
     /// The leaves among them, without constants.
@@ -17,7 +17,7 @@ struct Walk {
 }
 
 /// Takes those of some nets that are not taken.
-fn take(desk: &mut Desk<'_>, walk: &mut Walk, nets: &[NetId]) -> Result<(), NoMemory> {
+fn take(desk: &mut Desk<'_>, walk: &mut ConeWalk, nets: &[NetId]) -> Result<(), NoMemory> {
     'nets: for net in nets {
         if !flag(desk.taken.as_slice(), *net) {
             walk.nets.push(*net)?;
@@ -28,7 +28,7 @@ fn take(desk: &mut Desk<'_>, walk: &mut Walk, nets: &[NetId]) -> Result<(), NoMe
 }
 
 /// Takes what decides a net: of a gate its cheapest input, if one decides it, and else all. A leaf is a source, unless it is a constant.
-fn take_below(desk: &mut Desk<'_>, walk: &mut Walk, net: NetId) -> Result<(), NoMemory> {
+fn take_below(desk: &mut Desk<'_>, walk: &mut ConeWalk, net: NetId) -> Result<(), NoMemory> {
     let site = desk.site;
     let Some(place) = site.fanin.gate(site.scene, net) else {
         if !flag(desk.given.as_slice(), net) {
@@ -46,7 +46,7 @@ fn take_below(desk: &mut Desk<'_>, walk: &mut Walk, net: NetId) -> Result<(), No
 }
 
 /// Takes what decides the nets of a walk, from a place on.
-fn descend(desk: &mut Desk<'_>, walk: &mut Walk, from: usize) -> Result<(), NoMemory> {
+fn descend(desk: &mut Desk<'_>, walk: &mut ConeWalk, from: usize) -> Result<(), NoMemory> {
     'nets: for i in from..desk.site.scene.nets {
         if i >= walk.nets.len() {
             return Ok(());
@@ -58,7 +58,7 @@ fn descend(desk: &mut Desk<'_>, walk: &mut Walk, from: usize) -> Result<(), NoMe
 }
 
 /// Takes what decides a bit. It gives whether sources came in.
-fn settle(desk: &mut Desk<'_>, walk: &mut Walk, need: Need) -> Result<bool, NoMemory> {
+fn settle(desk: &mut Desk<'_>, walk: &mut ConeWalk, need: Need) -> Result<bool, NoMemory> {
     let from = walk.nets.len();
     let before = walk.sources.len();
     if need.both {
@@ -72,7 +72,7 @@ fn settle(desk: &mut Desk<'_>, walk: &mut Walk, need: Need) -> Result<bool, NoMe
 }
 
 /// Takes what decides all bits, the cheapest first. What is taken costs nothing from then on.
-fn settle_all(desk: &mut Desk<'_>, walk: &mut Walk) -> Result<(), NoMemory> {
+fn settle_all(desk: &mut Desk<'_>, walk: &mut ConeWalk) -> Result<(), NoMemory> {
     price(desk);
     'facts: for _ in 0..desk.site.facts.len() {
         let Some(need) = cheapest_need(desk) else {
@@ -88,13 +88,13 @@ fn settle_all(desk: &mut Desk<'_>, walk: &mut Walk) -> Result<(), NoMemory> {
 /// Sources of the fan-in that decide all bits at a moment, by ascending numbers. The costs are least one bit after another, and the
 /// block's own nets cost nothing where they are free.
 pub(crate) fn cheapest_sources(desk: &mut Desk<'_>) -> Result<Vec<NetId>, NoMemory> {
-    let mut walk = Walk {
+    let mut walk = ConeWalk {
         nets: Vec::new(desk.site.alloc),
         sources: Vec::new(desk.site.alloc),
     };
     settle_all(desk, &mut walk)?;
     walk.sources.sort_by_key(|net| net.0)?;
-    let Walk { nets, sources } = walk;
+    let ConeWalk { nets, sources } = walk;
     put_nets(&mut desk.taken, nets.as_slice(), false);
     drop(nets);
     Ok(sources)

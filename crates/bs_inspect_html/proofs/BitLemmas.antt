@@ -2,7 +2,7 @@
 use Rattle.std.proofs.Common.{◌≡◌, ℕ, zero, suc, arith, refl, Bool, false, ◌<◌, ◌≤◌, ◌+◌, slice_get, Some, List, [], ◌∷◌, ◌++◌, length, map, take, get_or, ap, sym, ◌∙◌}
 use Rattle.std.proofs.lemmas.Option.{get_or_from_slice_get}
 use Rattle.std.proofs.lemmas.List.{take_more, map-append}
-use Rattle.bs_net_names.specs.Signals.{Signal}
+use Rattle.bs_inspect_view.specs.Signals.{Signal}
 use Rattle.bs_inspect_html.specs.Cells.{bit_of, is_signed}
 use Rattle.bs_inspect_html.specs.Names.{name_cell, name_end, name_front, shown_name}
 use Rattle.bs_inspect_html.proofs.PutLemmas.{three_put}

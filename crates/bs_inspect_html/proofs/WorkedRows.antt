@@ -1,7 +1,7 @@
 -- A name with marks, the cells of a bit over four moments, and names of signals of which a signature reads a bit, or none.
 use Rattle.std.proofs.Common.{◌≡◌, ℕ, Bool, true, false, List, [], ◌∷◌, Option, Some, None, refl}
 use Rattle.std.specs.Prelude.{codes}
-use Rattle.bs_net_names.specs.Signals.{Signal}
+use Rattle.bs_inspect_view.specs.Signals.{Signal}
 use Rattle.bs_inspect_html.specs.Cells.{Figure, ValueCell, cells_of}
 use Rattle.bs_inspect_html.specs.Escapes.{html_escaped}
 use Rattle.bs_inspect_html.specs.Names.{name_cell, shown_name}

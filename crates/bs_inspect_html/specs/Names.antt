@@ -1,6 +1,6 @@
 -- The names of signals, as HTML.
 use Rattle.std.specs.Prelude.{ℕ, Bool, List, ◌++◌, codes, if◌then◌else◌}
-use Rattle.bs_net_names.specs.Signals.{Signal, name_text}
+use Rattle.bs_inspect_view.specs.Signals.{Signal, name_text}
 use Rattle.bs_inspect_html.specs.Cells.{is_signed}
 use Rattle.bs_inspect_html.specs.Escapes.{html_escaped}
 

@@ -1,12 +1,12 @@
 //! The names of signals, as HTML.
 ghost use Rattle.std.specs.Prelude.{◌≡◌, ◌++◌, IfOk, OnOk};
-ghost use Rattle.bs_net_names.specs.Signals.{name_text, signal_in};
+ghost use Rattle.bs_inspect_view.specs.Signals.{name_text, signal_in};
 ghost use Rattle.bs_inspect_html.specs.Names.{name_cell, name_end, name_front, shown_name};
 
 use crate::cells::is_signed;
 use crate::escape::push_escaped;
 use bs_bits::{Bits, NoMemory, push_piece};
-use bs_net_names::{Signal, push_name};
+use bs_inspect_view::{Signal, push_name};
 use std::alloc::Global;
 
 /// The name of a signal.

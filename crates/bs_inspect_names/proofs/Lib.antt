@@ -1,4 +1,5 @@
 pub mod CalledLemmas
 pub mod ConeLemmas
 pub mod MappingLemmas
+pub mod TaggedLemmas
 mod WorkedMaps

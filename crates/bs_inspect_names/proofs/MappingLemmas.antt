@@ -6,24 +6,24 @@ use Rattle.std.specs.Borrow.{Bor}
 use Rattle.std.specs.List.{list_any}
 use Rattle.std.specs.Option.{option_map, unwrap_or}
 use Rattle.std.specs.Str.{bytes_eq}
-use Rattle.std.proofs.lemmas.List.{take_all, take_more, map-append, length-map}
+use Rattle.std.proofs.lemmas.List.{take_all, take_more, map-append}
 use Rattle.std.proofs.lemmas.Option.{get_or_from_slice_get, slice_get_within}
 use Rattle.bs_bits.specs.Lines.{lines_of, words_of}
 use Rattle.bs_bits.specs.Reading.{◌>>=◌}
 use Rattle.bs_net_names.specs.Keys.{key_parts}
 use Rattle.bs_net_names.specs.Naming.{plain}
-use Rattle.bs_inspect_names.specs.declared.entry.Entry.{Entry as CodeEntry}
+use Rattle.bs_inspect_names.specs.declared.entry.MapEntry.{MapEntry as CodeEntry}
 use Rattle.bs_inspect_names.specs.declared.fault.MapFault.{MapFault}
 use Rattle.bs_inspect_names.specs.declared.fault.MapFault.TheVariants as M
 use Rattle.bs_inspect_names.specs.Vectors.{Vector}
-use Rattle.bs_inspect_names.specs.Mapping.{Entry, are_both, entries_from, entry_at, entry_in, entry_of, has_bit, has_key, is_beyond, is_double, name_by_vector, name_of, names_key, names_of, numbered_name, share}
+use Rattle.bs_inspect_names.specs.Mapping.{MapEntry, are_both, entries_from, entry_at, entry_in, entry_of, has_bit, has_key, is_beyond, is_double, judged, name_by_vector, name_of, names_key, names_of, numbered_name, share}
 
 -- a test of keys, as bytes that are lent
 pub any_key : (p : List ℕ → Bool) (keys : List (Bor (List ℕ))) → list_any (λ k. p k.now) keys ≡ list_any p (map (λ k. k.now) keys)
 any_key p [] = refl
 any_key p (k ∷ keys) = ap (λ (b : Bool). p k.now || b) (any_key p keys)
 
-pub any_entry : (p : Entry → Bool) (entries : List CodeEntry) → list_any (λ e. p (entry_in e)) entries ≡ list_any p (map entry_in entries)
+pub any_entry : (p : MapEntry → Bool) (entries : List CodeEntry) → list_any (λ e. p (entry_in e)) entries ≡ list_any p (map entry_in entries)
 any_entry p [] = refl
 any_entry p (e ∷ entries) = ap (λ (b : Bool). p (entry_in e) || b) (any_entry p entries)
 
@@ -49,91 +49,82 @@ share_none keys one other same p q first second is failed =
 
 -- ---- the entry of a line
 
-abbrev Refusal : Type 0
-Refusal = Result Entry MapFault
+abbrev pub Refusal : Type 0
+Refusal = Result MapEntry MapFault
 
 -- what a line is by the three tests
-abbrev by_tests : ℕ → Entry → (known double beyond : Bool) → Refusal
+abbrev pub by_tests : ℕ → MapEntry → (known double beyond : Bool) → Refusal
 by_tests n e known double beyond =
     if known then (if double then Err (M.Twice n) else (if beyond then Err (M.Range n) else Ok e)) else Err (M.Unknown n)
 
-by_known : (n : ℕ) (e : Entry) (known double beyond : Bool) →
+by_known : (n : ℕ) (e : MapEntry) (known double beyond : Bool) →
     (if not known then Err (M.Unknown n) else (if double then Err (M.Twice n) else (if beyond then Err (M.Range n) else Ok e))) ≡
     by_tests n e known double beyond
 by_known n e true double beyond = refl
 by_known n e false double beyond = refl
 
-tested : (keys : List (List ℕ)) (es : List CodeEntry) (o : Option Entry) (e : Entry) → Some e ≡ o →
-    entry_at keys (map entry_in es) o ≡
-    by_tests (length es + 1) e (list_any (names_key e) keys) (list_any (is_double keys e) (map entry_in es)) (list_any (is_beyond e) keys)
-tested keys es o e is =
-    ap (entry_at keys (map entry_in es)) (sym is)
-    ∙ (by_known (length (map entry_in es) + 1) e (list_any (names_key e) keys) (list_any (is_double keys e) (map entry_in es)) (list_any (is_beyond e) keys)
-    ∙ ap (λ (n : ℕ). by_tests (n + 1) e (list_any (names_key e) keys) (list_any (is_double keys e) (map entry_in es)) (list_any (is_beyond e) keys))
-    (length-map es entry_in))
+pub tested : (keys : List (List ℕ)) (es : List MapEntry) (n : ℕ) (e : MapEntry) →
+    judged keys es n e ≡ by_tests n e (list_any (names_key e) keys) (list_any (is_double keys e) es) (list_any (is_beyond e) keys)
+tested keys es n e = by_known n e (list_any (names_key e) keys) (list_any (is_double keys e) es) (list_any (is_beyond e) keys)
 
-pub entry_unknown : (keys : List (List ℕ)) (es : List CodeEntry) (o : Option Entry) (e : Entry) → Some e ≡ o →
-    list_any (names_key e) keys ≡ false → entry_at keys (map entry_in es) o ≡ Err (M.Unknown (length es + 1))
-entry_unknown keys es o e is known =
-    tested keys es o e is
-    ∙ ap (λ (b : Bool). by_tests (length es + 1) e b (list_any (is_double keys e) (map entry_in es)) (list_any (is_beyond e) keys)) known
+pub entry_unknown : (keys : List (List ℕ)) (es : List MapEntry) (n : ℕ) (e : MapEntry) → list_any (names_key e) keys ≡ false →
+    judged keys es n e ≡ Err (M.Unknown n)
+entry_unknown keys es n e known =
+    tested keys es n e ∙ ap (λ (b : Bool). by_tests n e b (list_any (is_double keys e) es) (list_any (is_beyond e) keys)) known
 
-pub entry_twice : (keys : List (List ℕ)) (es : List CodeEntry) (o : Option Entry) (e : Entry) → Some e ≡ o →
-    list_any (names_key e) keys ≡ true → list_any (is_double keys e) (map entry_in es) ≡ true →
-    entry_at keys (map entry_in es) o ≡ Err (M.Twice (length es + 1))
-entry_twice keys es o e is known double =
-    tested keys es o e is ∙ (λ i. by_tests (length es + 1) e (known i) (double i) (list_any (is_beyond e) keys))
+pub entry_twice : (keys : List (List ℕ)) (es : List MapEntry) (n : ℕ) (e : MapEntry) → list_any (names_key e) keys ≡ true →
+    list_any (is_double keys e) es ≡ true → judged keys es n e ≡ Err (M.Twice n)
+entry_twice keys es n e known double =
+    tested keys es n e ∙ (λ i. by_tests n e (known i) (double i) (list_any (is_beyond e) keys))
 
-pub entry_beyond : (keys : List (List ℕ)) (es : List CodeEntry) (o : Option Entry) (e : Entry) → Some e ≡ o →
-    list_any (names_key e) keys ≡ true → list_any (is_double keys e) (map entry_in es) ≡ false → list_any (is_beyond e) keys ≡ true →
-    entry_at keys (map entry_in es) o ≡ Err (M.Range (length es + 1))
-entry_beyond keys es o e is known double beyond = tested keys es o e is ∙ (λ i. by_tests (length es + 1) e (known i) (double i) (beyond i))
+pub entry_beyond : (keys : List (List ℕ)) (es : List MapEntry) (n : ℕ) (e : MapEntry) → list_any (names_key e) keys ≡ true →
+    list_any (is_double keys e) es ≡ false → list_any (is_beyond e) keys ≡ true → judged keys es n e ≡ Err (M.Range n)
+entry_beyond keys es n e known double beyond = tested keys es n e ∙ (λ i. by_tests n e (known i) (double i) (beyond i))
 
-pub entry_new : (keys : List (List ℕ)) (es : List CodeEntry) (o : Option Entry) (e : Entry) → Some e ≡ o →
-    list_any (names_key e) keys ≡ true → list_any (is_double keys e) (map entry_in es) ≡ false → list_any (is_beyond e) keys ≡ false →
-    entry_at keys (map entry_in es) o ≡ Ok e
-entry_new keys es o e is known double beyond = tested keys es o e is ∙ (λ i. by_tests (length es + 1) e (known i) (double i) (beyond i))
+pub entry_new : (keys : List (List ℕ)) (es : List MapEntry) (n : ℕ) (e : MapEntry) → list_any (names_key e) keys ≡ true →
+    list_any (is_double keys e) es ≡ false → list_any (is_beyond e) keys ≡ false → judged keys es n e ≡ Ok e
+entry_new keys es n e known double beyond = tested keys es n e ∙ (λ i. by_tests n e (known i) (double i) (beyond i))
 
 -- ---- lines
 
 abbrev Read : Type 0
-Read = Result (List Entry) MapFault
+Read = Result (List MapEntry) MapFault
 
-abbrev behind : List (List ℕ) → List Entry → List (List ℕ) → Result Entry MapFault → Read
+abbrev behind : List (List ℕ) → List MapEntry → List (List ℕ) → Result MapEntry MapFault → Read
 behind keys earlier texts r = r >>= λ e. entries_from keys (earlier ++ e ∷ []) texts
 
-pub entry_more : (all : Read) (keys : List (List ℕ)) (earlier : List Entry) (rest text more : List ℕ) (e : Entry) →
+pub entry_more : (all : Read) (keys : List (List ℕ)) (earlier : List MapEntry) (rest text more : List ℕ) (e : MapEntry) →
     all ≡ entries_from keys earlier (lines_of rest) → lines_of rest ≡ text ∷ lines_of more → entry_at keys earlier (entry_of (words_of text)) ≡ Ok e →
     all ≡ entries_from keys (earlier ++ e ∷ []) (lines_of more)
 entry_more all keys earlier rest text more e is cut ok =
     is ∙ (ap (entries_from keys earlier) cut ∙ ap (behind keys earlier (lines_of more)) ok)
 
-pub entry_faulty : (all : Read) (keys : List (List ℕ)) (earlier : List Entry) (rest text more : List ℕ) (fault : MapFault) →
+pub entry_faulty : (all : Read) (keys : List (List ℕ)) (earlier : List MapEntry) (rest text more : List ℕ) (fault : MapFault) →
     all ≡ entries_from keys earlier (lines_of rest) → lines_of rest ≡ text ∷ lines_of more →
     (fault ≡ M.NoMemory) ⊎ (entry_at keys earlier (entry_of (words_of text)) ≡ Err fault) → (fault ≡ M.NoMemory) ⊎ (all ≡ Err fault)
 entry_faulty all keys earlier rest text more fault is cut (inl want) = inl want
 entry_faulty all keys earlier rest text more fault is cut (inr err) =
     inr (is ∙ (ap (entries_from keys earlier) cut ∙ ap (behind keys earlier (lines_of more)) err))
 
-pub entries_end : (all : Read) (keys : List (List ℕ)) (earlier : List Entry) (rest : List ℕ) →
+pub entries_end : (all : Read) (keys : List (List ℕ)) (earlier : List MapEntry) (rest : List ℕ) →
     all ≡ entries_from keys earlier (lines_of rest) → lines_of rest ≡ [] → all ≡ Ok earlier
 entries_end all keys earlier rest is none = is ∙ ap (entries_from keys earlier) none
 
 -- ---- the name of a key
 
-abbrev of_line : List ℕ → Option Entry → List ℕ
-of_line other o = unwrap_or (option_map (λ (e : Entry). e.name) o) other
+abbrev of_line : List ℕ → Option MapEntry → List ℕ
+of_line other o = unwrap_or (option_map (λ (e : MapEntry). e.name) o) other
 
-abbrev of_vector : List ℕ → Option Entry → List ℕ
-of_vector key o = unwrap_or (option_map (λ (e : Entry). numbered_name e.name (key_parts key).bit) o) key
+abbrev of_vector : List ℕ → Option MapEntry → List ℕ
+of_vector key o = unwrap_or (option_map (λ (e : MapEntry). numbered_name e.name (key_parts key).bit) o) key
 
-found_by : (p : Entry → Bool) (e : CodeEntry) (es : List CodeEntry) (b : Bool) →
+found_by : (p : MapEntry → Bool) (e : CodeEntry) (es : List CodeEntry) (b : Bool) →
     option_map entry_in (find (λ x. p (entry_in x)) es) ≡ find p (map entry_in es) →
     option_map entry_in (cond b (Some e) (find (λ x. p (entry_in x)) es)) ≡ cond b (Some (entry_in e)) (find p (map entry_in es))
 found_by p e es true h = refl
 found_by p e es false h = h
 
-found_as : (p : Entry → Bool) (es : List CodeEntry) → option_map entry_in (find (λ x. p (entry_in x)) es) ≡ find p (map entry_in es)
+found_as : (p : MapEntry → Bool) (es : List CodeEntry) → option_map entry_in (find (λ x. p (entry_in x)) es) ≡ find p (map entry_in es)
 found_as p [] = refl
 found_as p (e ∷ es) = found_by p e es (p (entry_in e)) (found_as p es)
 
@@ -156,7 +147,7 @@ pub by_none : (key : List ℕ) (es : List CodeEntry) (name : List ℕ) → None 
 by_none key es name none put = put ∙ ap (of_vector key) (ap (option_map entry_in) none ∙ found_as (has_bit key) es)
 
 -- a name more
-pub names_more : (entries : List Entry) (names : List (List ℕ)) (n : List ℕ) (keys : List (Bor (List ℕ))) (i : ℕ) (d : Bor (List ℕ)) → i < length keys →
+pub names_more : (entries : List MapEntry) (names : List (List ℕ)) (n : List ℕ) (keys : List (Bor (List ℕ))) (i : ℕ) (d : Bor (List ℕ)) → i < length keys →
     names ≡ names_of entries (map (λ k. k.now) (take i keys)) → n ≡ name_of entries (get_or keys i d).now →
     names ++ n ∷ [] ≡ names_of entries (map (λ k. k.now) (take (i + 1) keys))
 names_more entries names n keys i d lt e is =

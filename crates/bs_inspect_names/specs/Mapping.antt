@@ -8,7 +8,7 @@ use Rattle.bs_bits.specs.Reading.{◌>>=◌}
 use Rattle.bs_net_names.specs.Keys.{key_parts}
 use Rattle.bs_net_names.specs.Naming.{plain}
 use Rattle.bs_net_names.specs.Rtl.{same_name}
-use Rattle.bs_inspect_names.specs.declared.entry.Entry.{Entry as CodeEntry}
+use Rattle.bs_inspect_names.specs.declared.entry.MapEntry.{MapEntry as CodeEntry}
 use Rattle.bs_inspect_names.specs.declared.fault.MapFault.{MapFault}
 use Rattle.bs_inspect_names.specs.declared.fault.MapFault.TheVariants as M
 use Rattle.bs_inspect_names.specs.Vectors.{Vector, covers, has_number, vector_of}
@@ -16,22 +16,22 @@ use Rattle.bs_inspect_names.specs.Vectors.{Vector, covers, has_number, vector_of
 -- ---- a line
 
 -- the two words of a line: the name of an input or of a vector of them, and its name in the simulation
-pub record Entry : Type 0 where
+pub record MapEntry : Type 0 where
   pub key : List ℕ
   pub name : List ℕ
 
-abbrev pub entry_in : CodeEntry → Entry
+abbrev pub entry_in : CodeEntry → MapEntry
 entry_in e = record { key = e.key.now; name = e.name.now }
 
-abbrev pub shown_entry : Option CodeEntry → Option Entry
+abbrev pub shown_entry : Option CodeEntry → Option MapEntry
 shown_entry None = None
 shown_entry (Some e) = Some (entry_in e)
 
 -- each has one or more bytes 33 to 126
-abbrev pub named : (key name : List ℕ) → Option Entry
+abbrev pub named : (key name : List ℕ) → Option MapEntry
 named key name = if is_name key && is_name name then Some record { key = key; name = name } else None
 
-abbrev pub entry_of : List (List ℕ) → Option Entry
+abbrev pub entry_of : List (List ℕ) → Option MapEntry
 entry_of (key ∷ name ∷ []) = named key name
 entry_of _ = None
 
@@ -40,17 +40,17 @@ abbrev pub same_key : List ℕ → List ℕ → Bool
 same_key one other = same_name (key_parts one) (key_parts other)
 
 -- whether a line's first word is the name of a key
-abbrev pub has_key : List ℕ → Entry → Bool
+abbrev pub has_key : List ℕ → MapEntry → Bool
 has_key key e = same_key e.key key
 
 -- whether it is the name of a vector, and the key that of one of its bits
-abbrev pub has_bit : List ℕ → Entry → Bool
+abbrev pub has_bit : List ℕ → MapEntry → Bool
 has_bit key e = covers (vector_of e.key) (key_parts key)
 
 -- ---- the lines that are refused
 
 -- whether a line is that of a key, by itself or as a bit
-abbrev pub names_key : Entry → List ℕ → Bool
+abbrev pub names_key : MapEntry → List ℕ → Bool
 names_key e key = has_key key e || has_bit key e
 
 -- whether one of these keys is that of a bit of both vectors
@@ -61,23 +61,27 @@ abbrev pub share : List (List ℕ) → Vector → Vector → Bool
 share keys one other = if bytes_eq (plain one.base) (plain other.base) then list_any (are_both one other) keys else false
 
 -- whether an earlier line has the same first word, or names a vector with a bit of this line's
-abbrev pub is_double : List (List ℕ) → Entry → Entry → Bool
+abbrev pub is_double : List (List ℕ) → MapEntry → MapEntry → Bool
 is_double keys e earlier = same_key earlier.key e.key || share keys (vector_of earlier.key) (vector_of e.key)
 
 -- whether a key is that of a bit whose number stands outside the range behind the name in the simulation
-abbrev pub is_beyond : Entry → List ℕ → Bool
+abbrev pub is_beyond : MapEntry → List ℕ → Bool
 is_beyond e key = has_bit key e && not (has_number (vector_of e.name) (key_parts key).bit)
 
+-- the entry of the line with this number, by the keys and the lines before it
+abbrev pub judged : List (List ℕ) → List MapEntry → ℕ → MapEntry → Result MapEntry MapFault
+judged keys earlier number e =
+    if not (list_any (names_key e) keys) then Err (M.Unknown number)
+    else (if list_any (is_double keys e) earlier then Err (M.Twice number)
+    else (if list_any (is_beyond e) keys then Err (M.Range number) else Ok e))
+
 -- the entry of a line behind these, one a line
-abbrev pub entry_at : List (List ℕ) → List Entry → Option Entry → Result Entry MapFault
+abbrev pub entry_at : List (List ℕ) → List MapEntry → Option MapEntry → Result MapEntry MapFault
 entry_at keys earlier None = Err (M.Line (length earlier + 1))
-entry_at keys earlier (Some e) =
-    if not (list_any (names_key e) keys) then Err (M.Unknown (length earlier + 1))
-    else (if list_any (is_double keys e) earlier then Err (M.Twice (length earlier + 1))
-    else (if list_any (is_beyond e) keys then Err (M.Range (length earlier + 1)) else Ok e))
+entry_at keys earlier (Some e) = judged keys earlier (length earlier + 1) e
 
 -- an entry for each line, behind these; or the first fault
-abbrev pub entries_from : List (List ℕ) → List Entry → List (List ℕ) → Result (List Entry) MapFault
+abbrev pub entries_from : List (List ℕ) → List MapEntry → List (List ℕ) → Result (List MapEntry) MapFault
 entries_from keys earlier [] = Ok earlier
 entries_from keys earlier (text ∷ texts) = entry_at keys earlier (entry_of (words_of text)) >>= λ e. entries_from keys (earlier ++ e ∷ []) texts
 
@@ -92,15 +96,15 @@ numbered_name name None = name
 numbered_name name (Some n) = bit_name name n
 
 -- by the line of a vector with the key's bit: the bit with the same number; or else the key itself
-abbrev pub name_by_vector : List Entry → List ℕ → List ℕ
+abbrev pub name_by_vector : List MapEntry → List ℕ → List ℕ
 name_by_vector entries key =
     unwrap_or (option_map (λ e. numbered_name e.name (key_parts key).bit) (find (has_bit key) entries)) key
 
 -- the name of a key: by its own line, or else by that of its vector
-abbrev pub name_of : List Entry → List ℕ → List ℕ
+abbrev pub name_of : List MapEntry → List ℕ → List ℕ
 name_of entries key = unwrap_or (option_map (λ e. e.name) (find (has_key key) entries)) (name_by_vector entries key)
 
-abbrev pub names_of : List Entry → List (List ℕ) → List (List ℕ)
+abbrev pub names_of : List MapEntry → List (List ℕ) → List (List ℕ)
 names_of entries keys = map (name_of entries) keys
 
 -- the names of inputs with these keys, in their order, or the first fault of the text

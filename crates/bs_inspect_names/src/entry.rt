@@ -4,7 +4,7 @@ ghost use Rattle.std.specs.List.{list_any};
 ghost use Rattle.bs_bits.specs.Lines.{words_of};
 ghost use Rattle.bs_bits.specs.Reading.{Answers};
 ghost use Rattle.bs_inspect_names.specs.declared.fault.MapFault.TheVariants.{NoMemory as Want};
-ghost use Rattle.bs_inspect_names.specs.Mapping.{are_both, entry_at, entry_in, entry_of, has_bit, is_beyond, is_double, named, names_key, same_key, share, shown_entry};
+ghost use Rattle.bs_inspect_names.specs.Mapping.{are_both, entry_in, entry_of, has_bit, is_beyond, is_double, judged, named, names_key, same_key, share, shown_entry};
 ghost use Rattle.bs_inspect_names.specs.Vectors.{vector_in};
 
 use crate::fault::MapFault;
@@ -14,26 +14,26 @@ use bs_net_names::{key_parts, plain, same_name};
 
 /// The first word of a line, a key or the name of a vector, and its name in a simulation.
 #[derive(Clone, Copy)]
-pub struct Entry<'a> {
+pub struct MapEntry<'a> {
     pub key: &'a [u8],
     pub name: &'a [u8],
 }
 
 /// A key and a name, where each is one or more visible bytes.
-fn named<'a>(key: &'a [u8], name: &'a [u8]) -> Option<Entry<'a>>
+fn named<'a>(key: &'a [u8], name: &'a [u8]) -> Option<MapEntry<'a>>
     ensures { shown_entry result ≡ named key.now name.now }
 {
     let one = is_name(key);
     let other = is_name(name);
     if one && other {
-        Some(Entry { key, name })
+        Some(MapEntry { key, name })
     } else {
         None
     }
 }
 
 /// The key and the name of a line.
-fn entry_of(line: &[u8]) -> Option<Entry<'_>>
+pub fn entry_of(line: &[u8]) -> Option<MapEntry<'_>>
     ensures { shown_entry result ≡ entry_of (words_of line.now) }
 {
     let mut words = Words::of(line);
@@ -50,7 +50,7 @@ pub fn same_key(one: &[u8], other: &[u8]) -> bool
 }
 
 /// Whether a line's first word is the name of a vector, and a key that of one of its bits.
-pub fn has_bit(entry: Entry<'_>, key: &[u8]) -> bool
+pub fn has_bit(entry: MapEntry<'_>, key: &[u8]) -> bool
     ensures { result ≡ has_bit key.now (entry_in entry.entry) }
 {
     covers(vector_of(entry.key), key_parts(key))
@@ -59,14 +59,14 @@ pub fn has_bit(entry: Entry<'_>, key: &[u8]) -> bool
 // ---- the lines that are refused
 
 /// Whether a line is that of a key, by itself or as a bit.
-fn names_key(entry: Entry<'_>, key: &[u8]) -> bool
+fn names_key(entry: MapEntry<'_>, key: &[u8]) -> bool
     ensures { result ≡ names_key (entry_in entry.entry) key.now }
 {
     same_key(entry.key, key) || has_bit(entry, key)
 }
 
 /// Whether a line is that of one of these keys.
-fn names_some(keys: &[&[u8]], entry: Entry<'_>) -> bool
+fn names_some(keys: &[&[u8]], entry: MapEntry<'_>) -> bool
     ensures { result ≡ list_any (λ k. names_key (entry_in entry.entry) k.now) keys.now }
 {
     keys.iter().any(|key| names_key(entry, key))
@@ -99,14 +99,14 @@ fn share(keys: &[&[u8]], one: Vector<'_>, other: Vector<'_>) -> bool
 }
 
 /// Whether an earlier line has the same first word, or names a vector with a bit of this line's.
-fn is_double(keys: &[&[u8]], entry: Entry<'_>, earlier: Entry<'_>) -> bool
+fn is_double(keys: &[&[u8]], entry: MapEntry<'_>, earlier: MapEntry<'_>) -> bool
     ensures { result ≡ is_double (map (λ k. k.now) keys.now) (entry_in entry.entry) (entry_in earlier.entry) }
 {
     same_key(earlier.key, entry.key) || share(keys, vector_of(earlier.key), vector_of(entry.key))
 }
 
 /// Whether one of the earlier lines does.
-fn has_double(keys: &[&[u8]], entries: &[Entry<'_>], entry: Entry<'_>) -> bool
+fn has_double(keys: &[&[u8]], entries: &[MapEntry<'_>], entry: MapEntry<'_>) -> bool
     ensures { result ≡ list_any (λ e. is_double (map (λ k. k.now) keys.now) (entry_in entry.entry) (entry_in e)) entries.now }
 {
     entries
@@ -115,32 +115,28 @@ fn has_double(keys: &[&[u8]], entries: &[Entry<'_>], entry: Entry<'_>) -> bool
 }
 
 /// Whether a key is that of a bit whose number stands outside the range behind the name in the simulation.
-fn is_beyond(entry: Entry<'_>, key: &[u8]) -> bool
+fn is_beyond(entry: MapEntry<'_>, key: &[u8]) -> bool
     ensures { result ≡ is_beyond (entry_in entry.entry) key.now }
 {
     has_bit(entry, key) && !has_number(vector_of(entry.name), key_parts(key).bit)
 }
 
 /// Whether one of these keys is.
-fn goes_beyond(keys: &[&[u8]], entry: Entry<'_>) -> bool
+fn goes_beyond(keys: &[&[u8]], entry: MapEntry<'_>) -> bool
     ensures { result ≡ list_any (λ k. is_beyond (entry_in entry.entry) k.now) keys.now }
 {
     keys.iter().any(|key| is_beyond(entry, key))
 }
 
-/// The entry of a line behind those of the lines before it.
-pub fn entry_at<'a>(
+/// The entry of the line with this number, by the keys and the lines before it.
+pub fn judged<'a>(
     keys: &[&[u8]],
-    entries: &[Entry<'_>],
-    line: &'a [u8],
-) -> Result<Entry<'a>, MapFault>
-    ensures { Answers Want entry_in result (entry_at (map (λ k. k.now) keys.now) (map entry_in entries.now) (entry_of (words_of line.now))) }
+    entries: &[MapEntry<'_>],
+    number: u64,
+    entry: MapEntry<'a>,
+) -> Result<MapEntry<'a>, MapFault>
+    ensures { Answers Want entry_in result (judged (map (λ k. k.now) keys.now) (map entry_in entries.now) number (entry_in entry.entry)) }
 {
-    let number = entries.len() as u64 + 1;
-    let entry = match entry_of(line) {
-        Some(entry) => entry,
-        None => return Err(MapFault::Line(number)),
-    };
     if !names_some(keys, entry) {
         return Err(MapFault::Unknown(number));
     }

@@ -19,7 +19,7 @@ use Rattle.bs_lanes.proofs.PlaneLemmas.{lane_at}
 use Rattle.bs_inspect_near.specs.Counters.{Adds, AddsFour, IsOther, lane_count, one_if}
 use Rattle.bs_inspect_near.specs.Distance.{differs}
 use Rattle.bs_inspect_near.specs.Visited.{IsCount, ShowsPlace}
-use Rattle.bs_inspect_near.specs.declared.counts.TheConstants.{DIGITS}
+use Rattle.bs_inspect_near.specs.declared.distances.TheConstants.{DIGITS}
 
 -- ---- a range and a place more
 

@@ -9,3 +9,13 @@ pub mod MomentLemmas
 pub mod TextLemmas
 pub mod NearLemmas
 pub mod Examples
+pub mod PlaceLemmas
+pub mod MaskLemmas
+pub mod LookLemmas
+pub mod ValueLemmas
+pub mod SetLemmas
+pub mod OwnLemmas
+pub mod NovelTextLemmas
+pub mod NovelLemmas
+pub mod ValueBitLemmas
+pub mod NoveltyLemmas

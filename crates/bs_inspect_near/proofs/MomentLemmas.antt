@@ -1,39 +1,21 @@
 -- The state of a run at a moment, out of a lane.
 use Rattle.std.proofs.Common.{◌≡◌, ℕ, ◌<◌, ◌≤◌, ◌+◌, ◌-◌, ◌*◌, Bool, List, [], ◌∷◌, ◌++◌, length, ap, sym, subst, ◌∙◌, arith}
-use Rattle.std.proofs.lemmas.List.FromFn.{map-range_with_len_more}
 use Rattle.std.proofs.lemmas.List.{get_or-map, length-map}
-use Rattle.std.proofs.lemmas.Nat.{row_fits}
 use Rattle.bs_net.specs.Circuit.{Circuit}
-use Rattle.bs_stim.specs.Packing.{bit_in}
 use Rattle.bs_stim.specs.Runs.{Recorded, Stimulus, inputs_of, no_run, run_at}
 use Rattle.bs_stim.specs.declared.limits.TheConstants.{MAX_CYCLES}
-use Rattle.bs_lanes.specs.Planes.{bit_place, lane}
+use Rattle.bs_lanes.specs.Planes.{lane}
 use Rattle.bs_scan.specs.Moments.{IsMoment, Run, run_of, state_at, state_of}
 use Rattle.bs_chip.specs.Lockstep.{Passing, ShowsCycle, wide_of}
 use Rattle.bs_inspect_near.specs.Nearest.{moment_of}
 use Rattle.bs_inspect_near.specs.declared.search.Near.{Near}
 
--- ---- a lane
-
-pub plane_fits : (i wide count size : ℕ) → i < count → size ≡ count * wide → i * wide + wide ≤ size
-plane_fits i wide count size lt e = omega (arith, row_fits i wide count wide lt (omega arith), e)
-
-pub lane_none : (wide : ℕ) (planes : List ℕ) (at : ℕ) (bits : List Bool) → bits ≡ [] → bits ≡ lane wide 0 planes at
-lane_none wide planes at bits e = e
-
-pub lane_more : (wide : ℕ) (planes : List ℕ) (at i : ℕ) (bits after : List Bool) (b : Bool) → bits ≡ lane wide i planes at →
-    b ≡ bit_in planes (bit_place wide i at) → after ≡ bits ++ b ∷ [] → after ≡ lane wide (i + 1) planes at
-lane_more wide planes at i bits after b e is goes =
-    goes
-    ∙ ((λ j. e j ++ is j ∷ [])
-    ∙ sym (map-range_with_len_more (λ plane. bit_in planes (bit_place wide plane at)) 0 i i (omega arith)))
-
 -- ---- the state of a run
 
 pub state_room : (c : Circuit) (p : Passing) (planes : List ℕ) (wide count : ℕ) → p.circuit ≡ c → wide ≡ wide_of (length p.runs) →
-    count ≡ length c.flops → ShowsCycle p.circuit p.runs planes p.cycle → length planes ≡ count * wide
+    count ≡ length c.flops → ShowsCycle p.circuit p.runs planes p.cycle → count * wide ≤ length planes
 state_room c p planes wide count e is size shows =
-    shows.size ∙ ((λ i. length (e i).flops * sym is i) ∙ ap (λ (n : ℕ). n * wide) (sym size))
+    omega (arith, shows.size ∙ ((λ i. length (e i).flops * sym is i) ∙ ap (λ (n : ℕ). n * wide) (sym size)))
 
 pub state_lane : (runs : List Run) (p : Passing) (near : Near) (wide n : ℕ) → p.runs ≡ runs → wide ≡ wide_of (length p.runs) → n ≡ length p.runs →
     n ≤ 64 * wide_of (length p.runs) → IsMoment runs (moment_of near) → near.run - 1 < 64 * wide

@@ -10,7 +10,7 @@ use Rattle.bs_lanes.specs.Planes.{lane}
 use Rattle.bs_inspect_near.specs.Counters.{lane_count}
 use Rattle.bs_inspect_near.specs.Distance.{differs, distance}
 use Rattle.bs_inspect_near.specs.Nearest.{IsNearest, IsNoNearer, moment_of, no_state}
-use Rattle.bs_inspect_near.specs.declared.counts.TheConstants.{DIGITS}
+use Rattle.bs_inspect_near.specs.declared.distances.TheConstants.{DIGITS}
 use Rattle.bs_inspect_near.specs.declared.search.Near.{Near}
 
 -- ---- counts

@@ -1,6 +1,5 @@
 //! The state of a run at a moment.
 ghost use Rattle.std.specs.Prelude.{◌≡◌, ◌<◌, ◌≤◌, ◌-◌, ◌*◌, length, IfOk};
-ghost use Rattle.bs_lanes.specs.Planes.{lane as lane_in};
 ghost use Rattle.bs_net.specs.Netlist.{circuit};
 ghost use Rattle.bs_scan.specs.Moments.{IsMoment, state_of};
 ghost use Rattle.bs_stim.specs.Runs.{inputs_of};
@@ -10,30 +9,10 @@ ghost use Rattle.bs_inspect_near.specs.Nearest.{moment_of};
 use crate::search::Near;
 use bs_bits::{Bits, NoMemory};
 use bs_chip::Pass;
-use bs_lanes::lane_bit;
+use bs_lanes::lane_bits;
 use bs_net::Netlist;
 use bs_stim::Runs;
 use std::alloc::Global;
-
-/// The bits of a lane.
-#[tactic(auto, using(crate::proofs::MomentLemmas::lane_more, crate::proofs::MomentLemmas::plane_fits, crate::proofs::MomentLemmas::lane_none))]
-fn lane_state(
-    alloc: Global,
-    planes: &[u64],
-    wide: usize,
-    count: usize,
-    lane: usize,
-) -> Result<Bits, NoMemory>
-    requires lane { lane < 64 * wide }
-    requires size { length planes.now ≡ count * wide }
-    ensures { IfOk result (λ bits. bits ≡ lane_in wide count planes.now lane) }
-{
-    let mut bits = Bits::new(alloc);
-    'places: for i in 0..count {
-        bits.push(lane_bit(planes, wide, i, lane))?;
-    }
-    Ok(bits)
-}
 
 /// Brings a pass from reset to a cycle.
 fn go_to(pass: &mut Pass<'_>, cycle: u32)
@@ -66,7 +45,7 @@ fn state_in(
     let _runs = runs;
     let _count = pass.count();
     let wide = pass.wide();
-    let state = lane_state(
+    let state = lane_bits(
         alloc,
         pass.planes(),
         wide,

@@ -7,7 +7,7 @@ ghost use Rattle.bs_chip.specs.Lockstep.{ShowsCycle, wide_of};
 ghost use Rattle.bs_inspect_near.specs.Nearest.{AreNearest};
 ghost use Rattle.bs_inspect_near.specs.Visited.{AreBest, AreFound, IsBest};
 
-use crate::counts::count_word;
+use crate::distances::count_word;
 use crate::lanes::with_lanes;
 use bs_bits::{List, NoMemory};
 use bs_chip::{Pass, step_to};

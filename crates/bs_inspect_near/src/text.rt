@@ -12,6 +12,7 @@ use bs_bits::{Bits, NoMemory, end_line, push_line, push_number, push_piece};
 use bs_scan::Seen;
 
 /// How many flip-flops that differ have a line.
+/// With more than a few the hints say more than the names. The rest is counted.
 pub const MAX_PLACES: usize = 8;
 
 // ---- the moment

@@ -7,9 +7,9 @@ use Rattle.std.proofs.lemmas.Bool.{ne_eqb}
 use Rattle.std.proofs.lemmas.List.{get_or-map, length-map, map-append}
 use Rattle.std.proofs.lemmas.List.Elements.{filter-append}
 use Rattle.bs_bits.proofs.RangeLemmas.{range_push}
-use Rattle.bs_top_answer.specs.declared.note.Note.{Note}
-use Rattle.bs_top_answer.specs.declared.note.Note.TheVariants.{Silent}
-use Rattle.bs_top_answer.specs.Note.{Due, DueText}
+use Rattle.bs_call.specs.declared.note.Note.{Note}
+use Rattle.bs_call.specs.declared.note.Note.TheVariants.{Silent}
+use Rattle.bs_call.specs.Note.{Due, DueText}
 use Rattle.bs_inspect_netlist.specs.Order.{is_unlisted}
 use Rattle.bs_inspect_notes.specs.Nearest.{kept}
 use Rattle.bs_inspect_plans.specs.Said.{keys_unlisted}

@@ -11,11 +11,11 @@ use Rattle.bs_net.specs.Parts.{Parts}
 use Rattle.bs_scan.specs.Moments.{IsMoment, Moment}
 use Rattle.bs_stim.specs.Runs.{Recorded, Stimulus, inputs_of}
 use Rattle.bs_outside.specs.declared.status.Status.{Status}
-use Rattle.bs_outside.specs.declared.walk.JobFault.{JobFault}
-use Rattle.bs_top_answer.specs.declared.note.Note.{Note}
-use Rattle.bs_top_answer.specs.declared.note.Note.TheVariants.{Silent}
-use Rattle.bs_top_answer.specs.Note.{Due, DueText}
-use Rattle.bs_top_answer.specs.Stops.{StopNoted}
+use Rattle.bs_outside.specs.declared.file_fetch.JobFault.{JobFault}
+use Rattle.bs_call.specs.declared.note.Note.{Note}
+use Rattle.bs_call.specs.declared.note.Note.TheVariants.{Silent}
+use Rattle.bs_call.specs.Note.{Due, DueText}
+use Rattle.bs_call.specs.Stops.{StopNoted}
 use Rattle.bs_inspect_plans.specs.Said.{late_doubt, runs_doubt}
 use Rattle.bs_inspect_plans.specs.Sources.{Sources, behind_piece, joined, named_runs, named_values, source_of}
 use Rattle.bs_inspect_check.specs.declared.comparison.Comparison.{Comparison}

@@ -1,8 +1,8 @@
 //! The answer to each request: its files are taken, and what they tell is told.
 ghost use Rattle.std.specs.Prelude.{◌≡◌, find, map, Some, IfOk};
-ghost use Rattle.bs_top_answer.specs.Note.{Due, DueText};
-ghost use Rattle.bs_top_answer.specs.Prepared.{PreparedNoted};
-ghost use Rattle.bs_top_files.specs.Refusals.{CheckSays};
+ghost use Rattle.bs_call.specs.Note.{Due, DueText};
+ghost use Rattle.bs_call.specs.Prepared.{PreparedNoted};
+ghost use Rattle.bs_top_files.specs.Causes.{CheckSays};
 ghost use Rattle.bs_inspect_words.specs.Request.{Check as CheckOf, Dump as DumpOf, Flops as FlopsOf, Inputs as InputsOf, Keys as KeysOf, Near as NearOf, Novel as NovelOf, Signature as SignatureOf, Seen as SeenOf, Stats as StatsOf, Stimulus as StimulusOf, Unscan as UnscanOf};
 ghost use Rattle.bs_inspect_words.specs.Asked.{check_in, dump_in, keys_in, near_in, novel_in, seen_in, signature_in, stimulus_in, unscan_in};
 ghost use Rattle.bs_inspect_plans.specs.Finishes.{finishes};
@@ -22,6 +22,7 @@ use crate::telling::{
     tell_check, tell_dump, tell_flops, tell_inputs, tell_keys, tell_near, tell_novel, tell_runs,
     tell_seen, tell_signature, tell_stats,
 };
+use bs_call::{Note, Response, note_made};
 use bs_inspect_files::{
     CheckFiles, load_checked, load_named, load_one_run, load_run_files, load_scanned,
 };
@@ -37,7 +38,6 @@ use bs_inspect_words::{
     SignatureRequest, StimulusRequest, UnscanRequest,
 };
 use bs_outside::{NoMemory, Shelf};
-use bs_top_answer::{Note, Response, note_made};
 use bs_top_files::load_netlist;
 use std::alloc::Global;
 

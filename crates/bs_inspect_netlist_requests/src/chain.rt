@@ -1,6 +1,6 @@
 //! The answer to `unscan`: a state, and what is said of the flip-flops that the order of the scan chain has no line for.
 ghost use Rattle.std.specs.Prelude.{◌≡◌, ◌<◌, ◌++◌, [], length, map, slice_index_or, IfOk, OnOk};
-ghost use Rattle.bs_top_answer.specs.Note.{Due, DueText};
+ghost use Rattle.bs_call.specs.Note.{Due, DueText};
 ghost use Rattle.bs_inspect_netlist.specs.Order.{is_listed, is_unlisted};
 ghost use Rattle.bs_inspect_notes.specs.Names.{unlisted_text};
 ghost use Rattle.bs_inspect_notes.specs.Nearest.{kept};
@@ -10,13 +10,13 @@ ghost use Rattle.bs_inspect_plans.specs.Said.{count_doubt, keys_unlisted, order_
 ghost use Rattle.bs_inspect_plans.specs.Work.{to_state};
 
 use crate::telling::tell_state;
+use bs_call::{Note, Response, note_made};
 use bs_inspect_files::Scanned;
 use bs_inspect_netlist::unlisted_count;
 use bs_inspect_notes::unlisted_note;
 use bs_inspect_values::flop_bytes;
 use bs_net::Netlist;
 use bs_outside::NoMemory;
-use bs_top_answer::{Note, Response, note_made};
 use std::alloc::Global;
 
 /// Whether an order has a line for a flip-flop.

@@ -6,14 +6,14 @@ ghost use Rattle.std.specs.Option.{unwrap_or};
 ghost use Rattle.bs_inspect_files.specs.Readings.{file_in};
 ghost use Rattle.bs_outside.specs.Prepared.{AnswersStop};
 ghost use Rattle.bs_outside.specs.Diagnostic.{line_stop, note_stop};
-ghost use Rattle.bs_top_answer.specs.Stops.{StopNoted};
+ghost use Rattle.bs_call.specs.Stops.{StopNoted};
 ghost use Rattle.bs_inspect_plans.specs.Sources.{behind_piece, chain_sources, dump_sources, joined, named_runs, named_values, near_sources, netlist_source, novel_sources, runs_sources, source_of, sources_in};
 
+use bs_call::Response;
 use bs_inspect_files::file_in;
 use bs_inspect_plans::{Sources, or_none, stop_at};
 use bs_inspect_words::{DumpRequest, NearRequest, NovelRequest, SignatureRequest, UnscanRequest};
 use bs_outside::{NoMemory, WalkStop};
-use bs_top_answer::Response;
 use std::alloc::Global;
 use std::io::ErrorKind;
 

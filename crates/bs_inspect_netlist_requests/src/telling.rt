@@ -5,7 +5,7 @@ ghost use Rattle.bs_inspect_plans.specs.Work.{to_runs, to_check, to_dump, to_flo
 ghost use Rattle.bs_inspect_values.specs.Simulated.{simulated_in};
 ghost use Rattle.bs_stim.specs.Runs.{inputs_of};
 ghost use Rattle.bs_scan.specs.Moments.{IsMoment};
-ghost use Rattle.bs_inspect_novel.specs.Novel.{TellsNovel};
+ghost use Rattle.bs_inspect_near.specs.Novel.{TellsNovel};
 ghost use Rattle.bs_inspect_near.specs.Tells.{TellsNear};
 ghost use Rattle.bs_inspect_plans.specs.Taken.{near_files_in};
 ghost use Rattle.bs_inspect_files.specs.Taken.{one_run_in, run_files_in};
@@ -20,13 +20,12 @@ ghost use Rattle.bs_inspect_seen.specs.Taken.{named_in};
 
 use bs_inspect_check::{Comparison, all_agree, check_text};
 use bs_inspect_files::{Checked, OneRun, RunFiles, Scanned};
-use bs_inspect_lists::signature_text;
 use bs_inspect_names::keys_text;
-use bs_inspect_near::near_text;
+use bs_inspect_near::{near_text, novel_text};
 use bs_inspect_netlist::{flops_text, inputs_text, last_dump, last_state, state_text, stats_text};
-use bs_inspect_novel::novel_text;
 use bs_inspect_plans::NearFiles;
 use bs_inspect_seen::{Named, state_text as seen_text};
+use bs_inspect_signature::signature_text;
 use bs_inspect_values::{Dumped, Simulated, runs_text};
 use bs_net::Netlist;
 use bs_outside::{NoMemory, Reply, Status};

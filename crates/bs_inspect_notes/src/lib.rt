@@ -1,13 +1,13 @@
 //! The notes of the program that tells about the files of a job: what is said of a simulation, and of names.
 //!
-//! Modules: `nearest` (the names that are nearest to one), `listing` (names and words in a note), `simulation` (on a VCD), `name` (on
+//! Modules: `distance` (the names that are nearest to one), `listing` (names and words in a note), `simulation` (on a VCD), `name` (on
 //! names and places that do not fit). Used above: the text of each note, exactly (`specs/Simulations`, `specs/Names`). A path before a
 //! name counts as none apart, so a forgotten scope is found (`specs/Nearest`). A sentence: its text in specs and its function.
 #![tactic(auto)]
 
+mod distance;
 mod listing;
 mod name;
-mod nearest;
 mod simulation;
 
 pub use listing::{LISTED, is_one_of, push_name, push_some_near, push_word};

@@ -4,7 +4,7 @@ ghost use Rattle.std.specs.List.{flat_map, list_any};
 ghost use Rattle.std.specs.Str.{bytes_eq};
 ghost use Rattle.bs_inspect_notes.specs.Listings.{listed, listing, more_piece, name_piece, near_or, near_text, quoted, some_listing, some_near, word_piece};
 
-use crate::nearest::{nearest, offered};
+use crate::distance::{nearest, offered};
 use bs_bits::{NoMemory, push_number, push_piece};
 use bs_net_names::{NAMED, push_quoted};
 use std::alloc::Global;

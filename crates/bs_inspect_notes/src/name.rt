@@ -9,6 +9,7 @@ use bs_note_files::{Message, file_note, plain_note};
 use std::alloc::Global;
 
 /// How many flip-flops that an order does not list are named.
+/// A note is to be read at a glance, and the rest is counted.
 pub const UNLISTED: usize = 8;
 
 /// What has a key, and a name in a simulation.

@@ -3,7 +3,7 @@ use Rattle.std.proofs.Common.{◌≡◌, ℕ, Bool, true, false, List, [], ◌�
 use Rattle.std.specs.Prelude.{codes}
 use Rattle.std.specs.Fmt.{digits}
 use Rattle.std.specs.List.{range_with_len}
-use Rattle.bs_net_names.specs.Signals.{Signal}
+use Rattle.bs_inspect_view.specs.Signals.{Signal}
 use Rattle.bs_report.specs.declared.report.Cand.{Cand}
 use Rattle.bs_report.specs.declared.report.HitLine.{HitLine}
 use Rattle.bs_report.specs.declared.report.ListEnd.{ListEnd}

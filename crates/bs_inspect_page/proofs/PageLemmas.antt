@@ -6,7 +6,7 @@ use Rattle.bs_bits.specs.declared.memory.NoMemory.{NoMemory}
 use Rattle.bs_net.specs.Parts.{Parts}
 use Rattle.bs_report.specs.declared.report.Report.{Report}
 use Rattle.bs_inspect_page.specs.Opens.{opens_of}
-use Rattle.bs_net_names.specs.Signals.{Signal}
+use Rattle.bs_inspect_view.specs.Signals.{Signal}
 use Rattle.bs_inspect_page.specs.Rows.{group_text}
 use Rattle.bs_inspect_html.proofs.PutLemmas.{four_put, three_put}
 use Rattle.bs_inspect_report.specs.Lemmas.{lemmas_logged}

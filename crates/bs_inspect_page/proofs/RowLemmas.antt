@@ -1,8 +1,8 @@
 -- Rows, one after another.
 use Rattle.std.proofs.Common.{◌≡◌, ℕ, ◌<◌, ◌+◌, List, ◌++◌, length, map, take, get_or, ap, ◌∙◌}
 use Rattle.std.specs.Prelude.{codes}
-use Rattle.bs_net_names.specs.declared.signal.Signal.{Signal as CodeSignal}
-use Rattle.bs_net_names.specs.Signals.{Signal, signal_in}
+use Rattle.bs_inspect_view.specs.declared.signal.Signal.{Signal as CodeSignal}
+use Rattle.bs_inspect_view.specs.Signals.{Signal, signal_in}
 use Rattle.bs_inspect_html.specs.Cells.{Figure}
 use Rattle.bs_inspect_html.specs.Names.{name_cell}
 use Rattle.bs_inspect_html.proofs.PutLemmas.{five_put, three_put}

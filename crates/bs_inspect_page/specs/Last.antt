@@ -1,8 +1,8 @@
 -- The last list, where no recorded run comes into a state of it.
 use Rattle.std.specs.Prelude.{ℕ, ◌+◌, ◌-◌, ◌==◌, Bool, List, [], ◌++◌, length, codes, decimal, slice_get, take, Option, Some, None, if◌then◌else◌}
 use Rattle.std.specs.List.{flat_map, list_any, range_with_len}
-use Rattle.bs_net_names.specs.Signals.{Signal}
-use Rattle.bs_net_names.specs.Values.{value_text}
+use Rattle.bs_inspect_view.specs.Signals.{Signal}
+use Rattle.bs_inspect_view.specs.Values.{value_text}
 use Rattle.bs_report.specs.declared.report.Cand.{Cand}
 use Rattle.bs_report.specs.declared.report.HitLine.{HitLine}
 use Rattle.bs_report.specs.declared.report.Report.{Report}

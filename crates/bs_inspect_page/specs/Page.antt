@@ -1,7 +1,7 @@
 -- The page of a report (docs/FORMATS.md, "The page").
 use Rattle.std.specs.Prelude.{◌≡◌, ℕ, ◌==◌, nat_lt, not, ◌&&◌, ◌||◌, Bool, List, [], ◌++◌, length, codes, filter, take, map, option_map, Option, Some, None, if◌then◌else◌}
 use Rattle.bs_net.specs.Parts.{Parts}
-use Rattle.bs_net_names.specs.Signals.{AreSignals, Signal}
+use Rattle.bs_inspect_view.specs.Signals.{AreSignals, Signal}
 use Rattle.bs_report.specs.declared.report.Report.{Report}
 use Rattle.bs_report.specs.declared.report.Step.{Step}
 use Rattle.bs_inspect_html.specs.Cells.{Figure, is_lively}

@@ -1,8 +1,8 @@
 -- The rows of signals, as HTML.
 use Rattle.std.specs.Prelude.{ℕ, ◌-◌, ◌==◌, nat_lt, Bool, true, false, List, [], ◌∷◌, ◌++◌, length, codes, decimal, if◌then◌else◌}
 use Rattle.std.specs.List.{flat_map, range_with_len}
-use Rattle.bs_net_names.specs.Signals.{Signal}
-use Rattle.bs_net_names.specs.Values.{value_text}
+use Rattle.bs_inspect_view.specs.Signals.{Signal}
+use Rattle.bs_inspect_view.specs.Values.{value_text}
 use Rattle.bs_inspect_html.specs.Cells.{ValueCell, Figure, begins, cell_from}
 use Rattle.bs_inspect_html.specs.Names.{name_cell}
 

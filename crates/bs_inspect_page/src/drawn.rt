@@ -1,14 +1,13 @@
 //! The signals that are drawn.
 ghost use Rattle.std.specs.Prelude.{◌≡◌, ◌==◌, ◌||◌, ◌<◌, ◌^◌, length, map, filter, take, All};
-ghost use Rattle.bs_net_names.specs.Signals.{signal_in};
+ghost use Rattle.bs_inspect_view.specs.Signals.{signal_in};
 ghost use Rattle.bs_inspect_html.specs.Cells.{is_lively};
 ghost use Rattle.bs_inspect_html.specs.Figures.{figure_in};
 ghost use Rattle.bs_inspect_page.specs.Page.{asked_in, drawn_flops_of, is_on_page};
 
 use crate::options::PageOptions;
 use bs_inspect_html::{Figure, is_lively};
-use bs_inspect_view::is_nameless;
-use bs_net_names::Signal;
+use bs_inspect_view::{Signal, is_nameless};
 
 /// Whether a signal with these places is drawn: it is open or changes, or there is but one moment.
 fn is_shown(figure: Figure<'_>, places: &[u32]) -> bool

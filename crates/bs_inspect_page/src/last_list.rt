@@ -1,7 +1,7 @@
 //! The last list, where no recorded run comes into a state of it.
 ghost use Rattle.std.specs.Prelude.{◌≡◌, ◌<◌, ◌+◌, ◌-◌, ◌^◌, ◌++◌, length, map, take, All, IfOk, OnOk, option_map};
 ghost use Rattle.std.specs.List.{flat_map, range_with_len};
-ghost use Rattle.bs_net_names.specs.Signals.{signal_in};
+ghost use Rattle.bs_inspect_view.specs.Signals.{signal_in};
 ghost use Rattle.bs_inspect_page.specs.declared.last_list.TheConstants.{MAX_SHOWN};
 ghost use Rattle.bs_inspect_page.specs.Last.{cand_cell, cand_cells, cand_column, cand_columns, cand_row, cand_rows, filled_text, list_front, list_text, shown_of, table_text, unmet_list, unmet_step, without_hit};
 ghost use Rattle.bs_inspect_page.specs.Page.{ShowsAny, ShowsLast, ShowsList, asked_in};
@@ -12,8 +12,8 @@ use crate::options::PageOptions;
 use bs_bits::{Bits, NoMemory, push_piece};
 use bs_inspect_html::{push_between, push_name_cell};
 use bs_inspect_report::{member, push_signal_value};
+use bs_inspect_view::Signal;
 use bs_net::Netlist;
-use bs_net_names::Signal;
 use bs_report::{Cand, Report, Step};
 use std::alloc::Global;
 

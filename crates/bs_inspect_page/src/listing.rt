@@ -1,6 +1,6 @@
 //! The flip-flops that are shown of a list.
 ghost use Rattle.std.specs.Prelude.{◌≡◌, ◌==◌, ◌||◌, ◌<◌, ◌^◌, length, map, filter, All, IfOk};
-ghost use Rattle.bs_net_names.specs.Signals.{signal_in};
+ghost use Rattle.bs_inspect_view.specs.Signals.{signal_in};
 ghost use Rattle.bs_inspect_page.specs.Last.{has_open};
 ghost use Rattle.bs_inspect_report.specs.Steps.{differing_bits};
 ghost use Rattle.bs_inspect_page.specs.Page.{AreListed, asked_in, is_listed, listed_of};
@@ -9,9 +9,8 @@ use crate::drawn::keep_first;
 use crate::options::PageOptions;
 use bs_bits::{Bits, NoMemory};
 use bs_inspect_report::{bit_at, differing_bits, flop_signals};
-use bs_inspect_view::is_nameless;
+use bs_inspect_view::{Signal, is_nameless};
 use bs_net::Netlist;
-use bs_net_names::Signal;
 use bs_report::Step;
 use std::alloc::Global;
 

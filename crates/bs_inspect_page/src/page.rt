@@ -1,6 +1,6 @@
 //! The page of a report.
 ghost use Rattle.std.specs.Prelude.{◌≡◌, ◌<◌, ◌^◌, ◌++◌, length, map, option_map, All, IfOk, OnOk};
-ghost use Rattle.bs_net_names.specs.Signals.{signal_in};
+ghost use Rattle.bs_inspect_view.specs.Signals.{signal_in};
 ghost use Rattle.bs_inspect_html.specs.Figures.{figure_in};
 ghost use Rattle.bs_inspect_page.specs.Rows.{group_text};
 ghost use Rattle.bs_inspect_html.specs.Reads.{signed_of};
@@ -17,8 +17,8 @@ use crate::step_table::push_step_table;
 use bs_bits::{Bits, List, NoMemory, push_piece};
 use bs_inspect_html::{Figure, SignatureFile, push_front, signed_of};
 use bs_inspect_report::{flop_signals, input_signals, is_execution};
+use bs_inspect_view::Signal;
 use bs_net::Netlist;
-use bs_net_names::Signal;
 use bs_report::Report;
 use std::alloc::Global;
 

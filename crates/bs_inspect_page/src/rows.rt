@@ -1,14 +1,14 @@
 //! The rows of signals, as HTML.
 ghost use Rattle.std.specs.Prelude.{◌≡◌, ◌<◌, ◌+◌, ◌^◌, ◌++◌, length, map, All, OnOk};
 ghost use Rattle.std.specs.List.{flat_map};
-ghost use Rattle.bs_net_names.specs.Signals.{signal_in};
+ghost use Rattle.bs_inspect_view.specs.Signals.{signal_in};
 ghost use Rattle.bs_inspect_html.specs.Cells.{ValueCell, cell_from};
 ghost use Rattle.bs_inspect_html.specs.Figures.{figure_in};
 ghost use Rattle.bs_inspect_page.specs.Rows.{cell_at, cell_text, cells_text, group_text, value_class, look_text, open_word, row_text, signal_rows, span_words, title_words};
 
 use bs_bits::{NoMemory, push_piece};
 use bs_inspect_html::{Figure, begins, bits_at, end_of, is_open, push_between, push_name_cell};
-use bs_net_names::{Signal, push_value};
+use bs_inspect_view::{Signal, push_value};
 
 /// Appends the class of a value.
 fn push_kind(text: &mut Vec<u8>, bits: &[bool]) -> Result<(), NoMemory>

@@ -2,9 +2,9 @@
 use Rattle.std.proofs.Common.{◌≡◌, ◌≢◌, ℕ, Bool, true, false, refl, sym, subst, None, Some}
 use Rattle.std.specs.Prelude.{◌==◌, if◌then◌else◌}
 use Rattle.std.proofs.lemmas.Bool.{ne_eqb}
-use Rattle.bs_top_answer.specs.declared.note.Note.{Note}
-use Rattle.bs_top_answer.specs.declared.note.Note.TheVariants.{Silent}
-use Rattle.bs_top_answer.specs.Note.{Due, DueText}
+use Rattle.bs_call.specs.declared.note.Note.{Note}
+use Rattle.bs_call.specs.declared.note.Note.TheVariants.{Silent}
+use Rattle.bs_call.specs.Note.{Due, DueText}
 use Rattle.bs_inspect_plans.specs.Lacking.{lack_text, lacking_text}
 
 pub none_lack : (count : ℕ) → count ≡ 0 → DueText (lacking_text count) Silent

@@ -1,9 +1,9 @@
 -- What is said of a trace of which no state is told.
 use Rattle.std.proofs.Common.{◌≡◌, ◌∙◌, ℕ, Bool, true, false, refl, sym, subst, None, Some}
 use Rattle.std.specs.Prelude.{if◌then◌else◌}
-use Rattle.bs_top_answer.specs.declared.note.Note.{Note}
-use Rattle.bs_top_answer.specs.declared.note.Note.TheVariants.{Silent}
-use Rattle.bs_top_answer.specs.Note.{Due, DueText}
+use Rattle.bs_call.specs.declared.note.Note.{Note}
+use Rattle.bs_call.specs.declared.note.Note.TheVariants.{Silent}
+use Rattle.bs_call.specs.Note.{Due, DueText}
 use Rattle.bs_inspect_report.specs.declared.window.Window.{Window}
 use Rattle.bs_inspect_plans.specs.Windows.{empty_text, shows_any, window_text}
 

@@ -13,14 +13,13 @@ use Rattle.bs_outside.specs.Prepared.{AnswersStop, IsWork}
 use Rattle.bs_outside.specs.Telling.{WalksDiagnosed}
 use Rattle.bs_outside.specs.Diagnostic.{line_stop, note_stop}
 use Rattle.bs_outside.proofs.TellingLemmas.{diagnosed_end}
-use Rattle.bs_top_answer.specs.declared.note.Response.{Response}
-use Rattle.bs_top_answer.specs.declared.note.Note.TheVariants.{Silent}
-use Rattle.bs_top_answer.specs.Note.{DueText}
-use Rattle.bs_top_answer.specs.Prepared.{NoteAlong, PreparedNoted, replied}
-use Rattle.bs_top_answer.specs.Stops.{StopNoted}
-use Rattle.bs_top_answer.proofs.AnswerLemmas.{diagnosed_as, diagnosed_stopped, diagnosed_work}
-use Rattle.bs_top_files.specs.NoteCases.{NoteCase, NoteSays}
-use Rattle.bs_top_files.specs.Refusals.{Case, CheckSays}
+use Rattle.bs_call.specs.declared.note.Response.{Response}
+use Rattle.bs_call.specs.declared.note.Note.TheVariants.{Silent}
+use Rattle.bs_call.specs.Note.{DueText}
+use Rattle.bs_call.specs.Prepared.{NoteAlong, PreparedNoted, replied}
+use Rattle.bs_call.specs.Stops.{StopNoted}
+use Rattle.bs_call.proofs.AnswerLemmas.{diagnosed_as, diagnosed_stopped, diagnosed_work}
+use Rattle.bs_top_files.specs.Causes.{Case, CheckSays, NoteSays}
 use Rattle.bs_inspect_words.specs.Request.{Request}
 use Rattle.bs_inspect_plans.specs.Said.{RequestSaid, said_by, silent, WordsSaid, WorkSaid, work_note}
 use Rattle.bs_inspect_plans.specs.Sources.{Sources, source_of}
@@ -31,8 +30,8 @@ use Rattle.bs_inspect_check.specs.Comparison.{all_agree}
 use Rattle.bs_outside.specs.declared.status.Status.TheVariants.{Done, Rejected}
 use Rattle.bs_inspect_report_texts.specs.declared.fault.Bench.{Bench}
 use Rattle.bs_inspect_report_texts.specs.declared.fault.Bench.TheVariants as bench
-use Rattle.bs_inspect_why.specs.declared.denial.Why.{Why}
-use Rattle.bs_inspect_why.specs.declared.denial.Why.TheVariants as why
+use Rattle.bs_inspect_why.specs.declared.denial.WhyAnswer.{WhyAnswer}
+use Rattle.bs_inspect_why.specs.declared.denial.WhyAnswer.TheVariants as why
 use Rattle.bs_inspect_plans.specs.Finishes.{bench_status, evidence_status, finishes, why_status}
 
 work_status : (work : Work) (status : Status) (text : List ℕ) → finishes work status text → is_work_status status ≡ true
@@ -69,7 +68,7 @@ work_status (to_novel most one_run) status text done = ap is_work_status done.0 
 work_status (to_near near_files) status text done = ap is_work_status done.0 ∙ refl
 work_status (to_why q trace_files) status text done = ap is_work_status done.answered ∙ by done.answer
   where
-    by : (w : Why) → is_work_status (why_status w) ≡ true
+    by : (w : WhyAnswer) → is_work_status (why_status w) ≡ true
     by (why.Text t) = refl
     by (why.Denied denial) = refl
 work_status (to_check checked) status text done = ap is_work_status done.0 ∙ by (all_agree checked.comparisons)
@@ -99,13 +98,13 @@ silent_said work (Err want) quiet = tt
 
 -- work that a walk made ready for, on which there is no note
 pub diagnosed_done : {S T : Type 0} {held : S → Tells} {faults : S → Counts} {leads : S → FetchCall → S → Type 0} {before now : S} {plan : Plan Case Work}
-    {looked : Plan NoteCase Work} {view : T → Work} {t : T} (path_of : File → List ℕ) (r : Result Reply NoMemory) (answer : Result Response NoMemory) →
-    answer ≡ silent r → work_note (view t) ≡ None → WalksDiagnosed CheckSays NoteSays held faults leads before now plan looked view view (Ok t) →
+    {view : T → Work} {t : T} (path_of : File → List ℕ) (r : Result Reply NoMemory) (answer : Result Response NoMemory) →
+    answer ≡ silent r → work_note (view t) ≡ None → WalksDiagnosed CheckSays NoteSays held faults leads before now plan view (Ok t) →
     IfOk r (λ a. finishes (view t) a.status a.text.items) →
-    PreparedNoted CheckSays finishes (NoteAlong NoteSays WorkSaid path_of looked) held faults leads before now (Some plan) answer
-diagnosed_done {held = held} {faults = faults} {leads = leads} {before = before} {now = now} {plan = plan} {looked = looked} {view = view} {t = t} path_of r answer
+    PreparedNoted CheckSays finishes (NoteAlong NoteSays WorkSaid path_of plan) held faults leads before now (Some plan) answer
+diagnosed_done {held = held} {faults = faults} {leads = leads} {before = before} {now = now} {plan = plan} {view = view} {t = t} path_of r answer
     same quiet walks done =
-    subst (PreparedNoted CheckSays finishes (NoteAlong NoteSays WorkSaid path_of looked) held faults leads before now (Some plan)) (sym same)
+    subst (PreparedNoted CheckSays finishes (NoteAlong NoteSays WorkSaid path_of plan) held faults leads before now (Some plan)) (sym same)
     (diagnosed_work WorkSaid path_of (silent r) is_work walks (silent_done (finishes (view t)) r done) (silent_said (view t) r quiet))
 
 -- a reply with a note on it
@@ -116,44 +115,44 @@ noted_done finish (Err want) r same done = tt
 
 -- a walk that stopped, with the names of these files
 pub diagnosed_stop_at : {S T : Type 0} {held : S → Tells} {faults : S → Counts} {leads : S → FetchCall → S → Type 0} {before now : S} {plan : Plan Case Work}
-    {looked : Plan NoteCase Work} {view : T → Work} {stop : WalkStop} (given sources : Sources) (r : Result Response NoMemory) → given ≡ sources →
-    WalksDiagnosed CheckSays NoteSays held faults leads before now plan looked view view (Err stop) →
+    {view : T → Work} {stop : WalkStop} (given sources : Sources) (r : Result Response NoMemory) → given ≡ sources →
+    WalksDiagnosed CheckSays NoteSays held faults leads before now plan view (Err stop) →
     IfOk r (λ a. AnswersStop (line_stop stop) a.reply.status a.reply.text.items) → IfOk r (λ a. StopNoted (source_of given) (note_stop stop) a.note) →
-    PreparedNoted CheckSays finishes (NoteAlong NoteSays WorkSaid (source_of sources) looked) held faults leads before now (Some plan) r
+    PreparedNoted CheckSays finishes (NoteAlong NoteSays WorkSaid (source_of sources) plan) held faults leads before now (Some plan) r
 diagnosed_stop_at {stop = stop} given sources r same walks line says =
     diagnosed_stopped finishes WorkSaid (source_of sources) r walks line
     (subst (λ (n : Sources). IfOk r (λ a. StopNoted (source_of n) (note_stop stop) a.note)) same says)
 
--- The same by the plans of the walk alone. They are given, so that no proof of a request writes out what they unfold to.
+-- The same by the plan of the walk alone. It is given, so that no proof of a request writes out what it unfolds to.
 pub walked_done : {A S T : Type 0} {held : S → Tells} {faults : S → Counts} {leads : S → FetchCall → S → Type 0} {before now : S} {view : T → A} {t : T}
-    (plan : Plan Case A) (looked : Plan NoteCase A) (work : A → Work) (path_of : File → List ℕ) (r : Result Reply NoMemory)
+    (plan : Plan Case A) (work : A → Work) (path_of : File → List ℕ) (r : Result Reply NoMemory)
     (answer : Result Response NoMemory) → answer ≡ silent r → work_note (work (view t)) ≡ None →
-    WalksDiagnosed CheckSays NoteSays held faults leads before now plan looked view view (Ok t) →
+    WalksDiagnosed CheckSays NoteSays held faults leads before now plan view (Ok t) →
     IfOk r (λ a. finishes (work (view t)) a.status a.text.items) →
-    PreparedNoted CheckSays finishes (NoteAlong NoteSays WorkSaid path_of (looked >>= (λ v. end (work v)))) held faults leads before now
+    PreparedNoted CheckSays finishes (NoteAlong NoteSays WorkSaid path_of (plan >>= (λ v. end (work v)))) held faults leads before now
     (Some (plan >>= (λ v. end (work v)))) answer
-walked_done {T = T} {view = view} {t = t} plan looked work path_of r answer same quiet walks done =
+walked_done {T = T} {view = view} {t = t} plan work path_of r answer same quiet walks done =
     diagnosed_done {T = T} {view = λ x. work (view x)} {t = t} path_of r answer same quiet (diagnosed_as work walks) done
 
 -- the same of work on which there is a note
 pub walked_noted : {A S T : Type 0} {held : S → Tells} {faults : S → Counts} {leads : S → FetchCall → S → Type 0} {before now : S} {view : T → A} {t : T}
-    (plan : Plan Case A) (looked : Plan NoteCase A) (work : A → Work) (path_of : File → List ℕ) (r : Result Reply NoMemory)
+    (plan : Plan Case A) (work : A → Work) (path_of : File → List ℕ) (r : Result Reply NoMemory)
     (answer : Result Response NoMemory) → replied answer ≡ r → IfOk answer (λ a. WorkSaid (work (view t)) a.reply.text.items a.note) →
-    WalksDiagnosed CheckSays NoteSays held faults leads before now plan looked view view (Ok t) →
+    WalksDiagnosed CheckSays NoteSays held faults leads before now plan view (Ok t) →
     IfOk r (λ a. finishes (work (view t)) a.status a.text.items) →
-    PreparedNoted CheckSays finishes (NoteAlong NoteSays WorkSaid path_of (looked >>= (λ v. end (work v)))) held faults leads before now
+    PreparedNoted CheckSays finishes (NoteAlong NoteSays WorkSaid path_of (plan >>= (λ v. end (work v)))) held faults leads before now
     (Some (plan >>= (λ v. end (work v)))) answer
-walked_noted {T = T} {view = view} {t = t} plan looked work path_of r answer same said walks done =
+walked_noted {T = T} {view = view} {t = t} plan work path_of r answer same said walks done =
     diagnosed_work {T = T} {view = λ x. work (view x)} {t = t} WorkSaid path_of answer is_work (diagnosed_as work walks)
     (noted_done (finishes (work (view t))) answer r same done) said
 
 pub walked_stop : {A S T : Type 0} {held : S → Tells} {faults : S → Counts} {leads : S → FetchCall → S → Type 0} {before now : S} {view : T → A}
-    {stop : WalkStop} (plan : Plan Case A) (looked : Plan NoteCase A) (work : A → Work) (given sources : Sources) (r : Result Response NoMemory) →
-    given ≡ sources → WalksDiagnosed CheckSays NoteSays held faults leads before now plan looked view view (Err stop) →
+    {stop : WalkStop} (plan : Plan Case A) (work : A → Work) (given sources : Sources) (r : Result Response NoMemory) →
+    given ≡ sources → WalksDiagnosed CheckSays NoteSays held faults leads before now plan view (Err stop) →
     IfOk r (λ a. AnswersStop (line_stop stop) a.reply.status a.reply.text.items) → IfOk r (λ a. StopNoted (source_of given) (note_stop stop) a.note) →
-    PreparedNoted CheckSays finishes (NoteAlong NoteSays WorkSaid (source_of sources) (looked >>= (λ v. end (work v)))) held faults leads before now
+    PreparedNoted CheckSays finishes (NoteAlong NoteSays WorkSaid (source_of sources) (plan >>= (λ v. end (work v)))) held faults leads before now
     (Some (plan >>= (λ v. end (work v)))) r
-walked_stop plan looked work given sources r same walks line says =
+walked_stop plan work given sources r same walks line says =
     diagnosed_stop_at given sources r same (diagnosed_as work walks) line says
 
 -- the answer to a request of no file

@@ -10,8 +10,8 @@ use Rattle.bs_inspect_check.specs.Text.{TellsCheck}
 use Rattle.bs_inspect_plans.specs.Asked.{drawing_of}
 use Rattle.bs_inspect_view.specs.Save.{IsSaveFile}
 use Rattle.bs_inspect_view.specs.View.{IsDrawing}
-use Rattle.bs_inspect_lists.specs.Signature.{TellsSignature}
-use Rattle.bs_inspect_novel.specs.Novel.{TellsNovel}
+use Rattle.bs_inspect_signature.specs.Signature.{TellsSignature}
+use Rattle.bs_inspect_near.specs.Novel.{TellsNovel}
 use Rattle.bs_inspect_near.specs.Tells.{TellsNear}
 use Rattle.bs_inspect_names.specs.Called.{TellsKeys}
 use Rattle.bs_inspect_netlist.specs.Order.{state_line}
@@ -33,8 +33,8 @@ use Rattle.bs_inspect_seen.specs.State.{state_line as seen_line}
 use Rattle.bs_inspect_why.specs.Denials.{denial_text}
 use Rattle.bs_inspect_why.specs.Question.{Question}
 use Rattle.bs_inspect_why.specs.Why.{Answers}
-use Rattle.bs_inspect_why.specs.declared.denial.Why.{Why}
-use Rattle.bs_inspect_why.specs.declared.denial.Why.TheVariants as why
+use Rattle.bs_inspect_why.specs.declared.denial.WhyAnswer.{WhyAnswer}
+use Rattle.bs_inspect_why.specs.declared.denial.WhyAnswer.TheVariants as why
 use Rattle.bs_inspect_plans.specs.Usage.{usage_text, version_text}
 use Rattle.bs_inspect_plans.specs.Work.{Work, to_help, to_version, to_flops, to_inputs, to_stats, to_steps, to_trace, to_runs, to_dump, to_wave, to_save, to_signature}
 use Rattle.bs_net.specs.Netlist.{circuit_of}
@@ -44,7 +44,7 @@ use Rattle.bs_evidence.specs.declared.flaw.Evidence.TheVariants.{Text, Flawed}
 use Rattle.bs_evidence.specs.Evidence.{IsEvidence}
 use Rattle.bs_evidence.specs.Words.{flaw_text}
 use Rattle.bs_evidence.specs.Lengths.{IsEvidence as IsLengthEvidence}
-use Rattle.bs_top_reach.specs.Searched.{AnswerFiles}
+use Rattle.bs_reach_answer.specs.Searched.{AnswerFiles}
 use Rattle.bs_inspect_files.specs.Taken.{BenchFiles, ReportFiles, TraceFiles}
 use Rattle.bs_inspect_plans.specs.Work.{to_table, to_steps_table, to_lists, to_keys, to_seen, to_state, to_evidence, to_lengths, to_page, to_novel, to_why, to_check, to_bench, to_near}
 
@@ -73,17 +73,17 @@ pub record TellsLengths (kind : Format) (asked : Option ℕ) (answer_files : Ans
   pub written : text ≡ evidence_text evidence
 
 -- the status and the text of an answer to `why`: where there is no account, it is answered as an audit answers a part that fails
-abbrev pub why_status : Why → Status
+abbrev pub why_status : WhyAnswer → Status
 why_status (why.Text text) = Done
 why_status (why.Denied denial) = Rejected
 
-abbrev pub why_text : Why → List ℕ
+abbrev pub why_text : WhyAnswer → List ℕ
 why_text (why.Text text) = text.items
 why_text (why.Denied denial) = denial_text denial
 
 -- what forces the bits of a name, or why it is not told
 pub record TellsReasons (q : Question) (trace_files : TraceFiles) (status : Status) (text : List ℕ) : Type 0 where
-  pub answer : Why
+  pub answer : WhyAnswer
   pub right : Answers trace_files.raw trace_files.report q answer
   pub answered : status ≡ why_status answer
   pub written : text ≡ why_text answer

@@ -5,10 +5,9 @@ use Rattle.bs_net.specs.Parts.{Parts}
 use Rattle.bs_outside.specs.declared.file.File.TheVariants as files
 use Rattle.bs_outside.specs.Plan.{Plan, end, ◌>>=◌, fetched, read_as}
 use Rattle.bs_scan.specs.declared.seen.Seen.{Seen}
-use Rattle.bs_top_files.specs.NoteCases.{NoteCase}
-use Rattle.bs_top_files.specs.Refusals.{Case}
-use Rattle.bs_inspect_files.specs.Taken.{RunFiles, run_files_in, run_files_looked, run_files_of}
-use Rattle.bs_inspect_plans.specs.Readings.{state_noted, state_read}
+use Rattle.bs_top_files.specs.Causes.{Case}
+use Rattle.bs_inspect_files.specs.Taken.{RunFiles, run_files_in, run_files_of}
+use Rattle.bs_inspect_plans.specs.Readings.{state_read}
 use Rattle.bs_inspect_plans.specs.declared.ready.NearFiles.{NearFiles as CodeNearFiles}
 
 -- a netlist's parts and recorded runs, and what is seen of a state of the netlist
@@ -26,8 +25,8 @@ width_of raw = length (circuit_of raw).flops
 -- what is seen of the state in the dump of a file
 abbrev pub state_of : Parts → List ℕ → Plan Case Seen
 state_of raw name = do
-  bytes ← fetched files.Dump name
-  read_as files.Dump (state_read (width_of raw) bytes)
+  text ← fetched files.Dump name
+  read_as files.Dump (state_read (width_of raw) name text)
 
 -- three files
 abbrev pub near_files_of : (netlist stimulus dump : List ℕ) → Plan Case NearFiles
@@ -36,27 +35,9 @@ near_files_of netlist stimulus dump = do
   seen ← state_of run_files.raw dump
   end record { run_files = run_files; seen = seen }
 
--- ---- the same as the notes see them
-
-abbrev pub state_looked : Parts → List ℕ → Plan NoteCase Seen
-state_looked raw name = do
-  text ← fetched files.Dump name
-  read_as files.Dump (state_noted (width_of raw) name text)
-
-abbrev pub near_files_looked : (netlist stimulus dump : List ℕ) → Plan NoteCase NearFiles
-near_files_looked netlist stimulus dump = do
-  run_files ← run_files_looked netlist stimulus
-  seen ← state_looked run_files.raw dump
-  end record { run_files = run_files; seen = seen }
-
 -- ---- what is left of a walk behind the runs
 
 abbrev pub near_step : RunFiles → List ℕ → Plan Case NearFiles
 near_step run_files dump = do
   seen ← state_of run_files.raw dump
-  end record { run_files = run_files; seen = seen }
-
-abbrev pub near_step_looked : RunFiles → List ℕ → Plan NoteCase NearFiles
-near_step_looked run_files dump = do
-  seen ← state_looked run_files.raw dump
   end record { run_files = run_files; seen = seen }

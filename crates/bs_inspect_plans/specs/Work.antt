@@ -5,10 +5,10 @@ use Rattle.bs_report.specs.declared.report.Report.{Report}
 use Rattle.bs_inspect_words.specs.Request.{Request, Help, Version, Flops, Inputs, Stats, Keys, Seen, Trace, TraceTable, Steps, StepsTable, Lists, Wave, Gtkw, Stimulus, Check, Dump, Signature, Unscan, Bench, Cnf, Lrat, ReachCnf, ReachLrat, Page, Novel, Near, Why}
 use Rattle.bs_outside.specs.Plan.{Plan, end, ◌>>=◌}
 use Rattle.bs_top_files.specs.Entry.{netlist_of, report_of}
-use Rattle.bs_top_files.specs.Refusals.{Case}
+use Rattle.bs_top_files.specs.Causes.{Case}
 use Rattle.bs_evidence.specs.declared.evidence.Format.{Format}
 use Rattle.bs_evidence.specs.declared.evidence.Format.TheVariants.{Clauses, Proof}
-use Rattle.bs_top_reach.specs.Searched.{AnswerFiles, answer_files_of}
+use Rattle.bs_reach_answer.specs.Searched.{AnswerFiles, answer_files_of}
 use Rattle.bs_inspect_files.specs.Taken.{BenchFiles, OneRun, TraceFiles, RunFiles, ReportFiles, bench_files_of, picked_of, charted_of, one_run_of, run_files_of, report_files_of}
 use Rattle.bs_inspect_files.specs.Paged.{page_files_of}
 use Rattle.bs_inspect_files.specs.Checked.{Checked, checked_of}

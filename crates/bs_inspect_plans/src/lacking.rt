@@ -1,13 +1,13 @@
 //! What is said of a dump whose simulation does not have all flip-flops.
 ghost use Rattle.std.specs.Prelude.{◌≡◌, ◌++◌, IfOk};
-ghost use Rattle.bs_top_answer.specs.Note.{Due, DueText};
-ghost use Rattle.bs_top_answer.specs.Prepared.{replied};
+ghost use Rattle.bs_call.specs.Note.{Due, DueText};
+ghost use Rattle.bs_call.specs.Prepared.{replied};
 ghost use Rattle.bs_inspect_plans.specs.Lacking.{lack_sentence, lack_text, lacking_text};
 
 use bs_bits::push_number;
+use bs_call::{Note, Response, note_made};
 use bs_note_files::pair_note;
 use bs_outside::{NoMemory, Reply};
-use bs_top_answer::{Note, Response, note_made};
 use std::alloc::Global;
 
 /// What is said of so many flip-flops that are not there.

@@ -6,12 +6,12 @@
 //! walk that stopped), `replies` (a reply with no note), `rejection` (what an answer that is rejected means),
 //! `window` (a trace of which no state is told), `lacking` (a dump of which flip-flops are not there), `usage` (what `help` and `version` show). Used
 //! above: `plan_of`, `finishes` and `RequestSaid`, which the answer to a request is proved of
-//! (bs_inspect_report_requests, bs_inspect_netlist_requests), and the clauses of the call (bs_inspect).
+//! (bs_inspect_report_requests, bs_inspect_netlist_requests), and the clauses of the call (backspace_inspect).
 //! `proofs/WorkLemmas`: a walk that came to its end, or stopped, is such an answer.
 //!
 //! Of these files: `reading` (what is seen in the first line of a dump, or a diagnostic), `ready`
 //! (`NearFiles`), `loading` (`load_near_files`). What stands behind the first line of the dump is not read,
-//! so that no signature is wanted. Used above: `WalksDiagnosed CheckSays NoteSays ..` over the two plans of
+//! so that no signature is wanted. Used above: `WalksDiagnosed CheckSays NoteSays ..` over the plan of
 //! `specs/Taken`.
 #![tactic(auto)]
 

@@ -2,10 +2,9 @@
 ghost use Rattle.std.specs.Prelude.{◌≡◌, length, IfOk};
 ghost use Rattle.bs_net.specs.Netlist.{circuit};
 ghost use Rattle.bs_outside.specs.Telling.{WalksDiagnosed};
-ghost use Rattle.bs_top_files.specs.NoteCases.{NoteSays};
-ghost use Rattle.bs_top_files.specs.Refusals.{CheckSays};
+ghost use Rattle.bs_top_files.specs.Causes.{CheckSays, NoteSays};
 ghost use Rattle.bs_inspect_files.specs.Taken.{run_files_in};
-ghost use Rattle.bs_inspect_plans.specs.Taken.{near_files_in, near_files_looked, near_files_of, near_step, near_step_looked, state_looked, state_of};
+ghost use Rattle.bs_inspect_plans.specs.Taken.{near_files_in, near_files_of, near_step, state_of};
 
 use crate::reading::state_or_diagnostic;
 use crate::ready::NearFiles;
@@ -26,7 +25,7 @@ fn load_state<S: Shelf>(
     dump: &str,
 ) -> Result<Seen, WalkStop>
     ensures walks { WalksDiagnosed CheckSays NoteSays S.held S.faults S.leads shelf.old shelf.new
-        (state_of net.now.raw dump.now) (state_looked net.now.raw dump.now) (λ seen. seen) (λ seen. seen) result }
+        (state_of net.now.raw dump.now) (λ seen. seen) result }
     ensures size { IfOk result (λ seen. length seen.bits ≡ length (circuit net.now).flops) }
 {
     let bytes = fetch_file(alloc, shelf, File::Dump, dump)?;
@@ -41,7 +40,7 @@ fn load_near<S: Shelf>(
     dump: &str,
 ) -> Result<NearFiles, WalkStop>
     ensures { WalksDiagnosed CheckSays NoteSays S.held S.faults S.leads shelf.old shelf.new
-        (near_step (run_files_in run_files) dump.now) (near_step_looked (run_files_in run_files) dump.now) near_files_in near_files_in result }
+        (near_step (run_files_in run_files) dump.now) near_files_in result }
 {
     match load_state(alloc, shelf, &run_files.net, dump) {
         Ok(seen) => Ok(NearFiles { run_files, seen }),
@@ -61,7 +60,7 @@ pub fn load_near_files<S: Shelf>(
     dump: &str,
 ) -> Result<NearFiles, WalkStop>
     ensures { WalksDiagnosed CheckSays NoteSays S.held S.faults S.leads shelf.old shelf.new
-        (near_files_of netlist.now runs.now dump.now) (near_files_looked netlist.now runs.now dump.now) near_files_in near_files_in result }
+        (near_files_of netlist.now runs.now dump.now) near_files_in result }
 {
     match load_run_files(alloc, shelf, netlist, runs) {
         Ok(run_files) => load_near(alloc, shelf, run_files, dump),

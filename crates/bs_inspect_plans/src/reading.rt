@@ -7,14 +7,13 @@ ghost use Rattle.bs_net.specs.Netlist.{circuit};
 ghost use Rattle.bs_scan.specs.SeenText.{seen_of};
 ghost use Rattle.bs_scan.specs.DumpText.{behind, seen_of_width as seen_of_width_of};
 ghost use Rattle.bs_scan.specs.declared.fault.DumpFault.TheVariants.{NoMemory as DumpWant};
-ghost use Rattle.bs_outside.specs.declared.walk.Refusal.TheVariants.{NoMemory as Want};
+ghost use Rattle.bs_outside.specs.declared.file_fetch.Refusal.TheVariants.{NoMemory as Want};
 ghost use Rattle.bs_outside.specs.Plan.{Says};
 ghost use Rattle.bs_outside.specs.Diagnostic.{note_refusal, noted, word_refusal, worded};
 ghost use Rattle.bs_outside.specs.Walks.{Reads};
-ghost use Rattle.bs_top_files.specs.NoteCases.{HasNote, NoteSays};
-ghost use Rattle.bs_top_files.specs.Noting.{dump_note_reason};
-ghost use Rattle.bs_top_files.specs.Refusals.{CheckSays, dump_words, HasWords};
-ghost use Rattle.bs_inspect_plans.specs.Readings.{state_line, state_noted, state_read, widths_for};
+ghost use Rattle.bs_top_files.specs.Causes.{CheckSays, dump_reason, HasNote, NoteSays};
+ghost use Rattle.bs_top_files.specs.Refusals.{dump_words, HasWords};
+ghost use Rattle.bs_inspect_plans.specs.Readings.{state_line, state_read, widths_for};
 ghost use Rattle.bs_inspect_plans.specs.Taken.{width_of};
 
 use bs_bits::{NoMemory, next_line};
@@ -135,7 +134,7 @@ fn state_note(
     widths: Widths,
     fault: DumpFault,
 ) -> Result<Vec<u8>, NoMemory>
-    ensures { IfOk result (λ note. Says NoteSays (dump_note_reason widths path.now text.now fault) note.items) }
+    ensures { IfOk result (λ note. Says NoteSays (dump_reason widths path.now text.now fault) note.items) }
 {
     match mistaken(File::Dump, text) {
         Some(kind) => mistaken_note(alloc, File::Dump, kind, path),
@@ -154,7 +153,7 @@ fn state_diagnostic(
 ) -> Unread
     ensures words { HasWords (dump_words fault) (word_refusal result) }
     ensures want { fault ≡ DumpWant → word_refusal result ≡ Want }
-    ensures note { HasNote (dump_note_reason widths path.now text.now fault) (note_refusal result) }
+    ensures note { HasNote (dump_reason widths path.now text.now fault) (note_refusal result) }
     ensures none { fault ≡ DumpWant → note_refusal result ≡ Want }
 {
     let words = state_refusal(alloc, fault);
@@ -164,8 +163,8 @@ fn state_diagnostic(
 
 /// What is seen of a state of so many bits in the first line of a text, or its diagnostic.
 fn seen_or_diagnostic(alloc: Global, path: &str, text: &[u8], width: usize) -> Result<Seen, Unread>
-    ensures words { Reads CheckSays (λ seen. seen) (state_read width text.now) (worded result) }
-    ensures note { Reads NoteSays (λ seen. seen) (state_noted width path.now text.now) (noted result) }
+    ensures words { Reads CheckSays (λ seen. seen) (state_read width path.now text.now) (worded result) }
+    ensures note { Reads NoteSays (λ seen. seen) (state_read width path.now text.now) (noted result) }
     ensures size { IfOk result (λ seen. length seen.bits ≡ width) }
 {
     let widths = widths_for(width);
@@ -182,8 +181,8 @@ pub fn state_or_diagnostic(
     text: &[u8],
     net: &Netlist,
 ) -> Result<Seen, Unread>
-    ensures words { Reads CheckSays (λ seen. seen) (state_read (width_of net.now.raw) text.now) (worded result) }
-    ensures note { Reads NoteSays (λ seen. seen) (state_noted (width_of net.now.raw) path.now text.now) (noted result) }
+    ensures words { Reads CheckSays (λ seen. seen) (state_read (width_of net.now.raw) path.now text.now) (worded result) }
+    ensures note { Reads NoteSays (λ seen. seen) (state_read (width_of net.now.raw) path.now text.now) (noted result) }
     ensures size { IfOk result (λ seen. length seen.bits ≡ length (circuit net.now).flops) }
 {
     seen_or_diagnostic(alloc, path, text, net.width())

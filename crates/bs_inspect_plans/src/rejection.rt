@@ -1,13 +1,13 @@
 //! What an answer that begins with the word `rejected` means, and what to do.
 ghost use Rattle.std.specs.Prelude.{◌≡◌, option_map, IfOk};
 ghost use Rattle.bs_note_files.specs.Notes.{said};
-ghost use Rattle.bs_top_answer.specs.Note.{Due, DueText};
-ghost use Rattle.bs_top_answer.specs.Prepared.{replied};
+ghost use Rattle.bs_call.specs.Note.{Due, DueText};
+ghost use Rattle.bs_call.specs.Prepared.{replied};
 ghost use Rattle.bs_inspect_plans.specs.Rejections.{bench_meaning, evidence_meaning, meaning_of, meaning_text, rejected_text, why_meaning};
 
+use bs_call::{Note, Response, note_made};
 use bs_note_files::{Message, pair_note};
 use bs_outside::{NoMemory, Reply};
-use bs_top_answer::{Note, Response, note_made};
 use std::alloc::Global;
 
 /// The requests whose answers may be rejected: `why`, `bench`, and those of evidence.

@@ -2,8 +2,8 @@
 ghost use Rattle.std.specs.Prelude.{◌≡◌};
 ghost use Rattle.bs_inspect_plans.specs.Said.{silent};
 
+use bs_call::{Note, Response};
 use bs_outside::{NoMemory, Reply};
-use bs_top_answer::{Note, Response};
 
 /// A reply on which there is no note.
 pub fn silent(reply: Result<Reply, NoMemory>) -> Result<Response, NoMemory>

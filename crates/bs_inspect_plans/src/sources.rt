@@ -3,11 +3,11 @@ ghost use Rattle.std.specs.Prelude.{◌≡◌, IfOk, option_map, [], IfSome};
 ghost use Rattle.std.specs.Option.{unwrap_or};
 ghost use Rattle.bs_outside.specs.Prepared.{AnswersStop};
 ghost use Rattle.bs_outside.specs.Diagnostic.{line_stop, note_stop};
-ghost use Rattle.bs_top_answer.specs.Stops.{stop_file, StopNoted};
+ghost use Rattle.bs_call.specs.Stops.{stop_file, StopNoted};
 ghost use Rattle.bs_inspect_plans.specs.Sources.{source_of, sources_in};
 
+use bs_call::{Response, stop_file, stopped_at};
 use bs_outside::{File, NoMemory, WalkStop};
-use bs_top_answer::{Response, stop_file, stopped_at};
 use std::alloc::Global;
 use std::io::ErrorKind;
 
@@ -50,7 +50,7 @@ pub fn or_none<'a>(name: Option<&'a str>) -> &'a str
 }
 
 /// The name of the file at which a walk stopped.
-#[tactic(auto, using(bs_top_answer::proofs::NoteLemmas::path_there, bs_top_answer::proofs::NoteLemmas::path_none))]
+#[tactic(auto, using(bs_call::proofs::NoteLemmas::path_there, bs_call::proofs::NoteLemmas::path_none))]
 fn stop_source<'a>(sources: &Sources<'a>, stop: &WalkStop) -> &'a str
     ensures { IfSome (stop_file stop.now) (λ file. result.now ≡ source_of (sources_in sources.now) file) }
 {

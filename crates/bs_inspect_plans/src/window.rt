@@ -1,18 +1,18 @@
 //! What is said of a trace of which no state is told.
 ghost use Rattle.std.specs.Prelude.{◌≡◌, ◌++◌, length, IfOk};
 ghost use Rattle.std.specs.List.{list_any, range_with_len};
-ghost use Rattle.bs_top_answer.specs.Note.{Due, DueText};
-ghost use Rattle.bs_top_answer.specs.Prepared.{replied};
+ghost use Rattle.bs_call.specs.Note.{Due, DueText};
+ghost use Rattle.bs_call.specs.Prepared.{replied};
 ghost use Rattle.bs_inspect_report.specs.Window.{is_late, is_shown, is_up_to};
 ghost use Rattle.bs_inspect_plans.specs.Asked.{window_of};
 ghost use Rattle.bs_inspect_plans.specs.Windows.{empty_sentence, empty_text, shows_any, window_text};
 
 use bs_bits::push_number;
+use bs_call::{Note, Response, note_made};
 use bs_inspect_usages::TraceWindow;
 use bs_note_files::pair_note;
 use bs_outside::{NoMemory, Reply};
 use bs_report::Report;
-use bs_top_answer::{Note, Response, note_made};
 use std::alloc::Global;
 
 /// Whether a state is not behind the last one that is told.

@@ -4,7 +4,7 @@ use Rattle.std.specs.Prelude.{codes}
 use Rattle.std.specs.Fmt.{digits}
 use Rattle.bs_report.specs.declared.report.Report.{Report}
 use Rattle.bs_report.specs.declared.report.Stop.TheVariants as stops
-use Rattle.bs_net_names.specs.Signals.{Signal}
+use Rattle.bs_inspect_view.specs.Signals.{Signal}
 use Rattle.bs_inspect_report.specs.Remarks.{remarks}
 use Rattle.bs_inspect_report.specs.Table.{trace_rows}
 use Rattle.bs_inspect_report.specs.Trace.{Signals, trace_lines}

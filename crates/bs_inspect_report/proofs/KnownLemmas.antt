@@ -8,8 +8,8 @@ use Rattle.std.proofs.lemmas.Bool.{ne_eqb}
 use Rattle.std.proofs.lemmas.List.{drop_more, drop_all, length-map}
 use Rattle.bs_net_names.specs.Keys.{key_parts}
 use Rattle.bs_net_names.specs.Naming.{is_named}
-use Rattle.bs_net_names.specs.Signals.{Member, member_in, member_of, members_from, members_of}
-use Rattle.bs_net_names.specs.declared.signal.Member.{Member as CodeMember}
+use Rattle.bs_inspect_view.specs.Signals.{Member, member_in, member_of, members_from, members_of}
+use Rattle.bs_inspect_view.specs.declared.signal.Member.{Member as CodeMember}
 use Rattle.bs_inspect_report.specs.Known.{has_named}
 
 one_more : (b : Bool) (m : Member) (ms : List Member) → not (length ((if b || false then m ∷ [] else []) ++ ms) == 0) ≡ b || not (length ms == 0)

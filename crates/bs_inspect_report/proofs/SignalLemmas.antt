@@ -10,9 +10,9 @@ use Rattle.std.proofs.lemmas.List.Folds.{length-flat_map-take}
 use Rattle.std.proofs.lemmas.List.Sorted.{length_permutation}
 use Rattle.std.proofs.lemmas.Result.{IfOk-weaker}
 use Rattle.bs_bits.specs.declared.memory.NoMemory.{NoMemory}
-use Rattle.bs_net_names.specs.declared.signal.Signal.{Signal as CodeSignal}
+use Rattle.bs_inspect_view.specs.declared.signal.Signal.{Signal as CodeSignal}
 use Rattle.bs_net_names.specs.Keys.{key_parts}
-use Rattle.bs_net_names.specs.Signals.{AreSignals, Signal, bits_from, bits_of, is_wanted, lower, members_from, members_of, signal_in, wanted}
+use Rattle.bs_inspect_view.specs.Signals.{AreSignals, Signal, bits_from, bits_of, is_wanted, lower, members_from, members_of, signal_in, wanted}
 use Rattle.bs_inspect_report.specs.Signal.{bit_at, signal_bits, signal_piece, signals_lines}
 
 pub bits_more : (bits : List Bool) (places : List ℕ) (i d : ℕ) (own : List Bool) → i < length places → own ≡ signal_bits bits (take i places) →

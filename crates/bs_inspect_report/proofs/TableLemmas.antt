@@ -6,8 +6,8 @@ use Rattle.std.proofs.lemmas.Grind.{flat_map-append}
 use Rattle.std.proofs.lemmas.List.{take_more, map-append, append-nil}
 use Rattle.bs_report.specs.declared.report.Report.{Report}
 use Rattle.bs_report.specs.declared.report.Step.{Step}
-use Rattle.bs_net_names.specs.declared.signal.Signal.{Signal as CodeSignal}
-use Rattle.bs_net_names.specs.Signals.{Signal, signal_in}
+use Rattle.bs_inspect_view.specs.declared.signal.Signal.{Signal as CodeSignal}
+use Rattle.bs_inspect_view.specs.Signals.{Signal, signal_in}
 use Rattle.bs_inspect_report.specs.Table.{name_cell, name_cells, row_of, step_row, step_row_at, value_cell, value_cells}
 
 -- a signal's piece more

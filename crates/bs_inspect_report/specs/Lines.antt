@@ -1,6 +1,6 @@
 -- The signals of the code as the definitions see them.
 use Rattle.std.specs.Prelude.{map}
-use Rattle.bs_net_names.specs.Signals.{signal_in}
+use Rattle.bs_inspect_view.specs.Signals.{signal_in}
 use Rattle.bs_inspect_report.specs.declared.named.Signals.{Signals as CodeSignals}
 use Rattle.bs_inspect_report.specs.Trace.{Signals}
 

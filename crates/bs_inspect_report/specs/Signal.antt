@@ -3,8 +3,8 @@ use Rattle.std.specs.Prelude.{ℕ, ◌==◌, Bool, true, false, not, List, [], �
 use Rattle.std.specs.Bool.{beq}
 use Rattle.std.specs.List.{flat_map, list_any}
 use Rattle.bs_bits.specs.Lines.{line}
-use Rattle.bs_net_names.specs.Signals.{Signal, name_text}
-use Rattle.bs_net_names.specs.Values.{value_text}
+use Rattle.bs_inspect_view.specs.Signals.{Signal, name_text}
+use Rattle.bs_inspect_view.specs.Values.{value_text}
 use Rattle.bs_scan.specs.SeenText.{seen_text}
 
 -- the bit at a place of a state or an input

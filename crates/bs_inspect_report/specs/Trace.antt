@@ -3,7 +3,7 @@ use Rattle.std.specs.Prelude.{◌≡◌, ℕ, ◌+◌, ◌-◌, ◌==◌, ◌&&�
 use Rattle.std.specs.Prelude.{if◌then◌else◌}
 use Rattle.std.specs.List.{flat_map, range_with_len}
 use Rattle.bs_bits.specs.Lines.{line}
-use Rattle.bs_net_names.specs.Signals.{AreSignals, Signal}
+use Rattle.bs_inspect_view.specs.Signals.{AreSignals, Signal}
 use Rattle.bs_net.specs.Parts.{Parts}
 use Rattle.bs_report.specs.declared.report.Report.{Report}
 use Rattle.bs_inspect_report.specs.Execution.{is_execution, place_word}

@@ -5,8 +5,8 @@ ghost use Rattle.bs_inspect_report.specs.Known.{first_unknown, has_named};
 
 use crate::keys::{flop_keys, input_keys};
 use bs_bits::NoMemory;
+use bs_inspect_view::members;
 use bs_net::Netlist;
-use bs_net_names::members;
 use std::alloc::Global;
 
 /// Whether a name is that of a bit with one of these keys, or of its vector.

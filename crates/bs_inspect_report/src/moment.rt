@@ -1,7 +1,7 @@
 //! One cycle of a trace.
 ghost use Rattle.std.specs.Prelude.{◌≡◌, ◌<◌, ◌≤◌, ◌+◌, ◌^◌, ◌++◌, Some, length, map, decimal, slice_get, All, OnOk, option_map};
 ghost use Rattle.bs_bits.specs.Lines.{line};
-ghost use Rattle.bs_net_names.specs.Signals.{signal_in};
+ghost use Rattle.bs_inspect_view.specs.Signals.{signal_in};
 ghost use Rattle.bs_inspect_report.specs.Trace.{cycle_lines, flops_at, found_words, free_at, inputs_at, is_partial, moment_words, origin_words, place_words, row_before};
 ghost use Rattle.bs_inspect_report.specs.Lines.{signals_in};
 ghost use Rattle.bs_inspect_report.specs.Window.{shown_piece};
@@ -12,7 +12,7 @@ use crate::recorded::step_moment;
 use crate::signal::push_signals;
 use crate::window::{Window, is_shown};
 use bs_bits::{Bits, List, NoMemory, end_line, push_number, push_piece};
-use bs_net_names::Signal;
+use bs_inspect_view::Signal;
 use bs_report::Report;
 
 /// Appends the moment at which a state was recorded.

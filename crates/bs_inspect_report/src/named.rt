@@ -1,7 +1,7 @@
 //! The signals of a trace.
 ghost use Rattle.std.specs.Prelude.{◌<◌, ◌^◌, length, All};
 
-use bs_net_names::Signal;
+use bs_inspect_view::Signal;
 
 /// The signals of a trace: those of its states and those of its inputs.
 #[derive(Drop)]

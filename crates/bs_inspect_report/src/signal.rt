@@ -2,12 +2,12 @@
 ghost use Rattle.std.specs.Prelude.{◌≡◌, ◌<◌, ◌^◌, ◌++◌, length, map, not, All, IfOk, OnOk, option_map};
 ghost use Rattle.std.specs.Bool.{beq};
 ghost use Rattle.std.specs.List.{list_any};
-ghost use Rattle.bs_net_names.specs.Signals.{signal_in};
-ghost use Rattle.bs_net_names.specs.Values.{value_text};
+ghost use Rattle.bs_inspect_view.specs.Signals.{signal_in};
+ghost use Rattle.bs_inspect_view.specs.Values.{value_text};
 ghost use Rattle.bs_inspect_report.specs.Signal.{bit_at, has_changed, is_open, open_text, seen_value, signal_bits, signal_line, signal_piece, signals_lines};
 
 use bs_bits::{Bits, NoMemory, end_line, push_number, push_piece};
-use bs_net_names::{Signal, push_name, push_value};
+use bs_inspect_view::{Signal, push_name, push_value};
 use bs_scan::push_seen_text;
 use std::alloc::Global;
 

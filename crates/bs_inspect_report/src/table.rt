@@ -2,8 +2,8 @@
 ghost use Rattle.std.specs.Prelude.{◌≡◌, ◌<◌, ◌+◌, ◌^◌, ◌++◌, codes, decimal, length, map, slice_get, All, IfOk, OnOk, option_map};
 ghost use Rattle.std.specs.List.{flat_map, range_with_len};
 ghost use Rattle.std.specs.Str.{bytes_eq};
-ghost use Rattle.bs_net_names.specs.Rtl.{rtl_text};
-ghost use Rattle.bs_net_names.specs.Signals.{signal_in};
+ghost use Rattle.bs_inspect_view.specs.Rtl.{rtl_text};
+ghost use Rattle.bs_inspect_view.specs.Signals.{signal_in};
 ghost use Rattle.bs_inspect_report.specs.Table.{TellsTable, found_cells, head_row, is_column, mark, name_cell, name_cells, origin_cells, place_cells, recorded_cells, state_row, state_rows, trace_rows, value_cell, value_cells};
 ghost use Rattle.bs_inspect_report.specs.Lines.{signals_in};
 ghost use Rattle.bs_inspect_report.specs.Trace.{free_at};
@@ -18,8 +18,8 @@ use crate::signal::push_seen_value;
 use crate::trace::trace_signals;
 use crate::window::{Window, is_shown};
 use bs_bits::{Bits, NoMemory, end_line, push_number, push_piece};
+use bs_inspect_view::{Signal, push_rtl_name};
 use bs_net::Netlist;
-use bs_net_names::{Signal, push_rtl_name};
 use bs_report::Report;
 use std::alloc::Global;
 

@@ -1,6 +1,6 @@
 //! The trace of a report, cycle by cycle.
 ghost use Rattle.std.specs.Prelude.{◌≡◌, ◌<◌, ◌^◌, ◌++◌, length, map, All, IfOk, OnOk};
-ghost use Rattle.bs_net_names.specs.Signals.{AreSignals, signal_in};
+ghost use Rattle.bs_inspect_view.specs.Signals.{AreSignals, signal_in};
 ghost use Rattle.bs_inspect_report.specs.Keys.{flop_keys, input_keys};
 ghost use Rattle.bs_inspect_report.specs.Lines.{signals_in};
 ghost use Rattle.bs_inspect_report.specs.Trace.{AreTraced, TellsTrace, trace_lines};
@@ -10,8 +10,8 @@ use crate::moment::push_shown;
 use crate::named::Signals;
 use crate::window::Window;
 use bs_bits::NoMemory;
+use bs_inspect_view::{Signal, signals};
 use bs_net::Netlist;
-use bs_net_names::{Signal, signals};
 use bs_report::Report;
 use std::alloc::Global;
 

@@ -22,7 +22,7 @@ use Rattle.bs_inspect_report_texts.specs.Bench.{BenchAnswers}
 use Rattle.bs_inspect_report_texts.specs.Fits.{fit_fault}
 use Rattle.bs_inspect_report_texts.proofs.FitLemmas.{fit_leads}
 use Rattle.bs_inspect_report_texts.specs.declared.fault.Bench.{Bench}
-use Rattle.bs_inspect_why.specs.declared.denial.Why.{Why}
+use Rattle.bs_inspect_why.specs.declared.denial.WhyAnswer.{WhyAnswer}
 use Rattle.bs_inspect_plans.specs.Finishes.{TellsBench, TellsReasons, bench_status, bench_text, why_status, why_text}
 
 -- a question whose number of layers is this
@@ -39,7 +39,7 @@ leads_on net r e = record {
 }
 
 -- an answer to `why`
-pub reasons_told : (q : Question) (t : TraceFiles) (answer : Why) (status : Status) (text : List ℕ) → Answers t.raw t.report q answer →
+pub reasons_told : (q : Question) (t : TraceFiles) (answer : WhyAnswer) (status : Status) (text : List ℕ) → Answers t.raw t.report q answer →
     status ≡ why_status answer → text ≡ why_text answer → TellsReasons q t status text
 reasons_told q t answer status text right answered written = record { answer = answer; right = right; answered = answered; written = written }
 

@@ -1,7 +1,7 @@
 //! The answer to each request: its files are taken, and what they tell is told.
 ghost use Rattle.std.specs.Prelude.{Some};
-ghost use Rattle.bs_top_answer.specs.Prepared.{PreparedNoted};
-ghost use Rattle.bs_top_files.specs.Refusals.{CheckSays};
+ghost use Rattle.bs_call.specs.Prepared.{PreparedNoted};
+ghost use Rattle.bs_top_files.specs.Causes.{CheckSays};
 ghost use Rattle.bs_inspect_words.specs.Request.{Gtkw as GtkwOf, Bench as BenchOf, Cnf as CnfOf, Lrat as LratOf, ReachCnf as ReachCnfOf, ReachLrat as ReachLratOf, Lists as ListsOf, Page as PageOf, Steps as StepsOf, StepsTable as StepsTableOf, Trace as TraceOf, TraceTable as TraceTableOf, Wave as WaveOf, Why as WhyOf};
 ghost use Rattle.bs_inspect_words.specs.Asked.{bench_in, evidence_in, gtkw_in, lengths_in, lists_in, page_in, trace_in, wave_in, why_in};
 ghost use Rattle.bs_inspect_plans.specs.Finishes.{finishes};
@@ -16,6 +16,7 @@ use crate::telling::{
     tell_bench, tell_evidence, tell_lengths, tell_lists, tell_page, tell_save, tell_steps,
     tell_steps_table, tell_table, tell_trace, tell_wave,
 };
+use bs_call::Response;
 use bs_evidence::Format;
 use bs_inspect_files::{
     load_bench_files, load_charted, load_page_files, load_picked, load_report_files,
@@ -26,9 +27,8 @@ use bs_inspect_words::{
     TraceRequest, WaveRequest, WhyRequest,
 };
 use bs_outside::{NoMemory, Shelf};
-use bs_top_answer::Response;
+use bs_reach_answer::load_answer_files;
 use bs_top_files::load_report;
-use bs_top_reach::load_answer_files;
 use std::alloc::Global;
 
 /// The answer to `steps`.

@@ -10,7 +10,7 @@ ghost use Rattle.bs_inspect_why.specs.Question.{question_in};
 ghost use Rattle.bs_inspect_why.specs.Why.{Answers};
 
 use bs_inspect_files::TraceFiles;
-use bs_inspect_why::{Denial, Question, Why, denial_text, why_text};
+use bs_inspect_why::{Denial, Question, WhyAnswer, denial_text, why_text};
 use bs_inspect_words::WhyRequest;
 use bs_outside::{NoMemory, Reply, Status};
 use std::alloc::Global;
@@ -44,16 +44,16 @@ fn tell_denial(alloc: Global, denial: Denial) -> Result<Reply, NoMemory>
 }
 
 /// What forces bits, as a reply.
-fn tell_reasons(alloc: Global, why: Why) -> Result<Reply, NoMemory>
+fn tell_reasons(alloc: Global, why: WhyAnswer) -> Result<Reply, NoMemory>
     ensures status { IfOk result (λ answer. answer.status ≡ why_status why) }
     ensures text { IfOk result (λ answer. answer.text.items ≡ text_of_why why) }
 {
     match why {
-        Why::Text(text) => Ok(Reply {
+        WhyAnswer::Text(text) => Ok(Reply {
             status: Status::Done,
             text,
         }),
-        Why::Denied(denial) => tell_denial(alloc, denial),
+        WhyAnswer::Denied(denial) => tell_denial(alloc, denial),
     }
 }
 
@@ -63,7 +63,7 @@ fn reasons_of(
     alloc: Global,
     trace_files: &TraceFiles,
     question: &Question<'_>,
-) -> Result<Why, NoMemory>
+) -> Result<WhyAnswer, NoMemory>
     requires { 1 ≤ question.now.depth }
     ensures { IfOk result (Answers trace_files.now.net.raw trace_files.now.report (question_in question.now)) }
 {

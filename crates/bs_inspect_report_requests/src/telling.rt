@@ -9,9 +9,9 @@ ghost use Rattle.bs_inspect_files.specs.Paged.{page_files_in};
 ghost use Rattle.bs_inspect_html.specs.Signed.{file_in};
 ghost use Rattle.bs_inspect_view.specs.View.{IsDrawing};
 ghost use Rattle.bs_net.specs.Netlist.{circuit, circuit_of};
-ghost use Rattle.bs_evidence.specs.ReadingLaw.{HasAnswerText};
+ghost use Rattle.bs_reach_answer.specs.ReadingLaw.{HasAnswerText};
 ghost use Rattle.bs_evidence.specs.Lengths.{IsEvidence as IsLengthEvidence};
-ghost use Rattle.bs_top_reach.specs.Searched.{answer_files_in};
+ghost use Rattle.bs_reach_answer.specs.Searched.{answer_files_in};
 ghost use Rattle.bs_evidence.specs.Evidence.{IsEvidence};
 ghost use Rattle.bs_evidence.specs.Words.{flaw_text};
 ghost use Rattle.bs_inspect_plans.specs.Asked.{drawing_of, page_for, signature_file, window_of};
@@ -29,9 +29,10 @@ use bs_inspect_usages::TraceWindow;
 use bs_inspect_view::{ViewRequest, drawing, save_file};
 use bs_outside::{NoMemory, Reply, Status};
 use bs_reach::Reach;
+use bs_reach_answer::AnswerFiles;
 use bs_report::Report;
 use bs_scan::Choice;
-use bs_top_reach::{AnswerFiles, Target};
+use bs_top_reach::Target;
 use std::alloc::Global;
 
 /// The steps of a report.

@@ -13,7 +13,7 @@ use Rattle.bs_scan.proofs.CrashLemmas.{placed_is, run_inputs}
 use Rattle.bs_report.specs.declared.report.HitLine.{HitLine}
 use Rattle.bs_report.specs.declared.report.Report.{Report}
 use Rattle.bs_report.specs.declared.report.Step.{Step}
-use Rattle.bs_report_good.specs.Law.{last_hit}
+use Rattle.bs_report.specs.GoodLaw.{last_hit}
 use Rattle.bs_inspect_report_texts.specs.Driven.{IsThere, begin_of, cycles_before, driven, driven_from}
 
 -- ---- the last hit

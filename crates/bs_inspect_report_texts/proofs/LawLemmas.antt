@@ -6,7 +6,7 @@ use Rattle.bs_net.specs.Circuit.{Circuit}
 use Rattle.bs_scan.specs.Crash.{Crash}
 use Rattle.bs_scan.specs.Moments.{Moment, Run, state_at}
 use Rattle.bs_report.specs.declared.report.Report.{Report}
-use Rattle.bs_report_good.specs.Law.{EndsExecution, TracesEndExecutions, continued}
+use Rattle.bs_report.specs.GoodLaw.{EndsExecution, TracesEndExecutions, continued}
 use Rattle.bs_inspect_report_texts.specs.Driven.{GoesOn, IsThere, begin_of, cycles_before, driven, driven_from}
 use Rattle.bs_inspect_report_texts.specs.Law.{GoodReportsHaveBenches, HasBench}
 

@@ -12,8 +12,8 @@ use Rattle.bs_net.specs.Netlist.{circuit_of}
 use Rattle.bs_net.specs.Order.{IsChecked}
 use Rattle.bs_net.specs.Parts.{Parts, key_at}
 use Rattle.bs_net_names.specs.Keys.{KeyParts}
-use Rattle.bs_net_names.specs.Signals.{AreSignals, Signal, signal_in}
-use Rattle.bs_net_names.specs.declared.signal.Signal.{Signal as CodeSignal}
+use Rattle.bs_inspect_view.specs.Signals.{AreSignals, Signal, signal_in}
+use Rattle.bs_inspect_view.specs.declared.signal.Signal.{Signal as CodeSignal}
 use Rattle.bs_inspect_report.specs.Keys.{input_keys}
 use Rattle.bs_inspect_report.proofs.PieceLemmas.{three_ended}
 use Rattle.bs_inspect_report.specs.Signal.{bit_at}

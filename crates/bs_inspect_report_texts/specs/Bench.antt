@@ -3,7 +3,7 @@ use Rattle.std.specs.Prelude.{◌≡◌, ℕ, Bool, List, [], length, slice_inde
 use Rattle.bs_net.specs.Netlist.{circuit_of}
 use Rattle.bs_net.specs.Parts.{Parts, key_at}
 use Rattle.bs_net_names.specs.Keys.{KeyParts, key_parts}
-use Rattle.bs_net_names.specs.Signals.{AreSignals, Signal}
+use Rattle.bs_inspect_view.specs.Signals.{AreSignals, Signal}
 use Rattle.bs_scan.specs.Moments.{Run, state_at}
 use Rattle.bs_report.specs.declared.report.Report.{Report}
 use Rattle.bs_inspect_report.specs.Keys.{input_keys}

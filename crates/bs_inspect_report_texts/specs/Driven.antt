@@ -3,7 +3,7 @@ use Rattle.std.specs.Prelude.{◌≡◌, ℕ, ◌+◌, ◌<◌, Bool, List, [], 
 use Rattle.bs_net.specs.Circuit.{Circuit}
 use Rattle.bs_scan.specs.Moments.{IsMoment, Moment, Run, moment, state_at}
 use Rattle.bs_report.specs.declared.report.Report.{Report}
-use Rattle.bs_report_good.specs.Law.{continued, last_hit}
+use Rattle.bs_report.specs.GoodLaw.{continued, last_hit}
 
 -- the moment of the trace's first state: that of the last hit; without a hit the trace begins at reset
 abbrev pub begin_of : Report → Option Moment

@@ -4,7 +4,7 @@ use Rattle.bs_net.specs.Circuit.{Circuit}
 use Rattle.bs_scan.specs.Crash.{Crash, IsCrash}
 use Rattle.bs_scan.specs.Moments.{Run}
 use Rattle.bs_report.specs.declared.report.Report.{Report}
-use Rattle.bs_report_good.specs.Good.{IsGood}
+use Rattle.bs_report.specs.Good.{IsGood}
 use Rattle.bs_inspect_report_texts.specs.Driven.{GoesOn, IsThere, begin_of, cycles_before, driven}
 
 -- the runs have the moment at which the trace begins, and the netlist goes through the trace under what is driven

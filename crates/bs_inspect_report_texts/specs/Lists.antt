@@ -3,8 +3,8 @@
 use Rattle.std.specs.Prelude.{◌≡◌, ℕ, ◌+◌, ◌==◌, Bool, List, [], ◌∷◌, ◌++◌, length, codes, decimal, slice_get, Option, Some, None, if◌then◌else◌}
 use Rattle.std.specs.List.{flat_map, list_any, range_with_len}
 use Rattle.bs_bits.specs.Lines.{line}
-use Rattle.bs_net_names.specs.Signals.{AreSignals, Signal, name_text}
-use Rattle.bs_net_names.specs.Values.{value_text}
+use Rattle.bs_inspect_view.specs.Signals.{AreSignals, Signal, name_text}
+use Rattle.bs_inspect_view.specs.Values.{value_text}
 use Rattle.bs_net.specs.Parts.{Parts}
 use Rattle.bs_report.specs.declared.report.Cand.{Cand}
 use Rattle.bs_report.specs.declared.report.Report.{Report}

@@ -5,7 +5,7 @@ use Rattle.std.specs.List.{flat_map, range_with_len}
 use Rattle.bs_bits.specs.Lines.{line}
 use Rattle.bs_bits.specs.Text.{digit_of}
 use Rattle.bs_net_names.specs.Keys.{KeyParts}
-use Rattle.bs_net_names.specs.Signals.{Signal}
+use Rattle.bs_inspect_view.specs.Signals.{Signal}
 use Rattle.bs_inspect_report.specs.Signal.{bit_at, has_changed}
 
 -- ---- names

@@ -3,7 +3,7 @@ ghost use Rattle.std.specs.Prelude.{◌≡◌, ◌<◌, ◌++◌, Some, length, 
 ghost use Rattle.std.specs.Bool.{beq};
 ghost use Rattle.std.specs.List.{flat_map, list_any};
 ghost use Rattle.bs_net_names.specs.Keys.{parts_in};
-ghost use Rattle.bs_net_names.specs.Signals.{signal_in};
+ghost use Rattle.bs_inspect_view.specs.Signals.{signal_in};
 ghost use Rattle.bs_bits.specs.Text.{digit_of};
 ghost use Rattle.bs_inspect_report.specs.Signal.{bit_at, has_changed};
 ghost use Rattle.bs_inspect_report_texts.specs.Text.{assignment, change, cycle_at, cycle_line, cycle_lines, cycle_of, digits, edges, input_before, port_places};
@@ -11,7 +11,8 @@ ghost use Rattle.bs_inspect_report_texts.specs.Text.{assignment, change, cycle_a
 use crate::port::{is_rising, push_word};
 use bs_bits::{Bits, List, NoMemory, end_line, push_number, push_piece};
 use bs_inspect_report::{bit_at, member};
-use bs_net_names::{KeyParts, Signal};
+use bs_inspect_view::Signal;
+use bs_net_names::KeyParts;
 
 /// The character of a bit.
 fn digit_of(bit: bool) -> u8

@@ -2,12 +2,13 @@
 ghost use Rattle.std.specs.Prelude.{◌≡◌, ◌++◌, map, OnOk};
 ghost use Rattle.std.specs.List.{flat_map};
 ghost use Rattle.bs_net_names.specs.Keys.{parts_in};
-ghost use Rattle.bs_net_names.specs.Signals.{signal_in};
+ghost use Rattle.bs_inspect_view.specs.Signals.{signal_in};
 ghost use Rattle.bs_inspect_report_texts.specs.Text.{begin_lines, clock_line, dump_lines, end_lines, further_connection, head_lines, instance_line, shown_line, tail_lines, variable_line};
 
 use crate::port::{is_rising, push_bounds, push_connection, push_word};
 use bs_bits::{NoMemory, push_line, push_number, push_piece};
-use bs_net_names::{KeyParts, Signal};
+use bs_inspect_view::Signal;
+use bs_net_names::KeyParts;
 
 /// Appends the variable of a port.
 fn push_variable(text: &mut Vec<u8>, signal: &Signal<'_>) -> Result<(), NoMemory>

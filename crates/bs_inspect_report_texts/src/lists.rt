@@ -1,7 +1,7 @@
 //! The lists of a report: what all candidates of a list share, and where they differ.
 ghost use Rattle.std.specs.Prelude.{◌≡◌, ◌<◌, ◌+◌, ◌^◌, ◌++◌, length, map, slice_get, All, IfOk, OnOk};
 ghost use Rattle.std.specs.List.{flat_map, list_any};
-ghost use Rattle.bs_net_names.specs.Signals.{signal_in};
+ghost use Rattle.bs_inspect_view.specs.Signals.{signal_in};
 ghost use Rattle.bs_inspect_report_texts.specs.Lists.{TellsLists, differ_line, differ_words, each_words, list_at, list_lines, list_of, list_piece, lists_lines, lists_text as lists_text_of, mark_of, marks_of, pattern_text, value_in, values_in};
 ghost use Rattle.bs_inspect_report.specs.Steps.{differs_at};
 
@@ -10,8 +10,8 @@ use bs_inspect_report::{
     bit_at, differs_at, flop_signals, lemmas_logged, member, push_at, push_signal,
     push_signal_value,
 };
+use bs_inspect_view::{Signal, push_name};
 use bs_net::Netlist;
-use bs_net_names::{Signal, push_name};
 use bs_report::{Cand, Report};
 use std::alloc::Global;
 

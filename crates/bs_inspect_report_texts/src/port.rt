@@ -1,10 +1,10 @@
 //! Ports: their names, and the order of their bits.
 ghost use Rattle.std.specs.Prelude.{◌≡◌, ◌<◌, ◌^◌, ◌++◌, length, OnOk};
-ghost use Rattle.bs_net_names.specs.Signals.{signal_in};
+ghost use Rattle.bs_inspect_view.specs.Signals.{signal_in};
 ghost use Rattle.bs_inspect_report_texts.specs.Text.{bounds, connection, falls, is_escaped, is_rising, least, range_between, word};
 
 use bs_bits::{NoMemory, push_number, push_piece};
-use bs_net_names::Signal;
+use bs_inspect_view::Signal;
 
 /// Whether a name is written with a `\`.
 fn is_escaped(name: &[u8]) -> bool

@@ -1,4 +1,4 @@
--- What names with values are to a request: these, or the reason of the refusal; and the same as the notes see them.
+-- What names with values are to a request: these, or the reason of the refusal, with its words and its note.
 use Rattle.std.specs.Prelude.{ℕ, ◌-◌, List, [], ◌++◌, codes, decimal, slice_index_or, Option, Some, None, Result}
 use Rattle.bs_net.specs.Parts.{Parts}
 use Rattle.bs_net_names.specs.Splits.{Halves, last_split}
@@ -6,10 +6,8 @@ use Rattle.bs_note_files.specs.Notes.{plain_text}
 use Rattle.bs_inspect_notes.specs.declared.name.Subject.TheVariants.{Flops}
 use Rattle.bs_inspect_notes.specs.Listings.{quoted}
 use Rattle.bs_inspect_notes.specs.Names.{key_sentence}
-use Rattle.bs_outside.specs.Plan.{Reason, exactly}
-use Rattle.bs_top_files.specs.NoteCases.{NoteCase}
-use Rattle.bs_top_files.specs.Noting.{noted_by}
-use Rattle.bs_top_files.specs.Refusals.{Case, with_reason}
+use Rattle.bs_outside.specs.Plan.{Reason, any_of}
+use Rattle.bs_top_files.specs.Causes.{Case, stated, with_reason}
 use Rattle.bs_inspect_seen.specs.declared.fault.GivenFault.{GivenFault}
 use Rattle.bs_inspect_seen.specs.declared.fault.GivenFault.TheVariants as faults
 use Rattle.bs_inspect_seen.specs.Given.{Given, flop_keys, givens_in}
@@ -23,12 +21,6 @@ given_words (faults.Unknown word) = codes "Unknown " ++ decimal word
 given_words (faults.Wide word) = codes "Wide " ++ decimal word
 given_words (faults.Twice word) = codes "Twice " ++ decimal word
 given_words faults.NoMemory = []
-
-abbrev pub given_reason : GivenFault → Reason Case
-given_reason fault = exactly (given_words fault)
-
-abbrev pub givens_read : Parts → List (List ℕ) → Result (List Given) (Reason Case)
-givens_read r words = with_reason given_reason (givens_in r words)
 
 -- ---- the notes
 
@@ -66,8 +58,11 @@ fault_text keys words (faults.Wide number) = wide_text (name_in (word_at words n
 fault_text keys words (faults.Twice number) = twice_text (name_in (word_at words number))
 fault_text keys words faults.NoMemory = []
 
-abbrev pub given_note_reason : Parts → List (List ℕ) → GivenFault → Reason NoteCase
-given_note_reason r words fault = exactly (fault_text (flop_keys r) words fault)
+-- ---- both
 
-abbrev pub givens_noted : Parts → List (List ℕ) → Result (List Given) (Reason NoteCase)
-givens_noted r words = noted_by (given_note_reason r words) (givens_in r words)
+abbrev pub given_reason : Parts → List (List ℕ) → GivenFault → Reason Case
+given_reason r words fault = any_of (stated (given_words fault) (fault_text (flop_keys r) words fault))
+
+-- the names with the values of words, or the reason of the refusal
+abbrev pub givens_read : Parts → List (List ℕ) → Result (List Given) (Reason Case)
+givens_read r words = with_reason (given_reason r words) (givens_in r words)

@@ -4,11 +4,9 @@ use Rattle.bs_net.specs.Parts.{Parts}
 use Rattle.bs_outside.specs.declared.file.File.TheVariants as files
 use Rattle.bs_outside.specs.Plan.{Plan, end, ◌>>=◌, read_as}
 use Rattle.bs_top_files.specs.Entry.{netlist_of}
-use Rattle.bs_top_files.specs.Looking.{netlist_looked}
-use Rattle.bs_top_files.specs.NoteCases.{NoteCase}
-use Rattle.bs_top_files.specs.Refusals.{Case}
+use Rattle.bs_top_files.specs.Causes.{Case}
 use Rattle.bs_inspect_seen.specs.Given.{Given, given_in}
-use Rattle.bs_inspect_seen.specs.Readings.{givens_noted, givens_read}
+use Rattle.bs_inspect_seen.specs.Readings.{givens_read}
 use Rattle.bs_inspect_seen.specs.declared.loading.Named.{Named as CodeNamed}
 
 -- a netlist's parts, and names of its flip-flops with their values
@@ -26,22 +24,9 @@ named_of netlist words = do
   givens ← read_as files.Name (givens_read raw words)
   end record { raw = raw; givens = givens }
 
--- ---- the same as the notes see it
-
-abbrev pub named_looked : List ℕ → List (List ℕ) → Plan NoteCase Named
-named_looked netlist words = do
-  raw ← netlist_looked netlist
-  givens ← read_as files.Name (givens_noted raw words)
-  end record { raw = raw; givens = givens }
-
 -- ---- what is left of a walk behind the netlist
 
 abbrev pub named_step : Parts → List (List ℕ) → Plan Case Named
 named_step raw words = do
   givens ← read_as files.Name (givens_read raw words)
-  end record { raw = raw; givens = givens }
-
-abbrev pub named_step_looked : Parts → List (List ℕ) → Plan NoteCase Named
-named_step_looked raw words = do
-  givens ← read_as files.Name (givens_noted raw words)
   end record { raw = raw; givens = givens }

@@ -3,8 +3,8 @@
 //! Modules: `value` (`0x1f`, `0b01` or a decimal number, as bits), `numbers` (the numbers of the bits that have a name), `given`
 //! (`NAME=VALUE`, word by word), `state` (the state line), `fault`, `refusals` and `notes` (the words and the note of a fault), `reading`
 //! (a reader, `given_or_diagnostic`), `loading` (the walk). Used above: `givens_in` (`specs/Given`), the names with their values or the
-//! first fault; `state_line` (`specs/State`), in which what no name has is `-`; `WalksDiagnosed CheckSays NoteSays ..` over the two plans
-//! of `specs/Taken`.
+//! first fault; `state_line` (`specs/State`), in which what no name has is `-`; `WalksDiagnosed CheckSays NoteSays ..` over the plan of
+//! `specs/Taken`.
 #![tactic(auto)]
 
 mod fault;

@@ -1,9 +1,8 @@
 //! The walk over the file of names with values.
 ghost use Rattle.std.specs.Prelude.{◌≡◌, map};
 ghost use Rattle.bs_outside.specs.Telling.{WalksDiagnosed};
-ghost use Rattle.bs_top_files.specs.NoteCases.{NoteSays};
-ghost use Rattle.bs_top_files.specs.Refusals.{CheckSays};
-ghost use Rattle.bs_inspect_seen.specs.Taken.{named_in, named_looked, named_of, named_step, named_step_looked};
+ghost use Rattle.bs_top_files.specs.Causes.{CheckSays, NoteSays};
+ghost use Rattle.bs_inspect_seen.specs.Taken.{named_in, named_of, named_step};
 
 use crate::given::Given;
 use crate::reading::givens_or_diagnostic;
@@ -30,7 +29,7 @@ fn load_named<'a, S: Shelf>(
     words: &[&'a str],
 ) -> Result<Named<'a>, WalkStop>
     ensures { WalksDiagnosed CheckSays NoteSays S.held S.faults S.leads _shelf.old _shelf.new
-        (named_step net.raw (map (λ s. s.now) words.now)) (named_step_looked net.raw (map (λ s. s.now) words.now)) named_in named_in result }
+        (named_step net.raw (map (λ s. s.now) words.now)) named_in result }
 {
     match settle_diagnostic(File::Name, givens_or_diagnostic(alloc, &net, words)) {
         Ok(givens) => Ok(Named { net, givens }),
@@ -49,7 +48,7 @@ pub fn load_named_values<'a, S: Shelf>(
     words: &[&'a str],
 ) -> Result<Named<'a>, WalkStop>
     ensures { WalksDiagnosed CheckSays NoteSays S.held S.faults S.leads shelf.old shelf.new
-        (named_of netlist.now (map (λ s. s.now) words.now)) (named_looked netlist.now (map (λ s. s.now) words.now)) named_in named_in result }
+        (named_of netlist.now (map (λ s. s.now) words.now)) named_in result }
 {
     match load_netlist(alloc, shelf, netlist) {
         Ok(net) => load_named(alloc, shelf, net, words),

@@ -1,14 +1,14 @@
 //! Names with values, or the diagnostic of their words.
 ghost use Rattle.std.specs.Prelude.{◌≡◌, map};
-ghost use Rattle.bs_outside.specs.declared.walk.Refusal.TheVariants.{NoMemory as Want};
+ghost use Rattle.bs_outside.specs.declared.file_fetch.Refusal.TheVariants.{NoMemory as Want};
 ghost use Rattle.bs_outside.specs.Plan.{exactly};
 ghost use Rattle.bs_outside.specs.Diagnostic.{note_refusal, noted, word_refusal, worded};
 ghost use Rattle.bs_outside.specs.Walks.{Reads};
-ghost use Rattle.bs_top_files.specs.NoteCases.{HasNote, NoteSays};
-ghost use Rattle.bs_top_files.specs.Refusals.{CheckSays, HasWords};
+ghost use Rattle.bs_top_files.specs.Causes.{CheckSays, HasNote, NoteSays};
+ghost use Rattle.bs_top_files.specs.Refusals.{HasWords};
 ghost use Rattle.bs_inspect_seen.specs.declared.fault.GivenFault.TheVariants.{NoMemory as GivenWant};
 ghost use Rattle.bs_inspect_seen.specs.Given.{flop_keys, given_in};
-ghost use Rattle.bs_inspect_seen.specs.Readings.{fault_text, given_words, givens_noted, givens_read};
+ghost use Rattle.bs_inspect_seen.specs.Readings.{fault_text, given_words, givens_read};
 
 use crate::fault::GivenFault;
 use crate::given::{Given, read_givens};
@@ -38,7 +38,7 @@ pub(crate) fn givens_or_diagnostic<'a>(
     words: &[&'a str],
 ) -> Result<Vec<Given<'a>>, Unread>
     ensures words { Reads CheckSays (λ givens. map given_in givens.items) (givens_read net.now.raw (map (λ s. s.now) words.now)) (worded result) }
-    ensures note { Reads NoteSays (λ givens. map given_in givens.items) (givens_noted net.now.raw (map (λ s. s.now) words.now)) (noted result) }
+    ensures note { Reads NoteSays (λ givens. map given_in givens.items) (givens_read net.now.raw (map (λ s. s.now) words.now)) (noted result) }
 {
     match read_givens(alloc, net, words) {
         Ok(givens) => Ok(givens),

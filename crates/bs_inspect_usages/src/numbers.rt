@@ -6,18 +6,22 @@ ghost use Rattle.bs_inspect_usages.specs.Numbers.{cycles_behind, cycles_of, draw
 use bs_top_words::{MAX_BITS, MAX_BOUND, number_between};
 
 /// How many layers of accounts may be asked for.
+/// Nobody reads so many.
 pub const MAX_DEPTH: u64 = 256;
 
 /// How many are told where none are asked for.
+/// The causes, and the causes of these: about a screen.
 pub const DEFAULT_DEPTH: u64 = 2;
 
 /// How many lines of a run's own values may be asked for: a netlist has no more flip-flops.
 pub const MAX_LINES: u64 = 4_096;
 
 /// How many signals of a kind a page may draw.
+/// No netlist has so many: at most 4,096 flip-flops and as many inputs.
 pub const MAX_DRAWN: u64 = 65_536;
 
 /// How many it draws where neither a number nor a name is given.
+/// A page is looked through by eye.
 pub const DEFAULT_DRAWN: u64 = 100;
 
 /// A step of a report is one of so many.

@@ -12,13 +12,15 @@ use Rattle.bs_net.specs.declared.net.Flop.{Flop}
 use Rattle.bs_net.specs.Netlist.{circuit_of}
 use Rattle.bs_net.specs.Parts.{Parts, key_at}
 use Rattle.bs_vcd.specs.declared.cycles.MarkedStates.{MarkedStates}
+use Rattle.bs_inspect_notes.specs.declared.name.Subject.{Subject}
 use Rattle.bs_inspect_report.specs.Keys.{flop_keys}
+use Rattle.bs_outside.specs.Plan.{Reason}
 use Rattle.bs_outside.specs.declared.diagnostic.WalkStop.{WalkStop}
-use Rattle.bs_top_files.specs.Refusals.{with_reason}
+use Rattle.bs_top_files.specs.Causes.{Case, with_reason}
 use Rattle.bs_inspect_names.specs.declared.fault.MapFault.{MapFault}
-use Rattle.bs_inspect_names.specs.Mapping.{Entry, entries_from, name_of, names_of}
+use Rattle.bs_inspect_names.specs.Mapping.{MapEntry, entries_from, name_of, names_of}
+use Rattle.bs_inspect_values.specs.Saying.{map_reason}
 use Rattle.bs_inspect_values.specs.Simulated.{clock_key, names_read}
-use Rattle.bs_inspect_values.specs.Words.{map_reason}
 
 -- ---- the clock
 
@@ -43,18 +45,18 @@ flops_wide keys slice raw r same is wide =
     subst (λ (n : ℕ). IfOk r (λ taken. All (λ s. length s ≡ n) taken.states)) each wide
 
 -- a name for each key
-each_named : (keys names : List (List ℕ)) (r : Result (List Entry) MapFault) → with_reason map_reason (r >>= λ es. Ok (names_of es keys)) ≡ Ok names →
-    length names ≡ length keys
-each_named keys names (Ok es) e = IfOk-at_ok (λ (ns : List (List ℕ)). length ns ≡ length keys) e (length-map keys (name_of es))
-each_named keys names (Err fault) e = absurd cc
+each_named : (reason : MapFault → Reason Case) (keys names : List (List ℕ)) (r : Result (List MapEntry) MapFault) →
+    with_reason reason (r >>= λ es. Ok (names_of es keys)) ≡ Ok names → length names ≡ length keys
+each_named reason keys names (Ok es) e = IfOk-at_ok (λ (ns : List (List ℕ)). length ns ≡ length keys) e (length-map keys (name_of es))
+each_named reason keys names (Err fault) e = absurd cc
 
-pub names_wide : (keys : Texts) (names : List (List ℕ)) (text : List ℕ) (r : Result MarkedStates WalkStop) →
-    names_read (map (λ k. k.now) keys) text ≡ Ok names →
+pub names_wide : (subject : Subject) (path : List ℕ) (keys : Texts) (names : List (List ℕ)) (text : List ℕ) (r : Result MarkedStates WalkStop) →
+    names_read subject path (map (λ k. k.now) keys) text ≡ Ok names →
     IfOk r (λ taken. All (λ s. length s ≡ length names) taken.states) → IfOk r (λ taken. All (λ s. length s ≡ length keys) taken.states)
-names_wide keys names text r is wide =
+names_wide subject path keys names text r is wide =
     let shown : Bor (List ℕ) → List ℕ = λ (k : Bor (List ℕ)). k.now in
     let each : length names ≡ length keys =
-    each_named (map shown keys) names (entries_from (map shown keys) [] (lines_of text)) is ∙ length-map keys shown in
+    each_named (map_reason subject path text (map shown keys)) (map shown keys) names (entries_from (map shown keys) [] (lines_of text)) is ∙ length-map keys shown in
     subst (λ (n : ℕ). IfOk r (λ taken. All (λ s. length s ≡ n) taken.states)) each wide
 
 -- the names as slices

@@ -14,7 +14,7 @@ use Rattle.bs_stim.specs.Runs.{Recorded, Stimulus, IsRecorded}
 use Rattle.bs_stim.specs.StimulusText.{run_text}
 use Rattle.bs_stim.proofs.ReadBackLemmas.{stimuli_read_back}
 use Rattle.bs_inspect_values.specs.declared.run.SimulatedRun.{SimulatedRun as CodeSimulatedRun}
-use Rattle.bs_vcd.specs.declared.sampling.SampledLines.{SampledLines}
+use Rattle.bs_vcd.specs.declared.clock_edges.SampledLines.{SampledLines}
 use Rattle.bs_vcd.specs.Cycles.{begin_in}
 use Rattle.bs_inspect_values.specs.Law.{Files, IsFile, RunsReadBack, runs_of}
 use Rattle.bs_inspect_values.specs.SimulatedRun.{SimulatedRun, is_late, leaf_of, name_byte, or_vcd, recorded, recorded_in, run_in, run_name, runs_text, simulated, simulated_text, stem_of}

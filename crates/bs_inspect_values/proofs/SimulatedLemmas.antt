@@ -8,10 +8,9 @@ use Rattle.bs_outside.specs.declared.diagnostic.WalkStop.{WalkStop}
 use Rattle.bs_outside.specs.Plan.{Tells, Counts, Plan}
 use Rattle.bs_outside.specs.Telling.{WalksDiagnosed}
 use Rattle.bs_outside.proofs.TellingLemmas.{diagnosed_stop, diagnosed_then}
-use Rattle.bs_top_files.specs.NoteCases.{NoteCase, NoteSays}
-use Rattle.bs_top_files.specs.Refusals.{Case, CheckSays}
+use Rattle.bs_top_files.specs.Causes.{Case, CheckSays, NoteSays}
 use Rattle.bs_inspect_values.specs.SimulatedRun.{SimulatedRun, is_data}
-use Rattle.bs_inspect_values.specs.Simulated.{Clocked, run_behind, run_behind_looked, runs_behind, runs_behind_looked}
+use Rattle.bs_inspect_values.specs.Simulated.{Clocked, run_behind, runs_behind}
 use Rattle.bs_inspect_values.proofs.WalkLemmas.{diagnosed_ends}
 
 abbrev Texts : Type 0
@@ -24,13 +23,12 @@ shown texts = map (λ s. s.now) texts
 abbrev pub Follows : {S U : Type 0} (held : S → Tells) (faults : S → Counts) (leads : S → FetchCall → S → Type 0) (before now : S)
     (keys names : List (List ℕ)) → Clocked → (old new : List SimulatedRun) → List (List ℕ) → Result U WalkStop → Type 0
 Follows held faults leads before now keys names at old new vcds result =
-    WalksDiagnosed CheckSays NoteSays held faults leads before now (runs_behind keys names at old vcds) (runs_behind_looked keys names at old vcds)
-    (λ _. new) (λ _. new) result
+    WalksDiagnosed CheckSays NoteSays held faults leads before now (runs_behind keys names at old vcds) (λ _. new) result
 
 -- no file is left
 pub none_left : {S U : Type 0} {held : S → Tells} {faults : S → Counts} {leads : S → FetchCall → S → Type 0} {before : S} (keys names : List (List ℕ))
     (at : Clocked) (runs : List SimulatedRun) (vcds : Texts) (u : U) → vcds ≡ [] → Follows held faults leads before before keys names at runs runs (map (λ s. s.now) vcds) (Ok u)
-unfolding runs_behind runs_behind_looked
+unfolding runs_behind
 none_left {U = U} {held = held} {faults = faults} {leads = leads} {before = before} keys names at runs vcds u none =
     subst (λ (vs : Texts). Follows held faults leads before before keys names at runs runs (shown vs) (Ok u)) (sym none)
     (diagnosed_ends (λ (x : U). runs) runs u refl)
@@ -43,27 +41,24 @@ no_texts (v ∷ vs) e = absurd (omega (arith, e))
 pub one_more : {S U T : Type 0} {held : S → Tells} {faults : S → Counts} {leads : S → FetchCall → S → Type 0} {before mid now : S}
     (keys names : List (List ℕ)) (at : Clocked) (old some new : List SimulatedRun) (vcds rest : Texts) (vcd : Bor (List ℕ)) (u : T) (result : Result U WalkStop) →
     vcds ≡ vcd ∷ rest →
-    WalksDiagnosed CheckSays NoteSays held faults leads before mid (run_behind keys names at old vcd.now) (run_behind_looked keys names at old vcd.now)
-    (λ _. some) (λ _. some) (Ok u) →
+    WalksDiagnosed CheckSays NoteSays held faults leads before mid (run_behind keys names at old vcd.now) (λ _. some) (Ok u) →
     Follows held faults leads mid now keys names at some new (map (λ s. s.now) rest) result →
     Follows held faults leads before now keys names at old new (map (λ s. s.now) vcds) result
-unfolding runs_behind runs_behind_looked
+unfolding runs_behind
 one_more {held = held} {faults = faults} {leads = leads} {before = before} {now = now} keys names at old some new vcds rest vcd u result e first later =
     let f : List SimulatedRun → Plan Case (List SimulatedRun) = λ more. runs_behind keys names at more (shown rest) in
-    let h : List SimulatedRun → Plan NoteCase (List SimulatedRun) = λ more. runs_behind_looked keys names at more (shown rest) in
-    subst (λ (vs : Texts). Follows held faults leads before now keys names at old new (shown vs) result) (sym e) (diagnosed_then f h first later)
+    subst (λ (vs : Texts). Follows held faults leads before now keys names at old new (shown vs) result) (sym e) (diagnosed_then f first later)
 
 -- a file that stops the walk
 pub one_stops : {S U T : Type 0} {held : S → Tells} {faults : S → Counts} {leads : S → FetchCall → S → Type 0} {before now : S}
     (keys names : List (List ℕ)) (at : Clocked) (old some new : List SimulatedRun) (vcds rest : Texts) (vcd : Bor (List ℕ)) (stop : WalkStop) →
     vcds ≡ vcd ∷ rest →
-    WalksDiagnosed {T = T} CheckSays NoteSays held faults leads before now (run_behind keys names at old vcd.now) (run_behind_looked keys names at old vcd.now)
-    (λ _. some) (λ _. some) (Err stop) → Follows {U = U} held faults leads before now keys names at old new (map (λ s. s.now) vcds) (Err stop)
-unfolding runs_behind runs_behind_looked
+    WalksDiagnosed {T = T} CheckSays NoteSays held faults leads before now (run_behind keys names at old vcd.now) (λ _. some) (Err stop) →
+    Follows {U = U} held faults leads before now keys names at old new (map (λ s. s.now) vcds) (Err stop)
+unfolding runs_behind
 one_stops {U = U} {held = held} {faults = faults} {leads = leads} {before = before} {now = now} keys names at old some new vcds rest vcd stop e first =
     let f : List SimulatedRun → Plan Case (List SimulatedRun) = λ more. runs_behind keys names at more (shown rest) in
-    let h : List SimulatedRun → Plan NoteCase (List SimulatedRun) = λ more. runs_behind_looked keys names at more (shown rest) in
-    subst (λ (vs : Texts). Follows {U = U} held faults leads before now keys names at old new (shown vs) (Err stop)) (sym e) (diagnosed_stop f h first)
+    subst (λ (vs : Texts). Follows {U = U} held faults leads before now keys names at old new (shown vs) (Err stop)) (sym e) (diagnosed_stop f first)
 
 -- ---- the clock
 

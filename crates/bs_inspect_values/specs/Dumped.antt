@@ -10,22 +10,20 @@ use Rattle.bs_vcd.specs.declared.cycles.MarkedStates.{MarkedStates}
 use Rattle.bs_outside.specs.declared.file.File.TheVariants as files
 use Rattle.bs_outside.specs.Plan.{Reason, Plan, ◌>>=◌, end, fetched, read_as}
 use Rattle.bs_top_files.specs.Entry.{netlist_of, signature_of}
-use Rattle.bs_top_files.specs.Looking.{netlist_looked, signature_looked}
-use Rattle.bs_top_files.specs.NoteCases.{NoteCase}
-use Rattle.bs_top_files.specs.Refusals.{Case, with_reason}
+use Rattle.bs_top_files.specs.Causes.{Case, with_reason}
 use Rattle.bs_inspect_values.specs.declared.dumping.Taking.{Taking as CodeTaking}
 use Rattle.bs_inspect_values.specs.declared.dumping.DumpFiles.{DumpFiles as CodeDumpFiles}
 use Rattle.bs_inspect_values.specs.declared.ready.Dumped.{Dumped as CodeDumped}
 use Rattle.bs_inspect_values.specs.declared.ready.Dumped.TheVariants as D
-use Rattle.bs_inspect_values.specs.Saying.{names_noted, states_noted, taken_in}
+use Rattle.bs_inspect_values.specs.Saying.{taken_in, vcd_reason}
 use Rattle.bs_inspect_values.specs.Simulated.{clock_key, names_read}
-use Rattle.bs_inspect_values.specs.Words.{vcd_reason}
 
 -- the states of a cycle and of so many before it, where the flip-flops with these keys have those names; bits of the last may be unknown,
 -- where that is asked for
-abbrev pub states_read : (keys names : List (List ℕ)) (scope : Option (List ℕ)) (clock : List ℕ) → When → ℕ → (partial : Bool) → List ℕ →
-    Result MarkedStates (Reason Case)
-states_read keys names scope clock at back partial bytes = with_reason (vcd_reason keys) (taken_in partial bytes scope clock names at back)
+abbrev pub states_read : (path : List ℕ) (keys names : List (List ℕ)) (scope : Option (List ℕ)) (clock : List ℕ) → When → ℕ → (partial : Bool) →
+    (text : List ℕ) → Result MarkedStates (Reason Case)
+states_read path keys names scope clock at back partial text =
+    with_reason (vcd_reason Flops path text keys names scope clock) (taken_in partial text scope clock names at back)
 
 -- the file of values with the clock and the scope, the moment, and whether bits may be unknown there
 pub record Taking : Type 0 where
@@ -42,29 +40,17 @@ taking_in t =
 
 abbrev pub states_of : (keys names : List (List ℕ)) → Taking → Plan Case MarkedStates
 states_of keys names t = do
-  bytes ← fetched files.Vcd t.vcd
-  read_as files.Vcd (states_read keys names t.scope t.clock t.at t.back t.partial bytes)
-
-abbrev pub states_looked : (keys names : List (List ℕ)) → Taking → Plan NoteCase MarkedStates
-states_looked keys names t = do
   text ← fetched files.Vcd t.vcd
-  read_as files.Vcd (states_noted t.vcd keys names t.scope t.clock t.at t.back t.partial text)
+  read_as files.Vcd (states_read t.vcd keys names t.scope t.clock t.at t.back t.partial text)
 
 -- once the file of names is fetched
-abbrev pub states_step : List (List ℕ) → List ℕ → Taking → Plan Case MarkedStates
-states_step keys text t = read_as files.Map (names_read keys text) >>= λ names. states_of keys names t
-
-abbrev pub states_step_looked : List ℕ → List (List ℕ) → List ℕ → Taking → Plan NoteCase MarkedStates
-states_step_looked path keys text t = read_as files.Map (names_noted Flops path keys text) >>= λ names. states_looked keys names t
+abbrev pub states_step : (path : List ℕ) → List (List ℕ) → (text : List ℕ) → Taking → Plan Case MarkedStates
+states_step path keys text t = read_as files.Map (names_read Flops path keys text) >>= λ names. states_of keys names t
 
 -- a file of names, where there is one, and the values
 abbrev pub taken_of : List (List ℕ) → Option (List ℕ) → Taking → Plan Case MarkedStates
 taken_of keys None t = states_of keys keys t
-taken_of keys (Some file) t = fetched files.Map file >>= λ text. states_step keys text t
-
-abbrev pub taken_looked : List (List ℕ) → Option (List ℕ) → Taking → Plan NoteCase MarkedStates
-taken_looked keys None t = states_looked keys keys t
-taken_looked keys (Some file) t = fetched files.Map file >>= λ text. states_step_looked file keys text t
+taken_of keys (Some file) t = fetched files.Map file >>= λ text. states_step file keys text t
 
 -- what a signature is taken of, where one is asked for, and the last state behind as many as that tells of, with its marks
 pub record Dumped : Type 0 where
@@ -117,22 +103,11 @@ abbrev pub dump_step : DumpFiles → Parts → Option Chosen → Plan Case Dumpe
 dump_step f raw choice =
     taken_of (flop_keys raw) f.names (taking_of f raw (back_of choice)) >>= λ taken. end record { choice = choice; taken = taken }
 
-abbrev pub dump_step_looked : DumpFiles → Parts → Option Chosen → Plan NoteCase Dumped
-dump_step_looked f raw choice =
-    taken_looked (flop_keys raw) f.names (taking_of f raw (back_of choice)) >>= λ taken. end record { choice = choice; taken = taken }
-
 -- behind the netlist: the signature, where there is one
 abbrev pub chosen_step : DumpFiles → Parts → Option (List ℕ) → Plan Case Dumped
 chosen_step f raw None = dump_step f raw None
 chosen_step f raw (Some file) = signature_of raw file >>= λ choice. dump_step f raw (Some choice)
 
-abbrev pub chosen_step_looked : DumpFiles → Parts → Option (List ℕ) → Plan NoteCase Dumped
-chosen_step_looked f raw None = dump_step_looked f raw None
-chosen_step_looked f raw (Some file) = signature_looked raw file >>= λ choice. dump_step_looked f raw (Some choice)
-
 -- the netlist, the signature and the file of names, where there are any, and the values
 abbrev pub dumped_of : DumpFiles → Plan Case Dumped
 dumped_of f = netlist_of f.netlist >>= λ raw. chosen_step f raw f.signature
-
-abbrev pub dumped_looked : DumpFiles → Plan NoteCase Dumped
-dumped_looked f = netlist_looked f.netlist >>= λ raw. chosen_step_looked f raw f.signature

@@ -1,9 +1,8 @@
--- What the files of a request are to a note: a value, or the reason of its refusal, whose words are the note.
-use Rattle.std.specs.Prelude.{ℕ, nat_lt, ◌==◌, Bool, true, false, List, [], ◌++◌, length, codes, Option, Some, None, Result, Ok, Err, if◌then◌else◌}
+-- Why the files of a simulation are refused: the case of each fault, with its words and its note.
+use Rattle.std.specs.Prelude.{ℕ, ◌==◌, Bool, true, false, List, [], ◌++◌, codes, Option, Some, None, Result, Ok, Err, if◌then◌else◌}
 use Rattle.std.specs.List.{list_any}
 use Rattle.bs_bits.specs.Reading.{◌>>=◌}
 use Rattle.bs_net.specs.Parts.{Parts}
-use Rattle.bs_stim.specs.declared.limits.TheConstants.{MAX_CYCLES}
 use Rattle.bs_net_names.specs.Keys.{key_parts}
 use Rattle.bs_vcd_header.specs.declared.fault.VcdFault.{VcdFault}
 use Rattle.bs_vcd_header.specs.declared.fault.VcdFault.TheVariants as vcd
@@ -12,22 +11,17 @@ use Rattle.bs_vcd_header.specs.Scopes.{declared_of, names_of, scopes_of}
 use Rattle.bs_vcd_header.specs.Sources.{scope_of}
 use Rattle.bs_vcd.specs.declared.cycles.When.{When}
 use Rattle.bs_vcd.specs.declared.cycles.MarkedStates.{MarkedStates}
-use Rattle.bs_vcd.specs.declared.sampling.SampledLines.{SampledLines}
 use Rattle.bs_vcd.specs.Cycles.{marked_in, states_in}
-use Rattle.bs_vcd.specs.Stimulus.{stimulus_in}
 use Rattle.bs_inspect_report.specs.Keys.{flop_keys, input_keys}
 use Rattle.bs_note_files.specs.Notes.{Saying, saying, file_text}
 use Rattle.bs_inspect_notes.specs.declared.name.Subject.{Subject}
-use Rattle.bs_inspect_notes.specs.declared.name.Subject.TheVariants.{Inputs, Flops}
 use Rattle.bs_inspect_notes.specs.Names as N
 use Rattle.bs_inspect_notes.specs.Simulations as S
-use Rattle.bs_outside.specs.Plan.{Reason, exactly, any_of}
-use Rattle.bs_top_files.specs.NoteCases.{NoteCase, at_line}
-use Rattle.bs_top_files.specs.Noting.{noted_by}
+use Rattle.bs_outside.specs.Plan.{Reason, any_of}
+use Rattle.bs_top_files.specs.Causes.{Case, at_line, stated}
 use Rattle.bs_inspect_names.specs.declared.fault.MapFault.{MapFault}
 use Rattle.bs_inspect_names.specs.declared.fault.MapFault.TheVariants as names
-use Rattle.bs_inspect_names.specs.Mapping.{map_in}
-use Rattle.bs_inspect_values.specs.Words.{key_at}
+use Rattle.bs_inspect_values.specs.Words.{cycles_words, key_at, map_words, vcd_words}
 
 -- the keys of the flip-flops and of the data inputs
 abbrev pub all_keys : Parts → List (List ℕ)
@@ -47,16 +41,17 @@ abbrev pub range_saying : Saying
 range_saying =
     saying (codes "the range behind the name in the simulation lacks a bit of this vector") (codes "a bit has the same number in both: write ranges that agree, or none")
 
-abbrev pub map_note_reason : Subject → (path text : List ℕ) → List (List ℕ) → MapFault → Reason NoteCase
-map_note_reason subject path text keys (names.Line number) = any_of (at_line path text number (line_saying (N.numbered text number)))
-map_note_reason subject path text keys (names.Unknown number) = any_of (at_line path text number (N.key_saying subject keys (N.numbered text number)))
-map_note_reason subject path text keys (names.Twice number) = any_of (at_line path text number N.twice_saying)
-map_note_reason subject path text keys (names.Range number) = any_of (at_line path text number range_saying)
-map_note_reason subject path text keys names.NoMemory = exactly []
+-- a fault of such a text, which has these words
+abbrev pub map_case : (words : List ℕ) → Subject → (path text : List ℕ) → List (List ℕ) → MapFault → Case
+map_case words subject path text keys (names.Line number) = at_line words path text number (line_saying (N.numbered text number))
+map_case words subject path text keys (names.Unknown number) = at_line words path text number (N.key_saying subject keys (N.numbered text number))
+map_case words subject path text keys (names.Twice number) = at_line words path text number N.twice_saying
+map_case words subject path text keys (names.Range number) = at_line words path text number range_saying
+map_case words subject path text keys names.NoMemory = stated words []
 
--- the names that inputs or flip-flops with these keys have in a simulation
-abbrev pub names_noted : Subject → List ℕ → List (List ℕ) → List ℕ → Result (List (List ℕ)) (Reason NoteCase)
-names_noted subject path keys text = noted_by (map_note_reason subject path text keys) (map_in keys text)
+-- why a text gives no names
+abbrev pub map_reason : Subject → (path text : List ℕ) → List (List ℕ) → MapFault → Reason Case
+map_reason subject path text keys fault = any_of (map_case (map_words fault) subject path text keys fault)
 
 -- ---- the values of a simulator
 
@@ -76,38 +71,39 @@ clock_said path scope clock d = S.clock_text path scope clock (scopes_of d) (nam
 abbrev pub input_said : Subject → (path key name : List ℕ) → Option (List ℕ) → List ℕ → HeaderDeclarations → List ℕ
 input_said subject path key name scope clock d = S.input_text subject path key name (names_of (scope_of scope (key_parts clock) d) d)
 
-abbrev pub fault_reason : Subject → (path text : List ℕ) → (keys names : List (List ℕ)) → Option (List ℕ) → List ℕ → VcdFault → Reason NoteCase
-fault_reason subject path text keys names scope clock (vcd.Line number) = any_of (at_line path text number S.word_saying)
-fault_reason subject path text keys names scope clock vcd.Ended = exactly (S.ended_text path)
-fault_reason subject path text keys names scope clock vcd.NoClock = exactly (clock_said path scope clock (declarations text))
-fault_reason subject path text keys names scope clock (vcd.NoInput i) =
-    exactly (input_said subject path (key_at keys i) (key_at names i) scope clock (declarations text))
-fault_reason subject path text keys names scope clock (vcd.Unknown i time) = exactly (S.unknown_text subject path (key_at keys i) time)
-fault_reason subject path text keys names scope clock (vcd.NoCycle count) = exactly (S.short_text path count)
-fault_reason subject path text keys names scope clock (vcd.DumpOff number) = any_of (at_line path text number S.off_saying)
-fault_reason subject path text keys names scope clock (vcd.NoTime last) = exactly (S.time_text path last)
-fault_reason subject path text keys names scope clock (vcd.Late begin) = exactly (S.early_text path begin)
-fault_reason subject path text keys names scope clock vcd.NoMemory = exactly []
+-- a fault of such a text, which has these words
+abbrev pub fault_case : (words : List ℕ) → Subject → (path text : List ℕ) → (keys names : List (List ℕ)) → Option (List ℕ) → List ℕ → VcdFault → Case
+fault_case words subject path text keys names scope clock (vcd.Line number) = at_line words path text number S.word_saying
+fault_case words subject path text keys names scope clock vcd.Ended = stated words (S.ended_text path)
+fault_case words subject path text keys names scope clock vcd.NoClock = stated words (clock_said path scope clock (declarations text))
+fault_case words subject path text keys names scope clock (vcd.NoInput i) =
+    stated words (input_said subject path (key_at keys i) (key_at names i) scope clock (declarations text))
+fault_case words subject path text keys names scope clock (vcd.Unknown i time) = stated words (S.unknown_text subject path (key_at keys i) time)
+fault_case words subject path text keys names scope clock (vcd.NoCycle count) = stated words (S.short_text path count)
+fault_case words subject path text keys names scope clock (vcd.DumpOff number) = at_line words path text number S.off_saying
+fault_case words subject path text keys names scope clock (vcd.NoTime last) = stated words (S.time_text path last)
+fault_case words subject path text keys names scope clock (vcd.Late begin) = stated words (S.early_text path begin)
+fault_case words subject path text keys names scope clock vcd.NoMemory = stated words []
 
--- a file that is no VCD at sight is told to be that
-abbrev pub foreign_or : List ℕ → Option (List ℕ) → Reason NoteCase → Reason NoteCase
-foreign_or path (Some sentence) reason = exactly (file_text path sentence)
-foreign_or path None reason = reason
+-- the same, but of a file that is no VCD at sight the note tells that
+abbrev pub foreign_or : (words path : List ℕ) → Option (List ℕ) → Case → Case
+foreign_or words path (Some sentence) case = stated words (file_text path sentence)
+foreign_or words path None case = case
 
-abbrev pub vcd_note_reason : Subject → (path text : List ℕ) → (keys names : List (List ℕ)) → Option (List ℕ) → List ℕ → VcdFault → Reason NoteCase
-vcd_note_reason subject path text keys names scope clock fault =
-    foreign_or path (S.foreign text) (fault_reason subject path text keys names scope clock fault)
+abbrev pub vcd_case : (words : List ℕ) → Subject → (path text : List ℕ) → (keys names : List (List ℕ)) → Option (List ℕ) → List ℕ → VcdFault → Case
+vcd_case words subject path text keys names scope clock fault =
+    foreign_or words path (S.foreign text) (fault_case words subject path text keys names scope clock fault)
 
--- no more lines than a run may have cycles
-abbrev pub few_noted : List ℕ → Result SampledLines (Reason NoteCase) → Result SampledLines (Reason NoteCase)
-few_noted path (Err reason) = Err reason
-few_noted path (Ok sampled) = if nat_lt MAX_CYCLES (length sampled.lines) then Err (exactly (S.cycles_text path)) else Ok sampled
+-- why values are refused
+abbrev pub vcd_reason : Subject → (path text : List ℕ) → (keys names : List (List ℕ)) → Option (List ℕ) → List ℕ → VcdFault → Reason Case
+vcd_reason subject path text keys names scope clock fault =
+    any_of (vcd_case (vcd_words keys fault) subject path text keys names scope clock fault)
 
--- the inputs just before each rising edge of a clock
-abbrev pub lines_noted : (path : List ℕ) (keys names : List (List ℕ)) (scope : Option (List ℕ)) (clock text : List ℕ) →
-    Result SampledLines (Reason NoteCase)
-lines_noted path keys names scope clock text =
-    few_noted path (noted_by (vcd_note_reason Inputs path text keys names scope clock) (stimulus_in text scope clock names))
+-- why values are refused that have more edges than a run may have cycles
+abbrev pub cycles_reason : List ℕ → Reason Case
+cycles_reason path = any_of (stated cycles_words (S.cycles_text path))
+
+-- ---- states
 
 abbrev pub whole_states : List (List Bool) → MarkedStates
 whole_states states = record { states = states; marks = []; lacks = 0 }
@@ -116,8 +112,3 @@ whole_states states = record { states = states; marks = []; lacks = 0 }
 abbrev pub taken_in : (partial : Bool) → List ℕ → Option (List ℕ) → List ℕ → List (List ℕ) → When → ℕ → Result MarkedStates VcdFault
 taken_in true text scope clock names at back = marked_in text scope clock names at back
 taken_in false text scope clock names at back = states_in text scope clock names at back >>= λ states. Ok (whole_states states)
-
-abbrev pub states_noted : (path : List ℕ) (keys names : List (List ℕ)) (scope : Option (List ℕ)) (clock : List ℕ) → When → ℕ → (partial : Bool) →
-    List ℕ → Result MarkedStates (Reason NoteCase)
-states_noted path keys names scope clock at back partial text =
-    noted_by (vcd_note_reason Flops path text keys names scope clock) (taken_in partial text scope clock names at back)

@@ -7,7 +7,7 @@ use Rattle.bs_stim.specs.StimulusText.{run_text}
 use Rattle.bs_net_names.specs.Keys.{key_parts}
 use Rattle.bs_net_names.specs.Rtl.{same_name}
 use Rattle.bs_net_names.specs.Splits.{Halves, last_split}
-use Rattle.bs_vcd.specs.declared.sampling.SampledLines.{SampledLines}
+use Rattle.bs_vcd.specs.declared.clock_edges.SampledLines.{SampledLines}
 use Rattle.bs_vcd.specs.Cycles.{begin_in}
 use Rattle.bs_inspect_values.specs.declared.run.SimulatedRun.{SimulatedRun as CodeSimulatedRun}
 

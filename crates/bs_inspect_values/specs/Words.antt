@@ -5,8 +5,6 @@ use Rattle.bs_inspect_names.specs.declared.fault.MapFault.{MapFault}
 use Rattle.bs_inspect_names.specs.declared.fault.MapFault.TheVariants as names
 use Rattle.bs_vcd_header.specs.declared.fault.VcdFault.{VcdFault}
 use Rattle.bs_vcd_header.specs.declared.fault.VcdFault.TheVariants as vcd
-use Rattle.bs_outside.specs.Plan.{Reason, exactly}
-use Rattle.bs_top_files.specs.Refusals.{Case}
 
 -- a file of names; a line counts from 1
 abbrev pub map_words : MapFault → List ℕ
@@ -36,12 +34,3 @@ vcd_words keys vcd.NoMemory = []
 -- values with more edges than a run may have cycles
 abbrev pub cycles_words : List ℕ
 cycles_words = codes "TooManyCycles"
-
-abbrev pub map_reason : MapFault → Reason Case
-map_reason fault = exactly (map_words fault)
-
-abbrev pub vcd_reason : List (List ℕ) → VcdFault → Reason Case
-vcd_reason keys fault = exactly (vcd_words keys fault)
-
-abbrev pub cycles_reason : Reason Case
-cycles_reason = exactly cycles_words

@@ -4,10 +4,9 @@ ghost use Rattle.bs_net.specs.Netlist.{circuit};
 ghost use Rattle.bs_scan.specs.Choice.{depth_of};
 ghost use Rattle.bs_outside.specs.declared.limits.TheConstants.{MAX_MAP_BYTES};
 ghost use Rattle.bs_outside.specs.Telling.{WalksDiagnosed};
-ghost use Rattle.bs_top_files.specs.NoteCases.{NoteSays};
-ghost use Rattle.bs_top_files.specs.Refusals.{CheckSays};
+ghost use Rattle.bs_top_files.specs.Causes.{CheckSays, NoteSays};
 ghost use Rattle.bs_inspect_report.specs.Keys.{flop_keys};
-ghost use Rattle.bs_inspect_values.specs.Dumped.{back_of, chosen_step, chosen_step_looked, clock_or, dump_step, dump_step_looked, dumped_in, dumped_looked, dumped_of, files_in, states_looked, states_of, states_step, states_step_looked, taken_looked, taken_of, taking_in, taking_of};
+ghost use Rattle.bs_inspect_values.specs.Dumped.{back_of, chosen_step, clock_or, dump_step, dumped_in, dumped_of, files_in, states_of, states_step, taken_of, taking_in, taking_of};
 ghost use Rattle.bs_inspect_values.specs.Simulated.{clock_key};
 
 use crate::keys::flop_bytes;
@@ -62,8 +61,7 @@ fn load_states<'a, S: Shelf>(
 ) -> Result<MarkedStates, WalkStop>
     ensures walks { WalksDiagnosed CheckSays NoteSays S.held S.faults S.leads shelf.old shelf.new
         (states_of (map (λ k. k.now) keys.now) (map (λ n. n.now) names.now) (taking_in taking.entry))
-        (states_looked (map (λ k. k.now) keys.now) (map (λ n. n.now) names.now) (taking_in taking.entry))
-        (λ taken. taken) (λ taken. taken) result }
+        (λ taken. taken) result }
     ensures some { IfOk result (λ taken. 0 < length taken.states) }
     ensures wide { IfOk result (λ taken. All (λ s. length s ≡ length names.now) taken.states) }
 {
@@ -98,8 +96,7 @@ fn load_keyed<S: Shelf>(
     taking: Taking<'_>,
 ) -> Result<MarkedStates, WalkStop>
     ensures walks { WalksDiagnosed CheckSays NoteSays S.held S.faults S.leads shelf.old shelf.new
-        (taken_of (flop_keys net.now.raw) None (taking_in taking.entry)) (taken_looked (flop_keys net.now.raw) None (taking_in taking.entry))
-        (λ taken. taken) (λ taken. taken) result }
+        (taken_of (flop_keys net.now.raw) None (taking_in taking.entry)) (λ taken. taken) result }
     ensures some { IfOk result (λ taken. 0 < length taken.states) }
     ensures wide { IfOk result (λ taken. All (λ s. length s ≡ length (circuit net.now).flops) taken.states) }
 {
@@ -121,8 +118,7 @@ fn load_spelled<S: Shelf>(
     taking: Taking<'_>,
 ) -> Result<MarkedStates, WalkStop>
     ensures walks { WalksDiagnosed CheckSays NoteSays S.held S.faults S.leads shelf.old shelf.new
-        (states_of (map (λ k. k.now) keys.now) names.now (taking_in taking.entry)) (states_looked (map (λ k. k.now) keys.now) names.now (taking_in taking.entry))
-        (λ taken. taken) (λ taken. taken) result }
+        (states_of (map (λ k. k.now) keys.now) names.now (taking_in taking.entry)) (λ taken. taken) result }
     ensures some { IfOk result (λ taken. 0 < length taken.states) }
     ensures wide { IfOk result (λ taken. All (λ s. length s ≡ length names.now) taken.states) }
 {
@@ -146,9 +142,8 @@ fn load_by_names<S: Shelf>(
 ) -> Result<MarkedStates, WalkStop>
     requires { length text.now ≤ MAX_MAP_BYTES }
     ensures walks { WalksDiagnosed CheckSays NoteSays S.held S.faults S.leads shelf.old shelf.new
-        (states_step (map (λ k. k.now) keys.now) text.now (taking_in taking.entry))
-        (states_step_looked path.now (map (λ k. k.now) keys.now) text.now (taking_in taking.entry))
-        (λ taken. taken) (λ taken. taken) result }
+        (states_step path.now (map (λ k. k.now) keys.now) text.now (taking_in taking.entry))
+        (λ taken. taken) result }
     ensures some { IfOk result (λ taken. 0 < length taken.states) }
     ensures wide { IfOk result (λ taken. All (λ s. length s ≡ length keys.now) taken.states) }
 {
@@ -169,9 +164,8 @@ fn load_renamed<S: Shelf>(
 ) -> Result<MarkedStates, WalkStop>
     requires { length text.now ≤ MAX_MAP_BYTES }
     ensures walks { WalksDiagnosed CheckSays NoteSays S.held S.faults S.leads shelf.old shelf.new
-        (states_step (flop_keys net.now.raw) text.now (taking_in taking.entry))
-        (states_step_looked path.now (flop_keys net.now.raw) text.now (taking_in taking.entry))
-        (λ taken. taken) (λ taken. taken) result }
+        (states_step path.now (flop_keys net.now.raw) text.now (taking_in taking.entry))
+        (λ taken. taken) result }
     ensures some { IfOk result (λ taken. 0 < length taken.states) }
     ensures wide { IfOk result (λ taken. All (λ s. length s ≡ length (circuit net.now).flops) taken.states) }
 {
@@ -193,8 +187,7 @@ fn load_named<S: Shelf>(
     taking: Taking<'_>,
 ) -> Result<MarkedStates, WalkStop>
     ensures walks { WalksDiagnosed CheckSays NoteSays S.held S.faults S.leads shelf.old shelf.new
-        (taken_of (flop_keys net.now.raw) (Some file.now) (taking_in taking.entry)) (taken_looked (flop_keys net.now.raw) (Some file.now) (taking_in taking.entry))
-        (λ taken. taken) (λ taken. taken) result }
+        (taken_of (flop_keys net.now.raw) (Some file.now) (taking_in taking.entry)) (λ taken. taken) result }
     ensures some { IfOk result (λ taken. 0 < length taken.states) }
     ensures wide { IfOk result (λ taken. All (λ s. length s ≡ length (circuit net.now).flops) taken.states) }
 {
@@ -212,8 +205,7 @@ fn load_taken<S: Shelf>(
 ) -> Result<MarkedStates, WalkStop>
     ensures walks { WalksDiagnosed CheckSays NoteSays S.held S.faults S.leads shelf.old shelf.new
         (taken_of (flop_keys net.now.raw) (option_map (λ s. s.now) names.entry) (taking_in taking.entry))
-        (taken_looked (flop_keys net.now.raw) (option_map (λ s. s.now) names.entry) (taking_in taking.entry))
-        (λ taken. taken) (λ taken. taken) result }
+        (λ taken. taken) result }
     ensures some { IfOk result (λ taken. 0 < length taken.states) }
     ensures wide { IfOk result (λ taken. All (λ s. length s ≡ length (circuit net.now).flops) taken.states) }
 {
@@ -271,7 +263,7 @@ fn load_plain<S: Shelf>(
     net: &Netlist,
 ) -> Result<Dumped, WalkStop>
     ensures { WalksDiagnosed CheckSays NoteSays S.held S.faults S.leads shelf.old shelf.new
-        (dump_step (files_in files.entry) net.now.raw None) (dump_step_looked (files_in files.entry) net.now.raw None) dumped_in dumped_in result }
+        (dump_step (files_in files.entry) net.now.raw None) dumped_in result }
 {
     let taking = taking_of(files, net, 0);
     match load_taken(alloc, shelf, net, files.names, taking) {
@@ -291,7 +283,7 @@ fn load_signed<S: Shelf>(
 ) -> Result<Dumped, WalkStop>
     requires { choice.width ≡ length (circuit net.now).flops }
     ensures { WalksDiagnosed CheckSays NoteSays S.held S.faults S.leads shelf.old shelf.new
-        (dump_step (files_in files.entry) net.now.raw (Some choice)) (dump_step_looked (files_in files.entry) net.now.raw (Some choice)) dumped_in dumped_in result }
+        (dump_step (files_in files.entry) net.now.raw (Some choice)) dumped_in result }
 {
     let taking = taking_of(files, net, choice.depth() as u64);
     match load_taken(alloc, shelf, net, files.names, taking) {
@@ -312,7 +304,8 @@ fn load_chosen<S: Shelf>(
     signature: Option<&str>,
 ) -> Result<Dumped, WalkStop>
     ensures { WalksDiagnosed CheckSays NoteSays S.held S.faults S.leads shelf.old shelf.new
-        (chosen_step (files_in files.entry) net.now.raw (option_map (λ s. s.now) signature.entry)) (chosen_step_looked (files_in files.entry) net.now.raw (option_map (λ s. s.now) signature.entry)) dumped_in dumped_in result }
+        (chosen_step (files_in files.entry) net.now.raw (option_map (λ s. s.now) signature.entry))
+        dumped_in result }
 {
     match signature {
         None => load_plain(alloc, shelf, files, net),
@@ -329,7 +322,7 @@ fn load_by_signature<S: Shelf>(
     file: &str,
 ) -> Result<Dumped, WalkStop>
     ensures { WalksDiagnosed CheckSays NoteSays S.held S.faults S.leads shelf.old shelf.new
-        (chosen_step (files_in files.entry) net.now.raw (Some file.now)) (chosen_step_looked (files_in files.entry) net.now.raw (Some file.now)) dumped_in dumped_in result }
+        (chosen_step (files_in files.entry) net.now.raw (Some file.now)) dumped_in result }
 {
     match load_signature(alloc, shelf, file, net) {
         Ok(choice) => load_signed(alloc, shelf, files, net, choice),
@@ -345,7 +338,7 @@ fn load_with<S: Shelf>(
     net: Netlist,
 ) -> Result<Dumped, WalkStop>
     ensures { WalksDiagnosed CheckSays NoteSays S.held S.faults S.leads shelf.old shelf.new
-        (chosen_step (files_in files.entry) net.raw (files_in files.entry).signature) (chosen_step_looked (files_in files.entry) net.raw (files_in files.entry).signature) dumped_in dumped_in result }
+        (chosen_step (files_in files.entry) net.raw (files_in files.entry).signature) dumped_in result }
 {
     let dumped = load_chosen(alloc, shelf, files, &net, files.signature);
     drop(net);
@@ -359,7 +352,7 @@ pub fn load_dumped<S: Shelf>(
     files: DumpFiles<'_>,
 ) -> Result<Dumped, WalkStop>
     ensures { WalksDiagnosed CheckSays NoteSays S.held S.faults S.leads shelf.old shelf.new
-        (dumped_of (files_in files.entry)) (dumped_looked (files_in files.entry)) dumped_in dumped_in result }
+        (dumped_of (files_in files.entry)) dumped_in result }
 {
     match load_netlist(alloc, shelf, files.netlist) {
         Ok(net) => load_with(alloc, shelf, files, net),

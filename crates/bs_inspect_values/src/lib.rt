@@ -3,7 +3,7 @@
 //! Modules: `refusals` (the words of a fault), `run` (the runs, their names and their text) and `law`, `keys`, `lines` (a note on a
 //! line), `mapping` and `values` (a reader each, `*_or_diagnostic`), `ready` (`Simulated`, `Dumped`), `simulated` and `dumping` (the
 //! walks). The netlist and the signature are fetched and read by bs_top_files, the names in a simulation read by bs_inspect_names.
-//! Used above: `WalksDiagnosed CheckSays NoteSays ..` over the two plans of `specs/Simulated` and `specs/Dumped`; `runs_text`, the one
+//! Used above: `WalksDiagnosed CheckSays NoteSays ..` over the plans of `specs/Simulated` and `specs/Dumped`; `runs_text`, the one
 //! spelling of runs, which is read back.
 #![tactic(auto)]
 

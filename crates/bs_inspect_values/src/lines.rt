@@ -2,7 +2,7 @@
 ghost use Rattle.std.specs.Prelude.{◌≡◌, ◌≤◌, length, max, IfOk};
 ghost use Rattle.bs_note_files.specs.Notes.{said};
 ghost use Rattle.bs_net_names.specs.Spots.{IsLineStart};
-ghost use Rattle.bs_top_files.specs.NoteCases.{IsNoteAtLine};
+ghost use Rattle.bs_top_files.specs.Causes.{IsNoteAtLine};
 
 use bs_bits::NoMemory;
 use bs_net_names::line_start;

@@ -2,15 +2,15 @@
 ghost use Rattle.std.specs.Prelude.{◌≡◌, ◌==◌, map, IfOk};
 ghost use Rattle.std.specs.List.{list_any};
 ghost use Rattle.bs_note_files.specs.Notes.{said};
-ghost use Rattle.bs_outside.specs.declared.walk.Refusal.TheVariants.{NoMemory as Want};
+ghost use Rattle.bs_outside.specs.declared.file_fetch.Refusal.TheVariants.{NoMemory as Want};
 ghost use Rattle.bs_outside.specs.Plan.{Says};
 ghost use Rattle.bs_outside.specs.Diagnostic.{note_refusal, noted, word_refusal, worded};
 ghost use Rattle.bs_outside.specs.Walks.{Reads};
-ghost use Rattle.bs_top_files.specs.NoteCases.{HasNote, IsNoteAtLine, NoteSays};
-ghost use Rattle.bs_top_files.specs.Refusals.{CheckSays, HasWords};
+ghost use Rattle.bs_top_files.specs.Causes.{CheckSays, HasNote, IsNoteAtLine, NoteSays};
+ghost use Rattle.bs_top_files.specs.Refusals.{HasWords};
 ghost use Rattle.bs_inspect_notes.specs.Names.{key_saying, numbered, twice_saying};
 ghost use Rattle.bs_inspect_names.specs.declared.fault.MapFault.TheVariants.{NoMemory as MapWant};
-ghost use Rattle.bs_inspect_values.specs.Saying.{line_saying, map_note_reason, names_noted, range_saying};
+ghost use Rattle.bs_inspect_values.specs.Saying.{line_saying, map_reason, range_saying};
 ghost use Rattle.bs_inspect_values.specs.Simulated.{names_read};
 ghost use Rattle.bs_inspect_values.specs.Words.{map_words};
 
@@ -116,7 +116,7 @@ fn map_note(
     keys: &[&[u8]],
     fault: MapFault,
 ) -> Result<Vec<u8>, NoMemory>
-    ensures { IfOk result (λ note. Says NoteSays (map_note_reason subject path.now text.now (map (λ k. k.now) keys.now) fault) note.items) }
+    ensures { IfOk result (λ note. Says NoteSays (map_reason subject path.now text.now (map (λ k. k.now) keys.now) fault) note.items) }
 {
     match fault {
         MapFault::Line(number) => form_note(alloc, path, text, number),
@@ -139,7 +139,7 @@ fn map_diagnostic(
 ) -> Unread
     ensures words { HasWords (map_words fault) (word_refusal result) }
     ensures want { fault ≡ MapWant → word_refusal result ≡ Want }
-    ensures note { HasNote (map_note_reason subject path.now text.now (map (λ k. k.now) keys.now) fault) (note_refusal result) }
+    ensures note { HasNote (map_reason subject path.now text.now (map (λ k. k.now) keys.now) fault) (note_refusal result) }
     ensures none { fault ≡ MapWant → note_refusal result ≡ Want }
 {
     let words = map_refusal(alloc, fault);
@@ -155,8 +155,8 @@ pub fn names_or_diagnostic(
     text: &[u8],
     keys: &[&[u8]],
 ) -> Result<List<List<u8>>, Unread>
-    ensures words { Reads CheckSays (λ names. names) (names_read (map (λ k. k.now) keys.now) text.now) (worded result) }
-    ensures note { Reads NoteSays (λ names. names) (names_noted subject path.now (map (λ k. k.now) keys.now) text.now) (noted result) }
+    ensures words { Reads CheckSays (λ names. names) (names_read subject path.now (map (λ k. k.now) keys.now) text.now) (worded result) }
+    ensures note { Reads NoteSays (λ names. names) (names_read subject path.now (map (λ k. k.now) keys.now) text.now) (noted result) }
 {
     match read_names(alloc, text, keys) {
         Ok(names) => Ok(names),

@@ -2,7 +2,7 @@
 ghost use Rattle.std.specs.Prelude.{◌≡◌, ◌++◌, codes, decimal, map, IfOk, IfErr};
 ghost use Rattle.bs_inspect_names.specs.declared.fault.MapFault.TheVariants.{NoMemory as MapWant};
 ghost use Rattle.bs_vcd_header.specs.declared.fault.VcdFault.TheVariants.{NoMemory as VcdWant};
-ghost use Rattle.bs_outside.specs.declared.walk.Refusal.TheVariants.{NoMemory as Want};
+ghost use Rattle.bs_outside.specs.declared.file_fetch.Refusal.TheVariants.{NoMemory as Want};
 ghost use Rattle.bs_top_files.specs.Refusals.{HasWords};
 ghost use Rattle.bs_inspect_values.specs.Words.{key_at, map_words, vcd_words};
 

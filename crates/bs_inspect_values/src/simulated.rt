@@ -5,13 +5,12 @@ ghost use Rattle.bs_net_names.specs.Keys.{key_parts, parts_in};
 ghost use Rattle.bs_net_names.specs.Rtl.{same_name};
 ghost use Rattle.bs_outside.specs.declared.limits.TheConstants.{MAX_MAP_BYTES};
 ghost use Rattle.bs_outside.specs.declared.diagnostic.WalkStop.TheVariants.{Plain};
-ghost use Rattle.bs_outside.specs.declared.walk.JobFault.TheVariants.{NoMemory as NoRoom};
+ghost use Rattle.bs_outside.specs.declared.file_fetch.JobFault.TheVariants.{NoMemory as NoRoom};
 ghost use Rattle.bs_outside.specs.Telling.{WalksDiagnosed};
-ghost use Rattle.bs_top_files.specs.NoteCases.{NoteSays};
-ghost use Rattle.bs_top_files.specs.Refusals.{CheckSays};
+ghost use Rattle.bs_top_files.specs.Causes.{CheckSays, NoteSays};
 ghost use Rattle.bs_inspect_report.specs.Keys.{input_keys};
 ghost use Rattle.bs_inspect_values.specs.SimulatedRun.{is_data, run_in, simulated};
-ghost use Rattle.bs_inspect_values.specs.Simulated.{clocked_in, lines_looked, lines_of, run_behind, run_behind_looked, run_looked, run_of, run_step, run_step_looked, runs_behind, runs_behind_looked, sampled_in, sampled_looked, sampled_of, sampled_step, sampled_step_looked, simulated_in, simulated_looked, simulated_of};
+ghost use Rattle.bs_inspect_values.specs.Simulated.{clocked_in, lines_of, run_behind, run_of, run_step, runs_behind, sampled_in, sampled_of, sampled_step, simulated_in, simulated_of};
 
 use crate::keys::input_bytes;
 use crate::mapping::names_or_diagnostic;
@@ -48,8 +47,7 @@ fn load_lines<S: Shelf>(
 ) -> Result<SampledLines, WalkStop>
     ensures { WalksDiagnosed CheckSays NoteSays S.held S.faults S.leads shelf.old shelf.new
         (lines_of (map (λ k. k.now) keys.now) (map (λ n. n.now) names.now) (clocked_in at.entry) vcd.now)
-        (lines_looked (map (λ k. k.now) keys.now) (map (λ n. n.now) names.now) (clocked_in at.entry) vcd.now)
-        (λ sampled. sampled) (λ sampled. sampled) result }
+        (λ sampled. sampled) result }
 {
     let sampling = Sampling {
         vcd,
@@ -105,8 +103,7 @@ fn load_one<S: Shelf>(
 ) -> Result<(), WalkStop>
     ensures { WalksDiagnosed CheckSays NoteSays S.held S.faults S.leads shelf.old shelf.new
         (run_behind (map (λ k. k.now) keys.now) (map (λ n. n.now) names.now) (clocked_in at.entry) (map run_in runs.old.items) vcd.now)
-        (run_behind_looked (map (λ k. k.now) keys.now) (map (λ n. n.now) names.now) (clocked_in at.entry) (map run_in runs.old.items) vcd.now)
-        (λ _. map run_in runs.new.items) (λ _. map run_in runs.new.items) result }
+        (λ _. map run_in runs.new.items) result }
 {
     match load_lines(alloc, shelf, keys, names, at, vcd) {
         Ok(sampled) => put_or_stop(alloc, runs, vcd, sampled),
@@ -126,8 +123,7 @@ fn load_behind<S: Shelf>(
 ) -> Result<(), WalkStop>
     ensures { WalksDiagnosed CheckSays NoteSays S.held S.faults S.leads shelf.old shelf.new
         (runs_behind (map (λ k. k.now) keys.now) (map (λ n. n.now) names.now) (clocked_in at.entry) (map run_in runs.old.items) (map (λ s. s.now) vcds.now))
-        (runs_behind_looked (map (λ k. k.now) keys.now) (map (λ n. n.now) names.now) (clocked_in at.entry) (map run_in runs.old.items) (map (λ s. s.now) vcds.now))
-        (λ _. map run_in runs.new.items) (λ _. map run_in runs.new.items) result }
+        (λ _. map run_in runs.new.items) result }
 {
     match vcds.split_first() {
         None => Ok(()),
@@ -165,8 +161,7 @@ fn load_sampled<'a, S: Shelf>(
 ) -> Result<Sampled, WalkStop>
     ensures { WalksDiagnosed CheckSays NoteSays S.held S.faults S.leads shelf.old shelf.new
         (sampled_of (map (λ k. k.now) keys.now) (map (λ n. n.now) names.now) (clocked_in at.entry) (map (λ s. s.now) vcds.now))
-        (sampled_looked (map (λ k. k.now) keys.now) (map (λ n. n.now) names.now) (clocked_in at.entry) (map (λ s. s.now) vcds.now))
-        sampled_in sampled_in result }
+        sampled_in result }
 {
     let data_clock = is_data(at.clock, names);
     let mut runs = Vec::new(alloc);
@@ -191,8 +186,7 @@ fn load_keyed<S: Shelf>(
 ) -> Result<Sampled, WalkStop>
     ensures { WalksDiagnosed CheckSays NoteSays S.held S.faults S.leads shelf.old shelf.new
         (run_of (input_keys net.now.raw) None (clocked_in at.entry) (map (λ s. s.now) vcds.now))
-        (run_looked (input_keys net.now.raw) None (clocked_in at.entry) (map (λ s. s.now) vcds.now))
-        sampled_in sampled_in result }
+        sampled_in result }
 {
     match input_bytes(alloc, net) {
         Ok(keys) => {
@@ -214,8 +208,7 @@ fn load_spelled<S: Shelf>(
 ) -> Result<Sampled, WalkStop>
     ensures { WalksDiagnosed CheckSays NoteSays S.held S.faults S.leads shelf.old shelf.new
         (sampled_of (map (λ k. k.now) keys.now) names.now (clocked_in at.entry) (map (λ s. s.now) vcds.now))
-        (sampled_looked (map (λ k. k.now) keys.now) names.now (clocked_in at.entry) (map (λ s. s.now) vcds.now))
-        sampled_in sampled_in result }
+        sampled_in result }
 {
     match slices_of(alloc, names) {
         Ok(slices) => {
@@ -238,9 +231,8 @@ fn load_by_names<S: Shelf>(
 ) -> Result<Sampled, WalkStop>
     requires { length text.now ≤ MAX_MAP_BYTES }
     ensures { WalksDiagnosed CheckSays NoteSays S.held S.faults S.leads shelf.old shelf.new
-        (sampled_step (map (λ k. k.now) keys.now) text.now (clocked_in at.entry) (map (λ s. s.now) vcds.now))
-        (sampled_step_looked path.now (map (λ k. k.now) keys.now) text.now (clocked_in at.entry) (map (λ s. s.now) vcds.now))
-        sampled_in sampled_in result }
+        (sampled_step path.now (map (λ k. k.now) keys.now) text.now (clocked_in at.entry) (map (λ s. s.now) vcds.now))
+        sampled_in result }
 {
     match names_or_diagnostic(alloc, Subject::Inputs, path, text, keys) {
         Ok(names) => load_spelled(alloc, shelf, keys, &names, at, vcds),
@@ -260,9 +252,8 @@ fn load_renamed<S: Shelf>(
 ) -> Result<Sampled, WalkStop>
     requires { length text.now ≤ MAX_MAP_BYTES }
     ensures { WalksDiagnosed CheckSays NoteSays S.held S.faults S.leads shelf.old shelf.new
-        (sampled_step (input_keys net.now.raw) text.now (clocked_in at.entry) (map (λ s. s.now) vcds.now))
-        (sampled_step_looked path.now (input_keys net.now.raw) text.now (clocked_in at.entry) (map (λ s. s.now) vcds.now))
-        sampled_in sampled_in result }
+        (sampled_step path.now (input_keys net.now.raw) text.now (clocked_in at.entry) (map (λ s. s.now) vcds.now))
+        sampled_in result }
 {
     match input_bytes(alloc, net) {
         Ok(keys) => {
@@ -284,8 +275,7 @@ fn load_named<S: Shelf>(
 ) -> Result<Sampled, WalkStop>
     ensures { WalksDiagnosed CheckSays NoteSays S.held S.faults S.leads shelf.old shelf.new
         (run_of (input_keys net.now.raw) (Some file.now) (clocked_in at.entry) (map (λ s. s.now) vcds.now))
-        (run_looked (input_keys net.now.raw) (Some file.now) (clocked_in at.entry) (map (λ s. s.now) vcds.now))
-        sampled_in sampled_in result }
+        sampled_in result }
 {
     let bytes = fetch_file(alloc, shelf, File::Map, file)?;
     load_renamed(alloc, shelf, net, file, &bytes, at, vcds)
@@ -302,8 +292,7 @@ fn load_run<S: Shelf>(
 ) -> Result<Sampled, WalkStop>
     ensures { WalksDiagnosed CheckSays NoteSays S.held S.faults S.leads shelf.old shelf.new
         (run_of (input_keys net.now.raw) (option_map (λ s. s.now) names.entry) (clocked_in at.entry) (map (λ s. s.now) vcds.now))
-        (run_looked (input_keys net.now.raw) (option_map (λ s. s.now) names.entry) (clocked_in at.entry) (map (λ s. s.now) vcds.now))
-        sampled_in sampled_in result }
+        sampled_in result }
 {
     match names {
         Some(file) => load_named(alloc, shelf, net, file, at, vcds),
@@ -324,8 +313,7 @@ fn load_runs<S: Shelf>(
 ) -> Result<Simulated, WalkStop>
     ensures { WalksDiagnosed CheckSays NoteSays S.held S.faults S.leads shelf.old shelf.new
         (run_step net.raw (option_map (λ s. s.now) names.entry) (clocked_in at.entry) (map (λ s. s.now) vcds.now))
-        (run_step_looked net.raw (option_map (λ s. s.now) names.entry) (clocked_in at.entry) (map (λ s. s.now) vcds.now))
-        simulated_in simulated_in result }
+        simulated_in result }
 {
     match load_run(alloc, shelf, &net, names, at, vcds) {
         Ok(sampled) => Ok(Simulated { net, sampled }),
@@ -348,8 +336,7 @@ pub fn load_simulated<S: Shelf>(
 ) -> Result<Simulated, WalkStop>
     ensures { WalksDiagnosed CheckSays NoteSays S.held S.faults S.leads shelf.old shelf.new
         (simulated_of netlist.now (option_map (λ s. s.now) names.entry) (clocked_in at.entry) (map (λ s. s.now) vcds.now))
-        (simulated_looked netlist.now (option_map (λ s. s.now) names.entry) (clocked_in at.entry) (map (λ s. s.now) vcds.now))
-        simulated_in simulated_in result }
+        simulated_in result }
 {
     match load_netlist(alloc, shelf, netlist) {
         Ok(net) => load_runs(alloc, shelf, net, names, at, vcds),

@@ -7,13 +7,13 @@ ghost use Rattle.bs_vcd.specs.Stimulus.{stimulus_in};
 ghost use Rattle.bs_inspect_notes.specs.Simulations.{cycles_text, off_saying, unknown_text, word_saying};
 ghost use Rattle.bs_note_files.specs.Notes.{said};
 ghost use Rattle.bs_outside.specs.declared.limits.TheConstants.{MAX_VCD_BYTES};
-ghost use Rattle.bs_outside.specs.declared.walk.Refusal.TheVariants.{NoMemory as Want};
+ghost use Rattle.bs_outside.specs.declared.file_fetch.Refusal.TheVariants.{NoMemory as Want};
 ghost use Rattle.bs_outside.specs.Plan.{exactly, Says};
 ghost use Rattle.bs_outside.specs.Diagnostic.{note_refusal, noted, word_refusal, worded};
 ghost use Rattle.bs_outside.specs.Walks.{Reads};
-ghost use Rattle.bs_top_files.specs.NoteCases.{HasNote, IsNoteAtLine, NoteSays};
-ghost use Rattle.bs_top_files.specs.Refusals.{CheckSays, HasWords};
-ghost use Rattle.bs_inspect_values.specs.Saying.{clock_said, declarations, fault_reason, few_noted, input_said, lines_noted, states_noted, taken_in, vcd_note_reason, whole_states};
+ghost use Rattle.bs_top_files.specs.Causes.{CheckSays, HasNote, IsNoteAtLine, NoteSays};
+ghost use Rattle.bs_top_files.specs.Refusals.{HasWords};
+ghost use Rattle.bs_inspect_values.specs.Saying.{clock_said, declarations, fault_case, input_said, taken_in, vcd_reason, whole_states};
 ghost use Rattle.bs_inspect_values.specs.Dumped.{states_read};
 ghost use Rattle.bs_inspect_values.specs.Simulated.{few_lines, lines_read};
 ghost use Rattle.bs_inspect_values.specs.Words.{cycles_words, key_at, vcd_words};
@@ -193,7 +193,7 @@ fn fault_note(
     fault: VcdFault,
 ) -> Result<Vec<u8>, NoMemory>
     requires { length text.now ≤ MAX_VCD_BYTES }
-    ensures { IfOk result (λ note. Says NoteSays (fault_reason subject sampling.entry.vcd.now text.now (map (λ k. k.now) keys.now) (map (λ n. n.now) names.now) (option_map (λ s. s.now) sampling.entry.scope) sampling.entry.clock.now fault) note.items) }
+    ensures { IfOk result (λ note. NoteSays (fault_case (vcd_words (map (λ k. k.now) keys.now) fault) subject sampling.entry.vcd.now text.now (map (λ k. k.now) keys.now) (map (λ n. n.now) names.now) (option_map (λ s. s.now) sampling.entry.scope) sampling.entry.clock.now fault) note.items) }
 {
     match fault {
         VcdFault::Line(line) => word_note(alloc, sampling.vcd, text, line),
@@ -221,7 +221,7 @@ fn vcd_note(
     fault: VcdFault,
 ) -> Result<Vec<u8>, NoMemory>
     requires { length text.now ≤ MAX_VCD_BYTES }
-    ensures { IfOk result (λ note. Says NoteSays (vcd_note_reason subject sampling.entry.vcd.now text.now (map (λ k. k.now) keys.now) (map (λ n. n.now) names.now) (option_map (λ s. s.now) sampling.entry.scope) sampling.entry.clock.now fault) note.items) }
+    ensures { IfOk result (λ note. Says NoteSays (vcd_reason subject sampling.entry.vcd.now text.now (map (λ k. k.now) keys.now) (map (λ n. n.now) names.now) (option_map (λ s. s.now) sampling.entry.scope) sampling.entry.clock.now fault) note.items) }
 {
     match foreign(text) {
         Some(sentence) => file_note(alloc, sampling.vcd, sentence.as_bytes()),
@@ -245,7 +245,7 @@ pub fn vcd_diagnostic(
     requires { length text.now ≤ MAX_VCD_BYTES }
     ensures words { HasWords (vcd_words (map (λ k. k.now) keys.now) fault) (word_refusal result) }
     ensures want { fault ≡ VcdWant → word_refusal result ≡ Want }
-    ensures note { HasNote (vcd_note_reason subject sampling.entry.vcd.now text.now (map (λ k. k.now) keys.now) (map (λ n. n.now) names.now) (option_map (λ s. s.now) sampling.entry.scope) sampling.entry.clock.now fault) (note_refusal result) }
+    ensures note { HasNote (vcd_reason subject sampling.entry.vcd.now text.now (map (λ k. k.now) keys.now) (map (λ n. n.now) names.now) (option_map (λ s. s.now) sampling.entry.scope) sampling.entry.clock.now fault) (note_refusal result) }
     ensures none { fault ≡ VcdWant → note_refusal result ≡ Want }
 {
     let words = vcd_refusal(alloc, fault, keys);
@@ -271,8 +271,8 @@ fn few_or_diagnostic(
     path: &str,
     sampled: SampledLines,
 ) -> Result<SampledLines, Unread>
-    ensures words { Reads CheckSays (λ sampled. sampled) (few_lines (TheOk sampled)) (worded result) }
-    ensures note { Reads NoteSays (λ sampled. sampled) (few_noted path.now (TheOk sampled)) (noted result) }
+    ensures words { Reads CheckSays (λ sampled. sampled) (few_lines path.now (TheOk sampled)) (worded result) }
+    ensures note { Reads NoteSays (λ sampled. sampled) (few_lines path.now (TheOk sampled)) (noted result) }
 {
     if sampled.lines.len() > MAX_CYCLES as usize {
         return Err(cycles_diagnostic(alloc, path));
@@ -305,8 +305,8 @@ pub fn lines_or_diagnostic(
     sampling: Sampling<'_>,
 ) -> Result<SampledLines, Unread>
     requires { length text.now ≤ MAX_VCD_BYTES }
-    ensures words { Reads CheckSays (λ sampled. sampled) (lines_read (map (λ k. k.now) keys.now) (map (λ n. n.now) names.now) (option_map (λ s. s.now) sampling.entry.scope) sampling.entry.clock.now text.now) (worded result) }
-    ensures note { Reads NoteSays (λ sampled. sampled) (lines_noted sampling.entry.vcd.now (map (λ k. k.now) keys.now) (map (λ n. n.now) names.now) (option_map (λ s. s.now) sampling.entry.scope) sampling.entry.clock.now text.now) (noted result) }
+    ensures words { Reads CheckSays (λ sampled. sampled) (lines_read sampling.entry.vcd.now (map (λ k. k.now) keys.now) (map (λ n. n.now) names.now) (option_map (λ s. s.now) sampling.entry.scope) sampling.entry.clock.now text.now) (worded result) }
+    ensures note { Reads NoteSays (λ sampled. sampled) (lines_read sampling.entry.vcd.now (map (λ k. k.now) keys.now) (map (λ n. n.now) names.now) (option_map (λ s. s.now) sampling.entry.scope) sampling.entry.clock.now text.now) (noted result) }
 {
     match sampled(alloc, text, names, sampling) {
         Ok(sampled) => few_or_diagnostic(alloc, sampling.vcd, sampled),
@@ -408,8 +408,8 @@ pub fn states_or_diagnostic(
     partial: bool,
 ) -> Result<MarkedStates, Unread>
     requires { length text.now ≤ MAX_VCD_BYTES }
-    ensures words { Reads CheckSays (λ taken. taken) (states_read (map (λ k. k.now) keys.now) (map (λ n. n.now) names.now) (option_map (λ s. s.now) sampling.entry.scope) sampling.entry.clock.now at back partial text.now) (worded result) }
-    ensures note { Reads NoteSays (λ taken. taken) (states_noted sampling.entry.vcd.now (map (λ k. k.now) keys.now) (map (λ n. n.now) names.now) (option_map (λ s. s.now) sampling.entry.scope) sampling.entry.clock.now at back partial text.now) (noted result) }
+    ensures words { Reads CheckSays (λ taken. taken) (states_read sampling.entry.vcd.now (map (λ k. k.now) keys.now) (map (λ n. n.now) names.now) (option_map (λ s. s.now) sampling.entry.scope) sampling.entry.clock.now at back partial text.now) (worded result) }
+    ensures note { Reads NoteSays (λ taken. taken) (states_read sampling.entry.vcd.now (map (λ k. k.now) keys.now) (map (λ n. n.now) names.now) (option_map (λ s. s.now) sampling.entry.scope) sampling.entry.clock.now at back partial text.now) (noted result) }
     ensures some { IfOk result (λ taken. 0 < length taken.states) }
     ensures wide { IfOk result (λ taken. All (λ s. length s ≡ length names.now) taken.states) }
 {

@@ -1,8 +1,8 @@
 -- The signals that are left.
 use Rattle.std.proofs.Common.{◌≡◌, Bool, true, false, List, [], ◌∷◌, map, refl, ap, ◌∙◌, ℕ}
 use Rattle.std.specs.Prelude.{filter, cond}
-use Rattle.bs_net_names.specs.declared.signal.Signal.{Signal as CodeSignal}
-use Rattle.bs_net_names.specs.Signals.{Signal, signal_in}
+use Rattle.bs_inspect_view.specs.declared.signal.Signal.{Signal as CodeSignal}
+use Rattle.bs_inspect_view.specs.Signals.{Signal, signal_in}
 
 -- what is left of signals of the code
 pub filter_in : (p : Signal → Bool) (signals : List CodeSignal) → map signal_in (filter (λ s. p (signal_in s)) signals) ≡ filter p (map signal_in signals)

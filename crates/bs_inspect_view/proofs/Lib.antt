@@ -1,3 +1,5 @@
+pub mod SignalLemmas
+pub mod HexLemmas
 pub mod IdLemmas
 pub mod NetLemmas
 pub mod PlaceLemmas

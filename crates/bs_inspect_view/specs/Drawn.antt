@@ -4,7 +4,7 @@ use Rattle.std.specs.Str.{bytes_eq}
 use Rattle.bs_bits.specs.Lines.{is_digits}
 use Rattle.bs_net.specs.Parts.{Parts}
 use Rattle.bs_net_names.specs.Naming.{plain}
-use Rattle.bs_net_names.specs.Signals.{AreSignals, Signal}
+use Rattle.bs_inspect_view.specs.Signals.{AreSignals, Signal}
 use Rattle.bs_net_names.specs.Splits.{Halves, first_split}
 use Rattle.bs_inspect_view.specs.Scopes.{leaf_of}
 use Rattle.bs_inspect_view.specs.declared.request.ViewRequest.{ViewRequest as CodeViewRequest}

@@ -1,3 +1,6 @@
+pub mod Signals
+pub mod Rtl
+pub mod Values
 pub mod Scopes
 pub mod Drawn
 pub mod Recorded

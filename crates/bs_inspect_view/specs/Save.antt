@@ -4,7 +4,8 @@ use Rattle.std.specs.Prelude.{◌≡◌, ℕ, ◌+◌, ◌-◌, ◌==◌, List, 
 use Rattle.std.specs.List.{flat_map}
 use Rattle.bs_bits.specs.Lines.{line}
 use Rattle.bs_net.specs.Parts.{Parts}
-use Rattle.bs_net_names.specs.Signals.{Signal, range_text}
+use Rattle.bs_net_names.specs.Ranges.{range_text}
+use Rattle.bs_inspect_view.specs.Signals.{Signal}
 use Rattle.bs_inspect_view.specs.Drawn.{AreDrawn, ViewRequest}
 use Rattle.bs_inspect_view.specs.Scopes.{leaf_of, parts_of, path_of, word_of}
 

@@ -5,7 +5,8 @@ use Rattle.std.specs.Prelude.{if◌then◌else◌}
 use Rattle.std.specs.List.{flat_map, list_any, range_with_len}
 use Rattle.bs_bits.specs.Lines.{line}
 use Rattle.bs_net.specs.Parts.{Parts}
-use Rattle.bs_net_names.specs.Signals.{Signal, range_text}
+use Rattle.bs_net_names.specs.Ranges.{range_text}
+use Rattle.bs_inspect_view.specs.Signals.{Signal}
 use Rattle.bs_inspect_view.specs.Drawn.{AreDrawn, ViewRequest}
 use Rattle.bs_inspect_view.specs.Recorded.{opening_lines, recorded_lines}
 use Rattle.bs_inspect_view.specs.Scopes.{leaf_of, moves, path_of, scopes, word_of}

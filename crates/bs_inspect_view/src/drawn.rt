@@ -1,16 +1,17 @@
 //! The signals that are drawn.
 ghost use Rattle.std.specs.Prelude.{◌≡◌, map, filter, IfOk};
 ghost use Rattle.bs_bits.specs.Lines.{is_digits};
-ghost use Rattle.bs_net_names.specs.Signals.{signal_in};
+ghost use Rattle.bs_inspect_view.specs.Signals.{signal_in};
 ghost use Rattle.bs_net_names.specs.Splits.{first_split};
 ghost use Rattle.bs_inspect_view.specs.Drawn.{AreDrawn, asked_in, is_constant, is_counted, is_drawn, is_internal, is_nameless, is_numbered};
 
 use crate::nets::net_signals;
 use crate::request::ViewRequest;
 use crate::scopes::leaf_of;
+use crate::signal::Signal;
 use bs_bits::NoMemory;
 use bs_net::Netlist;
-use bs_net_names::{Signal, first_split, plain};
+use bs_net_names::{first_split, plain};
 use std::alloc::Global;
 
 /// Whether all bytes are digits.

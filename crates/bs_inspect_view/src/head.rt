@@ -1,14 +1,15 @@
 //! The variables of a waveform.
 ghost use Rattle.std.specs.Prelude.{◌≡◌, ◌++◌, length, map, slice_get, OnOk};
 ghost use Rattle.std.specs.List.{flat_map, range_with_len};
-ghost use Rattle.bs_net_names.specs.Signals.{signal_in};
+ghost use Rattle.bs_inspect_view.specs.Signals.{signal_in};
 ghost use Rattle.bs_inspect_view.specs.View.{declarations, path_before, range_words, reference, scoped, variable_at, variable_line, variables};
 ghost use Rattle.bs_wave.specs.WaveText.{id_of};
 
 use crate::recorded::push_opening_lines;
 use crate::scopes::{leaf_of, path_of, push_moves, push_scopes, word_of};
+use crate::signal::Signal;
 use bs_bits::{NoMemory, push_line, push_number, push_piece};
-use bs_net_names::{Signal, push_range};
+use bs_net_names::push_range;
 
 /// Appends the id of a signal: its number in base 94, the lowest digit first.
 #[tactic(auto, using(crate::proofs::IdLemmas::last))]

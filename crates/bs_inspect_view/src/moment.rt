@@ -2,14 +2,14 @@
 ghost use Rattle.std.specs.Prelude.{◌≡◌, ◌<◌, ◌++◌, Some, length, map, slice_get, OnOk, option_map};
 ghost use Rattle.std.specs.List.{flat_map, range_with_len};
 ghost use Rattle.bs_bits.specs.Lines.{line};
-ghost use Rattle.bs_net_names.specs.Signals.{signal_in};
+ghost use Rattle.bs_inspect_view.specs.Signals.{signal_in};
 ghost use Rattle.bs_inspect_view.specs.View.{changes, moment_at, moment_before, moment_lines, moment_text};
 ghost use Rattle.bs_wave.specs.WaveText.{time_line};
 
 use crate::recorded::push_recorded;
+use crate::signal::Signal;
 use crate::value::push_changes;
 use bs_bits::{List, NoMemory, end_line, push_number, push_piece};
-use bs_net_names::Signal;
 use bs_wave::Value;
 
 /// The values of a moment, if there is such a moment.

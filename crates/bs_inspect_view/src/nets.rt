@@ -1,11 +1,11 @@
 //! The signals of a netlist's nets.
 ghost use Rattle.std.specs.Prelude.{◌≡◌, ◌<◌, ◌^◌, length, map, IfOk};
-ghost use Rattle.bs_net_names.specs.Signals.{AreSignals, signal_in};
+ghost use Rattle.bs_inspect_view.specs.Signals.{AreSignals, signal_in};
 ghost use Rattle.bs_net.specs.Netlist.{parts_of};
 
+use crate::signal::{Signal, signals};
 use bs_bits::NoMemory;
 use bs_net::{NetId, Netlist, Raw};
-use bs_net_names::{Signal, signals};
 use std::alloc::Global;
 
 /// The keys of the nets of a netlist's parts.

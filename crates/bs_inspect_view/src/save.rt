@@ -1,7 +1,8 @@
 //! A save file of gtkwave for a waveform.
 ghost use Rattle.std.specs.Prelude.{◌≡◌, ◌+◌, ◌-◌, ◌++◌, length, map, OnOk, IfOk};
 ghost use Rattle.std.specs.List.{flat_map};
-ghost use Rattle.bs_net_names.specs.Signals.{range_text, signal_in};
+ghost use Rattle.bs_net_names.specs.Ranges.{range_text};
+ghost use Rattle.bs_inspect_view.specs.Signals.{signal_in};
 ghost use Rattle.bs_inspect_view.specs.Drawn.{asked_in};
 ghost use Rattle.bs_inspect_view.specs.Save.{IsSaveFile, format_line, full_name, path_words, save_head, save_lines, scope_word, shown_lines};
 ghost use Rattle.bs_inspect_view.specs.Scopes.{parts_of};
@@ -9,9 +10,10 @@ ghost use Rattle.bs_inspect_view.specs.Scopes.{parts_of};
 use crate::drawn::drawn_signals;
 use crate::request::ViewRequest;
 use crate::scopes::{leaf_of, path_of, word_of};
+use crate::signal::Signal;
 use bs_bits::{NoMemory, end_line, push_line, push_number_line, push_piece};
 use bs_net::Netlist;
-use bs_net_names::{Signal, first_split, push_range};
+use bs_net_names::{first_split, push_range};
 use std::alloc::Global;
 
 /// Appends the name of a scope, and the dot behind it.

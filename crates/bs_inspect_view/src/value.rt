@@ -1,38 +1,16 @@
 //! The values of signals.
 ghost use Rattle.std.specs.Prelude.{◌≡◌, ◌++◌, map, not, OnOk, IfOk, option_map, slice_get};
 ghost use Rattle.std.specs.List.{list_any};
-ghost use Rattle.bs_net_names.specs.Signals.{signal_in};
+ghost use Rattle.bs_inspect_view.specs.Signals.{signal_in};
 ghost use Rattle.bs_inspect_view.specs.View.{change_text, changes, has_changed, signal_values, value_line, values_text};
 ghost use Rattle.bs_wave.specs.Wave.{value_at};
 ghost use Rattle.bs_wave.specs.WaveText.{id_of, same_value, value_code};
 
 use crate::head::push_id;
+use crate::signal::Signal;
 use bs_bits::{NoMemory, end_line, push_piece};
-use bs_net_names::Signal;
-use bs_wave::Value;
+use bs_wave::{Value, is_same, value_code};
 use std::alloc::Global;
-
-/// The character of a value.
-fn value_code(value: Value) -> u8
-    ensures { result ≡ value_code value }
-{
-    match value {
-        Value::Zero => b'0',
-        Value::One => b'1',
-        Value::Unknown => b'x',
-    }
-}
-
-/// Whether two values are the same.
-fn is_same(a: Value, b: Value) -> bool
-    ensures { result ≡ same_value a b }
-{
-    match a {
-        Value::Zero => matches!(b, Value::Zero),
-        Value::One => matches!(b, Value::One),
-        Value::Unknown => matches!(b, Value::Unknown),
-    }
-}
 
 /// The value of a net at a moment, which is unknown where the moment has none.
 fn value_at(values: &[Value], place: usize) -> Value

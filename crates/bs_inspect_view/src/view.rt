@@ -1,6 +1,6 @@
 //! The waveform of a trace.
 ghost use Rattle.std.specs.Prelude.{◌≡◌, ◌++◌, map, OnOk, IfOk};
-ghost use Rattle.bs_net_names.specs.Signals.{signal_in};
+ghost use Rattle.bs_inspect_view.specs.Signals.{signal_in};
 ghost use Rattle.bs_net.specs.Netlist.{circuit};
 ghost use Rattle.bs_inspect_view.specs.Drawn.{asked_in};
 ghost use Rattle.bs_inspect_view.specs.View.{IsDrawing, Views, view_lines};
@@ -10,9 +10,9 @@ use crate::drawn::drawn_signals;
 use crate::head::push_head;
 use crate::moment::push_moments;
 use crate::request::ViewRequest;
+use crate::signal::Signal;
 use bs_bits::{Bits, List, NoMemory};
 use bs_net::Netlist;
-use bs_net_names::Signal;
 use bs_wave::{Value, Wave};
 use std::alloc::Global;
 

@@ -18,8 +18,8 @@ use Rattle.bs_net_facts.specs.declared.fact.Fact.{Fact}
 use Rattle.bs_net_facts.specs.Facts.{IsReal}
 use Rattle.bs_net_facts.specs.Seen.{Seen}
 use Rattle.bs_net_names.specs.Keys.{key_parts}
-use Rattle.bs_net_names.specs.Signals.{Member, is_wanted, member_in, member_of, members_from, members_of, wanted}
-use Rattle.bs_net_names.specs.declared.signal.Member.{Member as CodeMember}
+use Rattle.bs_inspect_view.specs.Signals.{Member, is_wanted, member_in, member_of, members_from, members_of, wanted}
+use Rattle.bs_inspect_view.specs.declared.signal.Member.{Member as CodeMember}
 use Rattle.bs_inspect_causes.specs.Accounts.{has_net}
 use Rattle.bs_inspect_why.specs.Question.{AreAsked, IsAsked, asked_net, asked_nets, is_driven, net_id}
 

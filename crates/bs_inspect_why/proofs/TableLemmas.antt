@@ -6,7 +6,7 @@ use Rattle.std.proofs.lemmas.List.{append-nil, map-append, take_more}
 use Rattle.bs_net_names.specs.Keys.{KeyParts, key_parts, parts_in}
 use Rattle.bs_net_names.specs.Naming.{plain}
 use Rattle.bs_net_names.specs.Rtl.{rtl_name}
-use Rattle.bs_net_names.specs.Signals.{range_text}
+use Rattle.bs_net_names.specs.Ranges.{range_text}
 use Rattle.bs_net_names.specs.declared.key.KeyParts.{KeyParts as CodeKeyParts}
 use Rattle.bs_net_facts.specs.declared.fact.Fact.{Fact}
 use Rattle.bs_net_facts.specs.Blocks.{moved}

@@ -23,8 +23,8 @@ use Rattle.bs_inspect_why_words.specs.Throughout.{TellsStills}
 use Rattle.bs_inspect_why_words.specs.declared.limits.Limits.{Limits}
 use Rattle.bs_inspect_why_words.proofs.BlockLemmas.{parts_begin, parts_more}
 use Rattle.bs_inspect_causes.proofs.ChainLemmas.{chain_within}
-use Rattle.bs_inspect_causes.specs.declared.chain.Chain.{Chain}
-use Rattle.bs_inspect_causes.specs.declared.chain.Place.{Place}
+use Rattle.bs_inspect_causes.specs.declared.chain.AccountChain.{AccountChain}
+use Rattle.bs_inspect_causes.specs.declared.chain.ChainPlace.{ChainPlace}
 use Rattle.bs_inspect_causes.specs.Chains.{ArePlaces, IsWithin, account_at, alone, chain_at, chains_of, no_account, place_of, places_of}
 use Rattle.bs_inspect_why.specs.Stills.{AreStillsFor, is_covered, shown, used}
 use Rattle.bs_inspect_why.specs.Why.{TellsAccounts, TellsBlocks, TellsBlocksWith, TellsChain, TellsChains, TellsPlaces, episode_of, episode_with, ordered_at}
@@ -132,21 +132,21 @@ pub account_there : (c : Circuit) (states inputs : List (List Bool)) (accounts :
     All (IsAccount c states inputs) accounts → i < length accounts → a ≡ get_or accounts i a → IsAccount c states inputs a
 account_there c states inputs accounts i a all lt e = subst (IsAccount c states inputs) (sym e) (all i a lt)
 
-pub first_here : (count : ℕ) (chains : List Chain) (i : ℕ) (c : Chain) → All (IsWithin count) chains → i < length chains → c ≡ get_or chains i c →
+pub first_here : (count : ℕ) (chains : List AccountChain) (i : ℕ) (c : AccountChain) → All (IsWithin count) chains → i < length chains → c ≡ get_or chains i c →
     c.first < count
 first_here count chains i c within lt e = (chain_within count chains i c within lt e).first
 
-pub last_here : (count : ℕ) (chains : List Chain) (i : ℕ) (c : Chain) → All (IsWithin count) chains → i < length chains → c ≡ get_or chains i c →
+pub last_here : (count : ℕ) (chains : List AccountChain) (i : ℕ) (c : AccountChain) → All (IsWithin count) chains → i < length chains → c ≡ get_or chains i c →
     c.last < count
 last_here count chains i c within lt e = (chain_within count chains i c within lt e).last
 
-pub chain_told : (m : Seen) (r : Report) (few : Limits) (stills : List Fact) (accounts : List Account) (chains : List Chain) (i : ℕ) (c : Chain)
+pub chain_told : (m : Seen) (r : Report) (few : Limits) (stills : List Fact) (accounts : List Account) (chains : List AccountChain) (i : ℕ) (c : AccountChain)
     (first last : Account) (old new : List ℕ) → All (IsWithin (length accounts)) chains → i < length chains → c ≡ get_or chains i c →
     first ≡ get_or accounts c.first first → last ≡ get_or accounts c.last last →
     Appends (TellsBlock m r few c.steps (episode_of stills first) (episode_of stills last)) old new →
     Appends (TellsChain m r few stills accounts (chain_at chains i)) old new
 chain_told m r few stills accounts chains i c first last old new within lt at at_first at_last told =
-    subst (λ (x : Chain). Appends (TellsChain m r few stills accounts x) old new) (at ∙ get_or_default chains i c (alone 0) lt)
+    subst (λ (x : AccountChain). Appends (TellsChain m r few stills accounts x) old new) (at ∙ get_or_default chains i c (alone 0) lt)
     (subst (λ (z : Account). Appends (TellsBlock m r few c.steps (episode_of stills (account_at accounts c.first)) (episode_of stills z)) old new)
     (at_last ∙ get_or_default accounts c.last last no_account (last_here (length accounts) chains i c within lt at))
     (subst (λ (a : Account). Appends (TellsBlock m r few c.steps (episode_of stills a) (episode_of stills last)) old new)
@@ -154,53 +154,53 @@ chain_told m r few stills accounts chains i c first last old new within lt at at
 
 -- ---- their order
 
-abbrev Stands : ℕ → Place → Type 0
+abbrev Stands : ℕ → ChainPlace → Type 0
 Stands count p = p.place < count
 
-made_there : (accounts : List Account) (chains : List Chain) (count : ℕ) → All (Stands count) (places_of accounts chains count)
+made_there : (accounts : List Account) (chains : List AccountChain) (count : ℕ) → All (Stands count) (places_of accounts chains count)
 made_there accounts chains count = λ k d lt.
     let there : k < count = omega (arith, lt, length-map-range_with_len (place_of accounts chains) 0 count) in
     subst (Stands count) (sym (get_or-map-range_with_len (place_of accounts chains) 0 count k k d there (let z : 0 + k ≡ k = omega arith in z))) there
 
-pub place_read : (ordered : List Place) (i : ℕ) (p : Place) → i < length ordered → p ≡ get_or ordered i p → p.place ≡ ordered_at ordered i
-place_read ordered i p lt e = ap (λ (x : Place). x.place) (e ∙ get_or_default ordered i p (record { at = 0; layer = 0; place = 0 }) lt)
+pub place_read : (ordered : List ChainPlace) (i : ℕ) (p : ChainPlace) → i < length ordered → p ≡ get_or ordered i p → p.place ≡ ordered_at ordered i
+place_read ordered i p lt e = ap (λ (x : ChainPlace). x.place) (e ∙ get_or_default ordered i p (record { at = 0; layer = 0; place = 0 }) lt)
 
-pub place_there : (accounts : List Account) (chains : List Chain) (ordered : List Place) (i place : ℕ) → ArePlaces accounts chains ordered →
+pub place_there : (accounts : List Account) (chains : List AccountChain) (ordered : List ChainPlace) (i place : ℕ) → ArePlaces accounts chains ordered →
     i < length ordered → place ≡ ordered_at ordered i → place < length chains
 place_there accounts chains ordered i place are lt e =
     subst (λ (n : ℕ). n < length chains) (sym e)
     (All-permutation (Stands (length chains)) (places_of accounts chains (length chains)) ordered are.same
     (made_there accounts chains (length chains)) i (record { at = 0; layer = 0; place = 0 }) lt)
 
-pub places_begin : (m : Seen) (r : Report) (few : Limits) (stills : List Fact) (accounts : List Account) (chains : List Chain) (ordered : List Place) (text : List ℕ) →
+pub places_begin : (m : Seen) (r : Report) (few : Limits) (stills : List Fact) (accounts : List Account) (chains : List AccountChain) (ordered : List ChainPlace) (text : List ℕ) →
     Appends (TellsPlaces m r few stills accounts chains ordered 0) text text
 places_begin m r few stills accounts chains ordered text = parts_begin (λ i. TellsChain m r few stills accounts (chain_at chains (ordered_at ordered i))) text
 
-pub places_more : (m : Seen) (r : Report) (few : Limits) (stills : List Fact) (accounts : List Account) (chains : List Chain) (ordered : List Place) (i place : ℕ)
+pub places_more : (m : Seen) (r : Report) (few : Limits) (stills : List Fact) (accounts : List Account) (chains : List AccountChain) (ordered : List ChainPlace) (i place : ℕ)
     (old mid new : List ℕ) → place ≡ ordered_at ordered i → Appends (TellsPlaces m r few stills accounts chains ordered i) old mid →
     Appends (TellsChain m r few stills accounts (chain_at chains place)) mid new → Appends (TellsPlaces m r few stills accounts chains ordered (i + 1)) old new
 places_more m r few stills accounts chains ordered i place old mid new e so_far told =
     parts_more (λ k. TellsChain m r few stills accounts (chain_at chains (ordered_at ordered k))) i old mid new so_far
     (subst (λ (n : ℕ). Appends (TellsChain m r few stills accounts (chain_at chains n)) mid new) e told)
 
-pub places_all : (m : Seen) (r : Report) (few : Limits) (stills : List Fact) (accounts : List Account) (chains : List Chain) (ordered : List Place) (i : ℕ)
+pub places_all : (m : Seen) (r : Report) (few : Limits) (stills : List Fact) (accounts : List Account) (chains : List AccountChain) (ordered : List ChainPlace) (i : ℕ)
     (old new : List ℕ) → i ≡ length ordered → Appends (TellsPlaces m r few stills accounts chains ordered i) old new →
     Appends (TellsPlaces m r few stills accounts chains ordered (length ordered)) old new
 places_all m r few stills accounts chains ordered i old new e told =
     subst (λ (k : ℕ). Appends (TellsPlaces m r few stills accounts chains ordered k) old new) e told
 
-pub chains_told : (m : Seen) (r : Report) (few : Limits) (stills : List Fact) (accounts : List Account) (chains : List Chain) (ordered : List Place) (old new : List ℕ) →
+pub chains_told : (m : Seen) (r : Report) (few : Limits) (stills : List Fact) (accounts : List Account) (chains : List AccountChain) (ordered : List ChainPlace) (old new : List ℕ) →
     ArePlaces accounts chains ordered → Appends (TellsPlaces m r few stills accounts chains ordered (length ordered)) old new →
     Appends (TellsChains m r few stills accounts chains) old new
 chains_told m r few stills accounts chains ordered old new are told =
     record { words = told.words; says = record { ordered = ordered; are = are; tells = told.says }; appended = told.appended }
 
-pub whole_text : (m : Seen) (r : Report) (few : Limits) (stills : List Fact) (accounts : List Account) (chains : List Chain) (old text : List ℕ) → old ≡ [] →
+pub whole_text : (m : Seen) (r : Report) (few : Limits) (stills : List Fact) (accounts : List Account) (chains : List AccountChain) (old text : List ℕ) → old ≡ [] →
     chains ≡ chains_of accounts (length accounts) → Appends (TellsChains m r few stills accounts chains) old text →
     TellsChains m r few stills accounts (chains_of accounts (length accounts)) text
 whole_text m r few stills accounts chains old text none e told =
     let same : told.words ≡ text = sym (told.appended ∙ ap (λ (t : List ℕ). t ++ told.words) none) in
-    subst (λ (cs : List Chain). TellsChains m r few stills accounts cs text) e (subst (TellsChains m r few stills accounts chains) same told.says)
+    subst (λ (cs : List AccountChain). TellsChains m r few stills accounts cs text) e (subst (TellsChains m r few stills accounts chains) same told.says)
 
 -- ---- blocks, or a table
 

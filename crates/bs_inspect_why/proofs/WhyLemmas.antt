@@ -16,8 +16,8 @@ use Rattle.bs_inspect_causes.specs.Accounts.{Explain, LeadsOn, has_net}
 use Rattle.bs_inspect_causes.specs.declared.account.Account.{Account}
 use Rattle.bs_inspect_why.specs.declared.denial.Denial.{Denial}
 use Rattle.bs_inspect_why.specs.declared.denial.Denial.TheVariants.{Input, Open}
-use Rattle.bs_inspect_why.specs.declared.denial.Why.{Why}
-use Rattle.bs_inspect_why.specs.declared.denial.Why.TheVariants.{Text, Denied}
+use Rattle.bs_inspect_why.specs.declared.denial.WhyAnswer.{WhyAnswer}
+use Rattle.bs_inspect_why.specs.declared.denial.WhyAnswer.TheVariants.{Text, Denied}
 use Rattle.bs_inspect_why.specs.Question.{AreAsked, Question, asked_nets, moment_in}
 use Rattle.bs_inspect_why.specs.Why.{Answers, AnswersAt, AnswersOn, TellsAccounts, TellsFacts, TellsNets}
 
@@ -84,13 +84,13 @@ pub driven_seen : (m : Seen) (net : Checked) (nets : List NetId) → m.net ≡ n
     All (λ n. has_net (circuit m.net).inputs n ≡ false) nets
 driven_seen m net nets n h = subst (λ (k : Checked). All (λ (i : NetId). has_net (circuit k).inputs i ≡ false) nets) (sym n) h
 
-pub answer_seen : (m : Seen) (net : Checked) (r : Report) (q : Question) (nets : List NetId) (at : ℕ) (why : Why) → m.net ≡ net →
+pub answer_seen : (m : Seen) (net : Checked) (r : Report) (q : Question) (nets : List NetId) (at : ℕ) (why : WhyAnswer) → m.net ≡ net →
     m.states ≡ r.states → m.inputs ≡ r.inputs → AnswersAt m r q nets at why → AnswersOn net r q nets at why
 answer_seen m net r q nets at why n s x h = subst (λ (k : Seen). AnswersAt k r q nets at why) (same_seen m net r n s x) h
 
 -- ---- the answer
 
-answers_by : (net : Checked) (r : Report) (q : Question) (nets : List NetId) (at : ℕ) (why : Why) → at ≡ moment_in (length r.states) q.at →
+answers_by : (net : Checked) (r : Report) (q : Question) (nets : List NetId) (at : ℕ) (why : WhyAnswer) → at ≡ moment_in (length r.states) q.at →
     at < length r.states → nets ≡ asked_nets net.raw q.name → AnswersOn net r q nets at why → Answers net.raw r q why
 answers_by net r q nets at (Text text) moment there are tells = record {
   seen = seen_of net r;
@@ -106,7 +106,7 @@ answers_by net r q nets at (Denied denial) moment there are denied =
     let over : length r.inputs ≤ moment_in (length r.states) q.at = omega (arith, denied.1, moment) in
     subst (λ (d : Denial). Answers net.raw r q (Denied d)) (sym denied.0) over
 
-pub text_answers : (net : Checked) (r : Report) (q : Question) (nets : List NetId) (at : ℕ) (result : Result Why NoMemory) →
+pub text_answers : (net : Checked) (r : Report) (q : Question) (nets : List NetId) (at : ℕ) (result : Result WhyAnswer NoMemory) →
     at ≡ moment_in (length r.states) q.at → at < length r.states → nets ≡ asked_nets net.raw q.name →
     IfOk result (AnswersOn net r q nets at) → IfOk result (Answers net.raw r q)
 text_answers net r q nets at result moment there are h =

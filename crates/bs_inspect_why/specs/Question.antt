@@ -8,7 +8,7 @@ use Rattle.bs_net.specs.declared.net.NetId.{NetId}
 use Rattle.bs_net_facts.specs.declared.fact.Fact.{Fact}
 use Rattle.bs_net_facts.specs.Facts.{IsReal}
 use Rattle.bs_net_facts.specs.Seen.{Seen}
-use Rattle.bs_net_names.specs.Signals.{Member, members_of}
+use Rattle.bs_inspect_view.specs.Signals.{Member, members_of}
 use Rattle.bs_inspect_causes.specs.Accounts.{has_net}
 use Rattle.bs_inspect_why.specs.declared.question.Question.{Question as CodeQuestion}
 

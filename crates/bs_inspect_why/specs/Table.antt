@@ -4,7 +4,7 @@ use Rattle.std.specs.List.{flat_map}
 use Rattle.bs_bits.specs.Lines.{line}
 use Rattle.bs_net.specs.Parts.{Parts, key_at}
 use Rattle.bs_net_names.specs.Rtl.{rtl_name}
-use Rattle.bs_net_names.specs.Values.{value_text}
+use Rattle.bs_inspect_view.specs.Values.{value_text}
 use Rattle.bs_net_facts.specs.declared.fact.Fact.{Fact}
 use Rattle.bs_inspect_report.specs.Table.{field}
 use Rattle.bs_inspect_causes.specs.Accounts.{last_bits}

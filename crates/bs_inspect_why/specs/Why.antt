@@ -13,10 +13,10 @@ use Rattle.bs_inspect_why_words.specs.Heads.{Episode}
 use Rattle.bs_inspect_why_words.specs.Limits.{limits_of}
 use Rattle.bs_inspect_why_words.specs.Throughout.{TellsStills}
 use Rattle.bs_inspect_why_words.specs.declared.limits.Limits.{Limits}
-use Rattle.bs_inspect_causes.specs.declared.chain.Chain.{Chain}
-use Rattle.bs_inspect_causes.specs.declared.chain.Place.{Place}
-use Rattle.bs_inspect_why.specs.declared.denial.Why.{Why}
-use Rattle.bs_inspect_why.specs.declared.denial.Why.TheVariants.{Text, Denied}
+use Rattle.bs_inspect_causes.specs.declared.chain.AccountChain.{AccountChain}
+use Rattle.bs_inspect_causes.specs.declared.chain.ChainPlace.{ChainPlace}
+use Rattle.bs_inspect_why.specs.declared.denial.WhyAnswer.{WhyAnswer}
+use Rattle.bs_inspect_why.specs.declared.denial.WhyAnswer.TheVariants.{Text, Denied}
 use Rattle.bs_inspect_why.specs.declared.denial.Denial.TheVariants.{Open}
 use Rattle.bs_inspect_why.specs.Denials.{IsDenied}
 use Rattle.bs_inspect_causes.specs.Chains.{ArePlaces, account_at, chain_at, chains_of}
@@ -44,22 +44,22 @@ abbrev pub episode_of : List Fact → Account → Episode
 episode_of stills a = episode_with (shown stills a.causes) (shown stills a.holds) a
 
 -- a chain, as one block
-abbrev pub TellsChain : Seen → Report → Limits → List Fact → List Account → Chain → List ℕ → Type 0
+abbrev pub TellsChain : Seen → Report → Limits → List Fact → List Account → AccountChain → List ℕ → Type 0
 TellsChain m r few stills accounts c =
     TellsBlock m r few c.steps (episode_of stills (account_at accounts c.first)) (episode_of stills (account_at accounts c.last))
 
 -- the place of a chain in their order
-abbrev pub ordered_at : List Place → ℕ → ℕ
+abbrev pub ordered_at : List ChainPlace → ℕ → ℕ
 ordered_at ordered i = (slice_index_or ordered i (record { at = 0; layer = 0; place = 0 })).place
 
 -- so many chains, in their order
-abbrev pub TellsPlaces : Seen → Report → Limits → List Fact → List Account → List Chain → List Place → ℕ → List ℕ → Type 0
+abbrev pub TellsPlaces : Seen → Report → Limits → List Fact → List Account → List AccountChain → List ChainPlace → ℕ → List ℕ → Type 0
 TellsPlaces m r few stills accounts chains ordered count =
     TellsParts count (λ i. TellsChain m r few stills accounts (chain_at chains (ordered_at ordered i)))
 
 -- all chains, the last moment first
-pub record TellsChains (m : Seen) (r : Report) (few : Limits) (stills : List Fact) (accounts : List Account) (chains : List Chain) (text : List ℕ) : Type 0 where
-  pub ordered : List Place
+pub record TellsChains (m : Seen) (r : Report) (few : Limits) (stills : List Fact) (accounts : List Account) (chains : List AccountChain) (text : List ℕ) : Type 0 where
+  pub ordered : List ChainPlace
   pub are : ArePlaces accounts chains ordered
   pub tells : TellsPlaces m r few stills accounts chains ordered (length ordered) text
 
@@ -110,15 +110,15 @@ pub record TellsWhy (raw : Parts) (r : Report) (q : Question) (text : List ℕ) 
 -- ---- the answer
 
 -- the text, or why there is none
-abbrev pub Answers : Parts → Report → Question → Why → Type 0
+abbrev pub Answers : Parts → Report → Question → WhyAnswer → Type 0
 Answers raw r q (Text text) = TellsWhy raw r q text.items
 Answers raw r q (Denied denial) = IsDenied raw r.states r.inputs q denial
 
 -- the same of some nets at a moment
-abbrev pub AnswersAt : Seen → Report → Question → List NetId → ℕ → Why → Type 0
+abbrev pub AnswersAt : Seen → Report → Question → List NetId → ℕ → WhyAnswer → Type 0
 AnswersAt m r q nets at (Text text) = TellsNets m r q nets at text.items
 AnswersAt m r q nets at (Denied denial) = (denial ≡ Open) × (length m.inputs ≤ at)
 
 -- the same of a netlist, where the trace leads on
-abbrev pub AnswersOn : Checked → Report → Question → List NetId → ℕ → Why → Type 0
+abbrev pub AnswersOn : Checked → Report → Question → List NetId → ℕ → WhyAnswer → Type 0
 AnswersOn net r q nets at why = AnswersAt (record { net = net; states = r.states; inputs = r.inputs }) r q nets at why

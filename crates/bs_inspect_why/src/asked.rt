@@ -2,15 +2,14 @@
 ghost use Rattle.std.specs.Prelude.{◌≡◌, ◌<◌, ◌≤◌, ◌==◌, ◌&&◌, ◌∷◌, [], ◌++◌, false, not, length, map, All, IfOk, MatchOption, OnOk};
 ghost use Rattle.std.specs.List.{flat_map, list_any};
 ghost use Rattle.bs_net.specs.Netlist.{circuit};
-ghost use Rattle.bs_net_names.specs.Signals.{member_in, members_of};
+ghost use Rattle.bs_inspect_view.specs.Signals.{member_in, members_of};
 ghost use Rattle.bs_inspect_causes.specs.Accounts.{has_net};
 ghost use Rattle.bs_inspect_why.specs.Question.{AreAsked, asked_net, asked_nets, IsAsked, is_driven};
 
 use bs_bits::{List, NoMemory};
-use bs_inspect_view::net_keys;
+use bs_inspect_view::{Member, members, net_keys};
 use bs_net::{Const, Flop, Gate, NetId, Netlist};
 use bs_net_facts::{Fact, Moments};
-use bs_net_names::{Member, members};
 use std::alloc::Global;
 
 /// The nets with a name.
@@ -66,7 +65,13 @@ fn constant_drives(constants: &[Const], net: NetId) -> bool
 fn gate_drives(gates: &[Gate], net: NetId) -> bool
     ensures { result ≡ list_any (λ g. g.out.0 == net.0) gates.now }
 {
-    gates.iter().any(|gate| gate.out.0 == net.0)
+    'gates: for gate in gates {
+        let same = gate.out.0 == net.0;
+        if same {
+            return true;
+        }
+    }
+    false
 }
 
 /// Whether a net is driven and no data input.

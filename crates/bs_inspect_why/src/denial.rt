@@ -18,7 +18,7 @@ pub enum Denial {
 
 /// An answer: a text, or why there is none.
 #[derive(Drop)]
-pub enum Why {
+pub enum WhyAnswer {
     Text(Vec<u8>),
     Denied(Denial),
 }

@@ -16,6 +16,6 @@ mod table;
 mod telling;
 mod why;
 
-pub use denial::{Denial, Why, denial_text};
+pub use denial::{Denial, WhyAnswer, denial_text};
 pub use question::Question;
 pub use why::why_text;

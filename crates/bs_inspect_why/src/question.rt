@@ -18,7 +18,7 @@ pub struct Question<'a> {
 
 /// What is asked of a report: a question, its moment, and the nets with its name that are driven and no data inputs.
 #[derive(Clone, Copy)]
-pub(crate) struct Asked<'a> {
+pub(crate) struct AskedNets<'a> {
     pub(crate) alloc: Global,
     pub(crate) report: &'a Report,
     pub(crate) question: &'a Question<'a>,

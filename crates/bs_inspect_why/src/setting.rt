@@ -2,9 +2,9 @@
 
 use bs_bits::NoMemory;
 use bs_inspect_holds::put;
-use bs_inspect_view::{is_nameless, net_keys, net_signals};
+use bs_inspect_view::{Signal, is_nameless, net_keys, net_signals};
 use bs_net::{Gate, Kind, Netlist};
-use bs_net_names::{Signal, key_parts};
+use bs_net_names::key_parts;
 use std::alloc::Global;
 
 /// Whether a cone ends at each of these nets: at those with a name that somebody gave them, unless it ends at flip-flops alone.

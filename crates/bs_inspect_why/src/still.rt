@@ -13,9 +13,11 @@ use bs_net_facts::{Fact, Moments};
 use std::alloc::Global;
 
 /// In how many cycles a data input stands still, at least.
+/// In fewer an input may stand still by chance.
 pub const STILL_CYCLES: u64 = 16;
 
 /// A data input stands still in all cycles but one of so many, at least.
+/// A reset moves in the first cycles, and stands still after them.
 pub const STILL_SHARE: u64 = 20;
 
 /// Whether a bit that stands since a cycle up to the end of so many cycles stands still.
@@ -174,7 +176,12 @@ fn is_given_in(still: Fact, account: &Account) -> bool
 fn is_used(accounts: &[Account], still: Fact) -> bool
     ensures { result ≡ list_any (is_given_in still) accounts.now }
 {
-    accounts.iter().any(|account| is_given_in(still, account))
+    'accounts: for account in accounts {
+        if is_given_in(still, account) {
+            return true;
+        }
+    }
+    false
 }
 
 /// Those of facts that stand still which stand for a given fact of some account.

@@ -5,7 +5,7 @@ ghost use Rattle.bs_net.specs.Netlist.{parts_of};
 ghost use Rattle.bs_net.specs.Parts.{key_at};
 ghost use Rattle.bs_net_facts.specs.Blocks.{moved};
 ghost use Rattle.bs_net_names.specs.Rtl.{rtl_name};
-ghost use Rattle.bs_net_names.specs.Signals.{range_text};
+ghost use Rattle.bs_net_names.specs.Ranges.{range_text};
 ghost use Rattle.bs_inspect_report.specs.Table.{field};
 ghost use Rattle.bs_inspect_causes.specs.Accounts.{last_bits};
 ghost use Rattle.bs_inspect_why.specs.Table.{account_cells, account_rows, accounts_table, fact_cells, fact_row, fact_rows};
@@ -13,10 +13,11 @@ ghost use Rattle.bs_inspect_why.specs.Table.{account_cells, account_rows, accoun
 use bs_bits::{NoMemory, end_line, push_line, push_number, push_piece};
 use bs_inspect_causes::Account;
 use bs_inspect_report::push_field;
+use bs_inspect_view::push_value;
 use bs_inspect_why_words::key_of;
 use bs_net::{NetId, Raw};
 use bs_net_facts::Fact;
-use bs_net_names::{key_parts, plain, push_range, push_value};
+use bs_net_names::{key_parts, plain, push_range};
 use std::alloc::Global;
 
 /// Appends the layer of an account, and when its bits stand.

@@ -9,11 +9,11 @@ ghost use Rattle.bs_inspect_causes.specs.Chains.{ArePlaces, chain_at, chains_of 
 ghost use Rattle.bs_inspect_why.specs.Stills.{shown};
 ghost use Rattle.bs_inspect_why.specs.Why.{episode_of, episode_with, ordered_at, TellsAccounts, TellsBlocks, TellsBlocksWith, TellsChain, TellsChains, TellsPlaces};
 
-use crate::question::Asked;
+use crate::question::AskedNets;
 use crate::still::{shown, stills_for, used};
 use crate::table::accounts_table;
 use bs_bits::NoMemory;
-use bs_inspect_causes::{Account, Chain, Place, chains_of, ordered_chains};
+use bs_inspect_causes::{Account, AccountChain, ChainPlace, chains_of, ordered_chains};
 use bs_inspect_why_words::{Episode, Limits, limits_of, push_block, push_stills};
 use bs_net_facts::{Fact, Moments};
 use bs_report::Report;
@@ -105,7 +105,7 @@ fn push_accounts(
 fn push_place(
     text: &mut Vec<u8>,
     telling: &Telling<'_>,
-    chains: &[Chain],
+    chains: &[AccountChain],
     place: usize,
 ) -> Result<(), NoMemory>
     requires way { IsWayOf (circuit telling.now.moments.now.net) telling.now.moments.now.states telling.now.moments.now.inputs }
@@ -123,7 +123,7 @@ fn push_place(
 
 /// The place of the chain that stands at a place of their order.
 #[tactic(auto, using(crate::proofs::TellingLemmas::place_read))]
-fn place_at(ordered: &[Place], i: usize) -> usize
+fn place_at(ordered: &[ChainPlace], i: usize) -> usize
     requires { i < length ordered.now }
     ensures { result ≡ ordered_at ordered.now i }
 {
@@ -132,12 +132,11 @@ fn place_at(ordered: &[Place], i: usize) -> usize
 }
 
 /// Appends the text of chains in their order.
-#[tactic(auto, using(crate::proofs::TellingLemmas::places_begin, crate::proofs::TellingLemmas::places_all))]
 fn push_places(
     text: &mut Vec<u8>,
     telling: &Telling<'_>,
-    chains: &[Chain],
-    ordered: &[Place],
+    chains: &[AccountChain],
+    ordered: &[ChainPlace],
 ) -> Result<(), NoMemory>
     requires way { IsWayOf (circuit telling.now.moments.now.net) telling.now.moments.now.states telling.now.moments.now.inputs }
     requires accounts { All (IsAccount (circuit telling.now.moments.now.net) telling.now.moments.now.states telling.now.moments.now.inputs) telling.now.accounts.now }
@@ -153,8 +152,11 @@ fn push_places(
 }
 
 /// Appends the text of chains.
-#[tactic(auto, using(crate::proofs::TellingLemmas::chains_told))]
-fn push_chains(text: &mut Vec<u8>, telling: &Telling<'_>, chains: &[Chain]) -> Result<(), NoMemory>
+fn push_chains(
+    text: &mut Vec<u8>,
+    telling: &Telling<'_>,
+    chains: &[AccountChain],
+) -> Result<(), NoMemory>
     requires way { IsWayOf (circuit telling.now.moments.now.net) telling.now.moments.now.states telling.now.moments.now.inputs }
     requires accounts { All (IsAccount (circuit telling.now.moments.now.net) telling.now.moments.now.states telling.now.moments.now.inputs) telling.now.accounts.now }
     requires within { All (IsWithin (length telling.now.accounts.now)) chains.now }
@@ -179,7 +181,6 @@ fn chains_text(alloc: Global, telling: &Telling<'_>) -> Result<Vec<u8>, NoMemory
 }
 
 /// The text of accounts as blocks, and behind them what stands still.
-#[tactic(auto, using(crate::proofs::TellingLemmas::blocks_with))]
 fn text_with(alloc: Global, telling: &Telling<'_>) -> Result<Vec<u8>, NoMemory>
     requires way { IsWayOf (circuit telling.now.moments.now.net) telling.now.moments.now.states telling.now.moments.now.inputs }
     requires accounts { All (IsAccount (circuit telling.now.moments.now.net) telling.now.moments.now.states telling.now.moments.now.inputs) telling.now.accounts.now }
@@ -197,10 +198,9 @@ fn text_with(alloc: Global, telling: &Telling<'_>) -> Result<Vec<u8>, NoMemory>
 }
 
 /// The text of accounts as blocks.
-#[tactic(auto, using(crate::proofs::TellingLemmas::blocks_are))]
 fn blocks_text(
     moments: &Moments<'_>,
-    asked: &Asked<'_>,
+    asked: &AskedNets<'_>,
     accounts: &[Account],
 ) -> Result<Vec<u8>, NoMemory>
     requires way { IsWayOf (circuit moments.now.net) moments.now.states moments.now.inputs }
@@ -224,7 +224,7 @@ fn blocks_text(
 #[tactic(auto, using(crate::proofs::TellingLemmas::table_told, crate::proofs::TellingLemmas::blocks_told))]
 pub(crate) fn accounts_text(
     moments: &Moments<'_>,
-    asked: &Asked<'_>,
+    asked: &AskedNets<'_>,
     accounts: &[Account],
 ) -> Result<Vec<u8>, NoMemory>
     requires way { IsWayOf (circuit moments.now.net) moments.now.states moments.now.inputs }

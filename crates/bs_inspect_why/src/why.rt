@@ -7,13 +7,13 @@ ghost use Rattle.bs_inspect_why.specs.Question.{AreAsked, asked_nets as nets_ask
 ghost use Rattle.bs_inspect_why.specs.Why.{Answers, AnswersAt, AnswersOn, TellsFacts};
 
 use crate::asked::{asked_facts, asked_nets};
-use crate::denial::{Denial, Why};
-use crate::question::{Asked, Question};
+use crate::denial::{Denial, WhyAnswer};
+use crate::question::{AskedNets, Question};
 use crate::setting::{groups, stops};
 use crate::telling::accounts_text;
 use bs_bits::{List, NoMemory};
 use bs_inspect_causes::{Account, accounts_of};
-use bs_inspect_holds::Scene;
+use bs_inspect_holds::TraceScene;
 use bs_net::Netlist;
 use bs_net_facts::{Fact, Moments};
 use bs_report::Report;
@@ -22,7 +22,7 @@ use std::alloc::Global;
 /// Accounts of facts, where cones end at these nets.
 fn accounts_by(
     moments: &Moments<'_>,
-    asked: &Asked<'_>,
+    asked: &AskedNets<'_>,
     stops: &[bool],
     groups: &[u32],
     facts: &[Fact],
@@ -35,7 +35,7 @@ fn accounts_by(
     ensures { IfOk result (λ accounts. Explain (circuit moments.now.net) moments.now.states moments.now.inputs facts.now asked.now.question.now.depth accounts) }
 {
     let question = asked.question;
-    let scene = Scene::new(asked.alloc, moments, stops, groups)?;
+    let scene = TraceScene::new(asked.alloc, moments, stops, groups)?;
     let made = accounts_of(asked.alloc, &scene, facts, question.depth, question.all);
     drop(scene);
     let accounts = made?;
@@ -45,7 +45,7 @@ fn accounts_by(
 /// Accounts of facts.
 fn accounts_told(
     moments: &Moments<'_>,
-    asked: &Asked<'_>,
+    asked: &AskedNets<'_>,
     facts: &[Fact],
 ) -> Result<List<Account>, NoMemory>
     requires way { IsWayOf (circuit moments.now.net) moments.now.states moments.now.inputs }
@@ -63,7 +63,11 @@ fn accounts_told(
 
 /// The text of accounts of facts.
 #[tactic(auto, using(crate::proofs::WhyLemmas::facts_told))]
-fn facts_text(moments: &Moments<'_>, asked: &Asked<'_>, facts: &[Fact]) -> Result<Vec<u8>, NoMemory>
+fn facts_text(
+    moments: &Moments<'_>,
+    asked: &AskedNets<'_>,
+    facts: &[Fact],
+) -> Result<Vec<u8>, NoMemory>
     requires way { IsWayOf (circuit moments.now.net) moments.now.states moments.now.inputs }
     requires leads { LeadsOn (circuit moments.now.net) moments.now.states moments.now.inputs }
     requires real { All (IsReal (circuit moments.now.net) moments.now.states moments.now.inputs) facts.now }
@@ -82,9 +86,9 @@ fn facts_text(moments: &Moments<'_>, asked: &Asked<'_>, facts: &[Fact]) -> Resul
 #[tactic(auto, using(crate::proofs::WhyLemmas::nets_told, crate::proofs::WhyLemmas::open_told))]
 fn answer_by(
     moments: &Moments<'_>,
-    asked: &Asked<'_>,
+    asked: &AskedNets<'_>,
     facts: Option<List<Fact>>,
-) -> Result<Why, NoMemory>
+) -> Result<WhyAnswer, NoMemory>
     requires way { IsWayOf (circuit moments.now.net) moments.now.states moments.now.inputs }
     requires leads { LeadsOn (circuit moments.now.net) moments.now.states moments.now.inputs }
     requires some { 0 < length asked.now.nets.now }
@@ -96,14 +100,14 @@ fn answer_by(
     match facts {
         Some(facts) => {
             let text = facts_text(moments, asked, facts.slice())?;
-            Ok(Why::Text(text))
+            Ok(WhyAnswer::Text(text))
         }
-        None => Ok(Why::Denied(Denial::Open)),
+        None => Ok(WhyAnswer::Denied(Denial::Open)),
     }
 }
 
 /// The answer by a trace.
-fn answer_at(moments: &Moments<'_>, asked: &Asked<'_>) -> Result<Why, NoMemory>
+fn answer_at(moments: &Moments<'_>, asked: &AskedNets<'_>) -> Result<WhyAnswer, NoMemory>
     requires way { IsWayOf (circuit moments.now.net) moments.now.states moments.now.inputs }
     requires leads { LeadsOn (circuit moments.now.net) moments.now.states moments.now.inputs }
     requires some { 0 < length asked.now.nets.now }
@@ -118,7 +122,7 @@ fn answer_at(moments: &Moments<'_>, asked: &Asked<'_>) -> Result<Why, NoMemory>
 
 /// The answer of a trace that leads on.
 #[tactic(auto, using(crate::proofs::WhyLemmas::way_seen, crate::proofs::WhyLemmas::leads_seen, crate::proofs::WhyLemmas::placed_seen, crate::proofs::WhyLemmas::driven_seen, crate::proofs::WhyLemmas::answer_seen))]
-fn answer_on(net: &Netlist, asked: &Asked<'_>) -> Result<Why, NoMemory>
+fn answer_on(net: &Netlist, asked: &AskedNets<'_>) -> Result<WhyAnswer, NoMemory>
     requires way { IsWayOf (circuit net.now) asked.now.report.now.states asked.now.report.now.inputs }
     requires leads { LeadsOn (circuit net.now) asked.now.report.now.states asked.now.report.now.inputs }
     requires some { 0 < length asked.now.nets.now }
@@ -137,7 +141,7 @@ fn answer_on(net: &Netlist, asked: &Asked<'_>) -> Result<Why, NoMemory>
 
 /// The answer of a report's trace, if there are nets.
 #[tactic(auto, using(crate::proofs::WhyLemmas::none_asked, crate::proofs::WhyLemmas::some_asked, crate::proofs::WhyLemmas::text_answers))]
-fn answer_of(net: &Netlist, asked: &Asked<'_>) -> Result<Why, NoMemory>
+fn answer_of(net: &Netlist, asked: &AskedNets<'_>) -> Result<WhyAnswer, NoMemory>
     requires way { IsWayOf (circuit net.now) asked.now.report.now.states asked.now.report.now.inputs }
     requires leads { LeadsOn (circuit net.now) asked.now.report.now.states asked.now.report.now.inputs }
     requires at { asked.now.at ≡ moment_in (length asked.now.report.now.states) asked.now.question.now.at }
@@ -149,7 +153,7 @@ fn answer_of(net: &Netlist, asked: &Asked<'_>) -> Result<Why, NoMemory>
     ensures { IfOk result (Answers net.now.raw asked.now.report.now (question_in asked.now.question.now)) }
 {
     if asked.nets.is_empty() {
-        return Ok(Why::Denied(Denial::Input));
+        return Ok(WhyAnswer::Denied(Denial::Input));
     }
     answer_on(net, asked)
 }
@@ -182,7 +186,7 @@ fn answer_then(
     report: &Report,
     question: &Question<'_>,
     at: u32,
-) -> Result<Why, NoMemory>
+) -> Result<WhyAnswer, NoMemory>
     requires way { IsWayOf (circuit net.now) report.now.states report.now.inputs }
     requires leads { LeadsOn (circuit net.now) report.now.states report.now.inputs }
     requires at { at ≡ moment_in (length report.now.states) question.now.at }
@@ -191,7 +195,7 @@ fn answer_then(
     ensures { IfOk result (Answers net.now.raw report.now (question_in question.now)) }
 {
     let nets = asked_nets(alloc, net, question.name)?;
-    let asked = Asked {
+    let asked = AskedNets {
         alloc,
         report,
         question,
@@ -211,7 +215,7 @@ pub fn why_text(
     net: &Netlist,
     report: &Report,
     question: &Question<'_>,
-) -> Result<Why, NoMemory>
+) -> Result<WhyAnswer, NoMemory>
     requires way { IsWayOf (circuit net.now) report.now.states report.now.inputs }
     requires leads { LeadsOn (circuit net.now) report.now.states report.now.inputs }
     requires some_layer { 1 ≤ question.now.depth }
@@ -219,6 +223,6 @@ pub fn why_text(
 {
     match moment_of(report.states.len(), question.at)? {
         Some(at) => answer_then(alloc, net, report, question, at),
-        None => Ok(Why::Denied(Denial::Moment)),
+        None => Ok(WhyAnswer::Denied(Denial::Moment)),
     }
 }

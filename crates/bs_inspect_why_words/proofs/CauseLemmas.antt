@@ -12,8 +12,8 @@ use Rattle.bs_net.specs.Circuit.{Circuit}
 use Rattle.bs_net.specs.Netlist.{circuit}
 use Rattle.bs_net_facts.specs.declared.fact.Fact.{Fact}
 use Rattle.bs_net_facts.specs.Seen.{Seen}
-use Rattle.bs_net_names.specs.Signals.{AreSignals, Signal, signal_in}
-use Rattle.bs_net_names.specs.declared.signal.Signal.{Signal as CodeSignal}
+use Rattle.bs_inspect_view.specs.Signals.{AreSignals, Signal, signal_in}
+use Rattle.bs_inspect_view.specs.declared.signal.Signal.{Signal as CodeSignal}
 use Rattle.bs_inspect_why_words.specs.declared.limits.Limits.{Limits}
 use Rattle.bs_inspect_why_words.specs.declared.row.Row.{Row}
 use Rattle.bs_inspect_why_words.specs.Blocks.{Appends}
@@ -21,7 +21,7 @@ use Rattle.bs_inspect_why_words.specs.Causes.{HasRows, TellsRows, TellsRowsOf, b
 use Rattle.bs_inspect_why_words.specs.Facts.{fact_bits, fact_keys, signal_at}
 use Rattle.bs_inspect_why_words.specs.Rows.{AreRows, row_cmp, row_of, rows_of}
 use Rattle.bs_inspect_causes.specs.Since.{AreAges}
-use Rattle.bs_net_names.specs.Rtl.{rtl_text}
+use Rattle.bs_inspect_view.specs.Rtl.{rtl_text}
 use Rattle.bs_inspect_why_words.specs.declared.limits.TheConstants.{RECENT}
 use Rattle.bs_inspect_why_words.proofs.RowLemmas.{rows_are, signal_is}
 use Rattle.bs_inspect_why_words.proofs.StepLemmas.{all_head, all_tail, listed, listed_more}

@@ -10,26 +10,26 @@ use Rattle.bs_inspect_why_words.specs.declared.limits.TheConstants.{MAX_APART}
 use Rattle.bs_inspect_why_words.specs.declared.reason.Reason.{Reason}
 use Rattle.bs_inspect_why_words.specs.declared.group.Group.{Group}
 use Rattle.bs_inspect_why_words.specs.Groups.{groups_of, joined, joined_at, longer, place_of, single, span}
-use Rattle.bs_inspect_why_words.specs.declared.group.Span.{Span}
+use Rattle.bs_inspect_why_words.specs.declared.group.CycleSpan.{CycleSpan}
 
-abbrev made : List ℕ → List Span → ℕ → ℕ → Group
+abbrev made : List ℕ → List CycleSpan → ℕ → ℕ → Group
 made words closed from to = record { words = words; closed = closed; from = from; to = to }
 
 abbrev further : Group → ℕ → Group
 further g cycle = made g.words (g.closed ++ span g.from g.to ∷ []) cycle cycle
 
-pub single_is : (r : Reason) (words : List ℕ) (closed : List Span) → words ≡ r.words → closed ≡ [] →
+pub single_is : (r : Reason) (words : List ℕ) (closed : List CycleSpan) → words ≡ r.words → closed ≡ [] →
     record { words = words; closed = closed; from = r.cycle; to = r.cycle } ≡ single r
-single_is r words closed e none = ap (λ (w : List ℕ). made w closed r.cycle r.cycle) e ∙ ap (λ (c : List Span). made r.words c r.cycle r.cycle) none
+single_is r words closed e none = ap (λ (w : List ℕ). made w closed r.cycle r.cycle) e ∙ ap (λ (c : List CycleSpan). made r.words c r.cycle r.cycle) none
 
 pub longer_near : (g : Group) (cycle : ℕ) → (cycle + 1 == g.from) ≡ true →
     record { words = g.words; closed = g.closed; from = cycle; to = g.to } ≡ longer g cycle
 longer_near g cycle is = sym (ap (λ (b : Bool). if b then made g.words g.closed cycle g.to else further g cycle) is)
 
-pub longer_far : (g : Group) (cycle : ℕ) (closed : List Span) → (cycle + 1 == g.from) ≡ false → closed ≡ g.closed ++ span g.from g.to ∷ [] →
+pub longer_far : (g : Group) (cycle : ℕ) (closed : List CycleSpan) → (cycle + 1 == g.from) ≡ false → closed ≡ g.closed ++ span g.from g.to ∷ [] →
     record { words = g.words; closed = closed; from = cycle; to = cycle } ≡ longer g cycle
 longer_far g cycle closed off e =
-    ap (λ (c : List Span). made g.words c cycle cycle) e
+    ap (λ (c : List CycleSpan). made g.words c cycle cycle) e
     ∙ sym (ap (λ (b : Bool). if b then made g.words g.closed cycle g.to else further g cycle) off)
 
 pub place_is : (groups few : List Group) (words : List ℕ) (found : Option ℕ) → few ≡ take MAX_APART groups →

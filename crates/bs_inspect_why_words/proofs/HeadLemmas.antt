@@ -9,7 +9,7 @@ use Rattle.bs_net.specs.Netlist.{circuit}
 use Rattle.bs_net_facts.specs.declared.fact.Fact.{Fact}
 use Rattle.bs_net_facts.specs.Facts.{IsReal}
 use Rattle.bs_net_facts.specs.Seen.{Seen}
-use Rattle.bs_net_names.specs.Signals.{AreSignals, Signal}
+use Rattle.bs_inspect_view.specs.Signals.{AreSignals, Signal}
 use Rattle.bs_report.specs.declared.report.Report.{Report}
 use Rattle.bs_inspect_why_words.specs.Blocks.{Appends}
 use Rattle.bs_inspect_why_words.specs.Facts.{fact_bits, fact_keys}

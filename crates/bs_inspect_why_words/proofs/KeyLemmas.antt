@@ -5,7 +5,7 @@ use Rattle.std.proofs.lemmas.Option.{get_or_from_slice_get}
 use Rattle.std.proofs.lemmas.List.{get_or_past, map-append, take_more}
 use Rattle.bs_net.specs.Parts.{Parts, key_at}
 use Rattle.bs_net_facts.specs.declared.fact.Fact.{Fact}
-use Rattle.bs_net_names.specs.Signals.{AreSignals, Signal}
+use Rattle.bs_inspect_view.specs.Signals.{AreSignals, Signal}
 use Rattle.bs_inspect_why_words.specs.Facts.{fact_bits, fact_keys}
 
 pub key_there : (r : Parts) (n : ℕ) (key : List ℕ) → slice_get r.names n ≡ Some key → key ≡ key_at r n

@@ -7,8 +7,8 @@ use Rattle.std.specs.declared.cmp.Reverse.{Reverse}
 use Rattle.std.proofs.lemmas.List.{get_or_default, get_or_past, get_or-map, length-map, map-append}
 use Rattle.std.proofs.lemmas.List.Sums.{fold_more}
 use Rattle.bs_bits.proofs.RangeLemmas.{range_push}
-use Rattle.bs_net_names.specs.Signals.{Signal, signal_in}
-use Rattle.bs_net_names.specs.declared.signal.Signal.{Signal as CodeSignal}
+use Rattle.bs_inspect_view.specs.Signals.{Signal, signal_in}
+use Rattle.bs_inspect_view.specs.declared.signal.Signal.{Signal as CodeSignal}
 use Rattle.bs_inspect_why_words.specs.declared.row.Row.{Row}
 use Rattle.bs_inspect_why_words.specs.Facts.{no_signal, signal_at}
 use Rattle.bs_inspect_why_words.specs.Rows.{AreRows, later, latest, row_cmp, row_of, rows_of}

@@ -9,7 +9,7 @@ use Rattle.bs_net.specs.Parts.{Parts}
 use Rattle.bs_net_facts.specs.declared.fact.Fact.{Fact}
 use Rattle.bs_inspect_why_words.specs.declared.reason.Reason.{Reason}
 use Rattle.bs_inspect_why_words.specs.declared.group.Group.{Group}
-use Rattle.bs_inspect_why_words.specs.declared.group.Span.{Span}
+use Rattle.bs_inspect_why_words.specs.declared.group.CycleSpan.{CycleSpan}
 use Rattle.bs_inspect_why_words.specs.Facts.{more_words}
 use Rattle.bs_inspect_why_words.specs.Blocks.{Appends}
 use Rattle.bs_inspect_why_words.specs.Groups.{AreFronted, AreGroups, TellsGroups, group_spans, groups_lines, groups_of, span, span_words, spans_words}
@@ -37,10 +37,10 @@ groups_told raw lead facts_most most spans facts groups old new are goes = recor
 -- ---- spans
 
 -- the last of some spans, unless enough went before
-abbrev last_words : Bool → Span → List ℕ
+abbrev last_words : Bool → CycleSpan → List ℕ
 last_words told x = if told then span_words x else []
 
-first_push : (most : ℕ) (xs : List Span) (x : Span) →
+first_push : (most : ℕ) (xs : List CycleSpan) (x : CycleSpan) →
     flat_map span_words (take most (xs ++ x ∷ [])) ≡ flat_map span_words (take most xs) ++ last_words (nat_lt (length xs) most) x
 first_push most xs x = by (cases_lt (length xs) most)
   where
@@ -50,23 +50,23 @@ first_push most xs x = by (cases_lt (length xs) most)
         ap (flat_map span_words) (take_all most (xs ++ x ∷ []) (omega (arith, lt, length_push xs x)))
         ∙ (flat_map-append span_words xs (x ∷ [])
         ∙ (ap (λ (t : List ℕ). flat_map span_words xs ++ t) (append-nil (span_words x))
-        ∙ (ap (λ (ys : List Span). flat_map span_words ys ++ span_words x) (sym (take_all most xs (omega (arith, lt))))
+        ∙ (ap (λ (ys : List CycleSpan). flat_map span_words ys ++ span_words x) (sym (take_all most xs (omega (arith, lt))))
         ∙ ap (λ (b : Bool). flat_map span_words (take most xs) ++ last_words b x) (sym (lt-ltb (length xs) most lt)))))
     by (inr le) =
         ap (flat_map span_words) (take-append-le most xs (x ∷ []) le)
         ∙ (sym (append-nil (flat_map span_words (take most xs)))
         ∙ ap (λ (b : Bool). flat_map span_words (take most xs) ++ last_words b x) (sym (le-ltb (length xs) most le)))
 
-pub spans_told : (most count : ℕ) (g : Group) (slice few : List Span) (t t₁ t₂ t₃ : List ℕ) → slice ≡ g.closed → few ≡ take most slice →
+pub spans_told : (most count : ℕ) (g : Group) (slice few : List CycleSpan) (t t₁ t₂ t₃ : List ℕ) → slice ≡ g.closed → few ≡ take most slice →
     count ≡ length slice → t₁ ≡ t ++ flat_map span_words few →
     t₂ ≡ t₁ ++ (if nat_lt count most then span_words (span g.from g.to) else []) → t₃ ≡ t₂ ++ more_words (count + 1 - most) →
     t₃ ≡ t ++ spans_words most (group_spans g)
 spans_told most count g slice few t t₁ t₂ t₃ same first n h₁ h₂ h₃ =
-    let x : Span = span g.from g.to in
+    let x : CycleSpan = span g.from g.to in
     let closed : List ℕ = flat_map span_words (take most g.closed) in
     let last : List ℕ = last_words (nat_lt (length g.closed) most) x in
     let size : count ≡ length g.closed = n ∙ ap length same in
-    let front : t₁ ≡ t ++ closed = h₁ ∙ ap (λ (ys : List Span). t ++ flat_map span_words ys) (first ∙ ap (take most) same) in
+    let front : t₁ ≡ t ++ closed = h₁ ∙ ap (λ (ys : List CycleSpan). t ++ flat_map span_words ys) (first ∙ ap (take most) same) in
     let both : t₂ ≡ (t ++ closed) ++ last =
     h₂
     ∙ (ap (λ (k : ℕ). t₁ ++ last_words (nat_lt k most) x) size ∙ ap (λ (u : List ℕ). u ++ last) front) in

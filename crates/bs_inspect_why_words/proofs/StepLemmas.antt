@@ -5,8 +5,8 @@ use Rattle.std.specs.Prelude.{◌==◌, codes, if◌then◌else◌}
 use Rattle.std.proofs.lemmas.Bool.{ne_eqb}
 use Rattle.std.proofs.lemmas.Grind.{flat_map-append}
 use Rattle.std.proofs.lemmas.List.{append-nil, map-append, take_all, take_more}
-use Rattle.bs_net_names.specs.Signals.{Signal, signal_in}
-use Rattle.bs_net_names.specs.declared.signal.Signal.{Signal as CodeSignal}
+use Rattle.bs_inspect_view.specs.Signals.{Signal, signal_in}
+use Rattle.bs_inspect_view.specs.declared.signal.Signal.{Signal as CodeSignal}
 
 -- one member more
 pub step_more : {A : Type 0} (f : A → List ℕ) (xs : List A) (i : ℕ) (d : A) (old text after : List ℕ) → i < length xs →

@@ -5,8 +5,8 @@ use Rattle.std.specs.List.{All}
 use Rattle.std.proofs.lemmas.List.Folds.{flat_map-map}
 use Rattle.bs_net.specs.Parts.{Parts}
 use Rattle.bs_net_facts.specs.declared.fact.Fact.{Fact}
-use Rattle.bs_net_names.specs.Signals.{AreSignals, Signal, signal_in}
-use Rattle.bs_net_names.specs.declared.signal.Signal.{Signal as CodeSignal}
+use Rattle.bs_inspect_view.specs.Signals.{AreSignals, Signal, signal_in}
+use Rattle.bs_inspect_view.specs.declared.signal.Signal.{Signal as CodeSignal}
 use Rattle.bs_inspect_why_words.specs.Facts.{TellsFacts, TellsFirst, behind_words, fact_bits, fact_keys, more_words, signal_words, signals_words}
 use Rattle.bs_inspect_why_words.proofs.StepLemmas.{listed, listed_more}
 

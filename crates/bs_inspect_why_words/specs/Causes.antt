@@ -3,9 +3,9 @@ use Rattle.std.specs.Prelude.{◌≡◌, ℕ, ◌+◌, ◌-◌, ◌==◌, ◌&&�
 use Rattle.std.specs.Bool.{beq}
 use Rattle.std.specs.List.{flat_map}
 use Rattle.bs_bits.specs.Lines.{line}
-use Rattle.bs_net_names.specs.Rtl.{rtl_text}
-use Rattle.bs_net_names.specs.Signals.{AreSignals, Signal}
-use Rattle.bs_net_names.specs.Values.{value_text}
+use Rattle.bs_inspect_view.specs.Rtl.{rtl_text}
+use Rattle.bs_inspect_view.specs.Signals.{AreSignals, Signal}
+use Rattle.bs_inspect_view.specs.Values.{value_text}
 use Rattle.bs_inspect_report.specs.Signal.{bit_at}
 use Rattle.bs_net.specs.Circuit.{Circuit}
 use Rattle.bs_net.specs.Netlist.{circuit}

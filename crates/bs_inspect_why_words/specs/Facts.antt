@@ -3,9 +3,9 @@ use Rattle.std.specs.Prelude.{◌≡◌, ℕ, ◌-◌, ◌==◌, Bool, List, [],
 use Rattle.std.specs.List.{flat_map}
 use Rattle.bs_net.specs.Parts.{Parts, key_at}
 use Rattle.bs_net_facts.specs.declared.fact.Fact.{Fact}
-use Rattle.bs_net_names.specs.Rtl.{rtl_text}
-use Rattle.bs_net_names.specs.Signals.{AreSignals, Signal}
-use Rattle.bs_net_names.specs.Values.{value_text}
+use Rattle.bs_inspect_view.specs.Rtl.{rtl_text}
+use Rattle.bs_inspect_view.specs.Signals.{AreSignals, Signal}
+use Rattle.bs_inspect_view.specs.Values.{value_text}
 use Rattle.bs_inspect_report.specs.Signal.{signal_bits}
 
 -- the keys of the nets

@@ -8,12 +8,12 @@ use Rattle.bs_net_facts.specs.declared.fact.Fact.{Fact}
 use Rattle.bs_inspect_why_words.specs.declared.limits.TheConstants.{MAX_APART}
 use Rattle.bs_inspect_why_words.specs.declared.reason.Reason.{Reason}
 use Rattle.bs_inspect_why_words.specs.declared.group.Group.{Group}
-use Rattle.bs_inspect_why_words.specs.declared.group.Span.{Span}
+use Rattle.bs_inspect_why_words.specs.declared.group.CycleSpan.{CycleSpan}
 use Rattle.bs_inspect_why_words.specs.Facts.{more_words}
 use Rattle.bs_inspect_why_words.specs.Reasons.{AreReasons}
 use Rattle.bs_inspect_why_words.specs.Stretches.{starts}
 
-abbrev pub span : ℕ → ℕ → Span
+abbrev pub span : ℕ → ℕ → CycleSpan
 span from to = record { from = from; to = to }
 
 -- one cycle
@@ -82,17 +82,17 @@ pub record AreFronted (reasons : List Reason) (groups fronts : List Group) : Typ
 -- ---- lines
 
 -- the cycles of a group
-abbrev pub group_spans : Group → List Span
+abbrev pub group_spans : Group → List CycleSpan
 group_spans g = g.closed ++ span g.from g.to ∷ []
 
 -- the last of several cycles
-abbrev pub end_words : Span → List ℕ
+abbrev pub end_words : CycleSpan → List ℕ
 end_words s = if s.from == s.to then [] else codes ".." ++ decimal s.to
 
-abbrev pub span_words : Span → List ℕ
+abbrev pub span_words : CycleSpan → List ℕ
 span_words s = codes " " ++ (decimal s.from ++ end_words s)
 
-abbrev pub spans_words : ℕ → List Span → List ℕ
+abbrev pub spans_words : ℕ → List CycleSpan → List ℕ
 spans_words most spans = flat_map span_words (take most spans) ++ more_words (length spans - most)
 
 -- what is told, and when

@@ -5,8 +5,8 @@ use Rattle.bs_bits.specs.Bits.{bits_eq}
 use Rattle.bs_bits.specs.Lines.{line}
 use Rattle.bs_net.specs.Circuit.{Circuit}
 use Rattle.bs_net.specs.Netlist.{circuit}
-use Rattle.bs_net_names.specs.Signals.{AreSignals, Signal}
-use Rattle.bs_net_names.specs.Values.{value_text}
+use Rattle.bs_inspect_view.specs.Signals.{AreSignals, Signal}
+use Rattle.bs_inspect_view.specs.Values.{value_text}
 use Rattle.bs_inspect_report.specs.Execution.{is_execution}
 use Rattle.bs_inspect_report.specs.Signal.{signal_bits}
 use Rattle.bs_report.specs.declared.report.HitLine.{HitLine}

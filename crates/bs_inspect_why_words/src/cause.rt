@@ -3,7 +3,7 @@ ghost use Rattle.std.specs.Prelude.{◌≡◌, ◌<◌, ◌&&◌, ◌^◌, ◌++
 ghost use Rattle.std.specs.Bool.{beq};
 ghost use Rattle.std.specs.List.{flat_map};
 ghost use Rattle.bs_net.specs.Netlist.{circuit};
-ghost use Rattle.bs_net_names.specs.Signals.{signal_in};
+ghost use Rattle.bs_inspect_view.specs.Signals.{signal_in};
 ghost use Rattle.bs_net_facts.specs.Facts.{IsReal, IsWayOf};
 ghost use Rattle.bs_inspect_why_words.specs.Causes.{age_words, by_line, by_words, first_cycle, HasRows, is_old, old_line, old_row, old_rows, only_bit, row_line, row_name, row_names, rows_lines, TellsRows, TellsRowsOf};
 ghost use Rattle.bs_inspect_why_words.specs.Blocks.{Appends};
@@ -16,8 +16,8 @@ use crate::words::{first_of, push_comma, push_more, push_signal};
 use bs_bits::{Bits, NoMemory, end_line, push_number, push_piece};
 use bs_inspect_causes::ages;
 use bs_inspect_report::bit_at;
+use bs_inspect_view::{Signal, push_rtl_name, push_value};
 use bs_net_facts::{Fact, Moments};
-use bs_net_names::{Signal, push_rtl_name, push_value};
 use std::alloc::Global;
 
 /// Appends when a signal changed last.

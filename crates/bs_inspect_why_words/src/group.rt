@@ -10,7 +10,7 @@ use std::alloc::Global;
 
 /// Cycles in a row.
 #[derive(Clone, Copy)]
-pub struct Span {
+pub struct CycleSpan {
     pub from: u32,
     pub to: u32,
 }
@@ -19,7 +19,7 @@ pub struct Span {
 #[derive(Drop)]
 pub struct Group {
     pub words: List<u8>,
-    pub closed: List<Span>,
+    pub closed: List<CycleSpan>,
     pub from: u32,
     pub to: u32,
 }
@@ -47,7 +47,7 @@ fn add_cycle(group: &mut Group, cycle: u32) -> Result<(), NoMemory>
         group.from = cycle;
         return Ok(());
     }
-    let span = Span {
+    let span = CycleSpan {
         from: group.from,
         to: group.to,
     };

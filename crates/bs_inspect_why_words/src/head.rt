@@ -1,7 +1,7 @@
 //! The first line of a block.
 ghost use Rattle.std.specs.Prelude.{◌≡◌, ◌<◌, ◌≤◌, ◌+◌, ◌-◌, ◌^◌, ◌++◌, length, map, All, IfOk, OnOk, option_map};
 ghost use Rattle.bs_net.specs.Netlist.{circuit};
-ghost use Rattle.bs_net_names.specs.Signals.{signal_in};
+ghost use Rattle.bs_inspect_view.specs.Signals.{signal_in};
 ghost use Rattle.bs_inspect_why_words.specs.Blocks.{Appends};
 ghost use Rattle.bs_inspect_why_words.specs.Heads.{AreBefore, at_words, before_count, before_words, episode_in, front_words, head_line, hit_moment, moment_words, since_words, step_moment, steps_words, TellsHead, TellsHeadOf, value_behind, values_words};
 
@@ -11,8 +11,8 @@ use crate::words::push_signals;
 use bs_bits::{Bits, NoMemory, end_line, push_number, push_piece};
 use bs_inspect_causes::known_bit;
 use bs_inspect_report::{is_execution, member, push_signal_value};
+use bs_inspect_view::Signal;
 use bs_net_facts::{Fact, Moments};
-use bs_net_names::Signal;
 use bs_report::{HitLine, Report, Step};
 use std::alloc::Global;
 
@@ -101,7 +101,7 @@ fn push_at(text: &mut Vec<u8>, cycle: u32) -> Result<(), NoMemory>
 
 /// What the line of a block, or of a chain of so many steps, tells of its signals: their bits, and the bits before a cycle.
 #[derive(Clone, Copy)]
-struct Change<'a> {
+struct SignalBits<'a> {
     steps: usize,
     signals: &'a [Signal<'a>],
     bits: &'a Bits,
@@ -110,7 +110,7 @@ struct Change<'a> {
 }
 
 /// Appends the first value of a chain, and its cycle.
-fn push_steps(text: &mut Vec<u8>, change: &Change<'_>) -> Result<(), NoMemory>
+fn push_steps(text: &mut Vec<u8>, change: &SignalBits<'_>) -> Result<(), NoMemory>
     requires narrow { All (λ s. length s.places < 2 ^ 32) change.now.signals.now }
     requires since { 0 < change.now.since }
     ensures { OnOk result (text.new.items ≡ text.old.items ++ steps_words change.now.steps (map signal_in change.now.signals.now) change.now.befores.now (change.now.since - 1)) }
@@ -124,7 +124,7 @@ fn push_steps(text: &mut Vec<u8>, change: &Change<'_>) -> Result<(), NoMemory>
 }
 
 /// Appends what bits were before, where there is a before.
-fn push_before(text: &mut Vec<u8>, change: &Change<'_>) -> Result<(), NoMemory>
+fn push_before(text: &mut Vec<u8>, change: &SignalBits<'_>) -> Result<(), NoMemory>
     requires { All (λ s. length s.places < 2 ^ 32) change.now.signals.now }
     ensures { OnOk result (text.new.items ≡ text.old.items ++ before_words change.now.steps (map signal_in change.now.signals.now) change.now.bits.now change.now.befores.now change.now.since) }
 {
@@ -164,7 +164,11 @@ fn bits_before(
 }
 
 /// Appends what the line of a block begins with: its cycle, its bits, and since when they stand.
-fn push_front(text: &mut Vec<u8>, first: &Episode<'_>, change: &Change<'_>) -> Result<(), NoMemory>
+fn push_front(
+    text: &mut Vec<u8>,
+    first: &Episode<'_>,
+    change: &SignalBits<'_>,
+) -> Result<(), NoMemory>
     requires { All (λ s. length s.places < 2 ^ 32) change.now.signals.now }
     ensures { OnOk result (text.new.items ≡ text.old.items ++ front_words (map signal_in change.now.signals.now) change.now.bits.now (episode_in first.now)) }
 {
@@ -180,7 +184,7 @@ fn push_line_with(
     text: &mut Vec<u8>,
     report: &Report,
     first: &Episode<'_>,
-    change: &Change<'_>,
+    change: &SignalBits<'_>,
 ) -> Result<(), NoMemory>
     requires { All (λ s. length s.places < 2 ^ 32) change.now.signals.now }
     ensures { OnOk result (text.new.items ≡ text.old.items ++ head_line report.now change.now.steps (map signal_in change.now.signals.now) change.now.bits.now change.now.befores.now (episode_in first.now) change.now.since) }
@@ -210,7 +214,7 @@ fn push_head_of(
 {
     let befores = bits_before(*text.allocator(), moments, last.bits, last.since)?;
     let bits = fact_bits(*text.allocator(), first.bits)?;
-    let change = Change {
+    let change = SignalBits {
         steps,
         signals,
         bits: &bits,

@@ -2,13 +2,13 @@
 ghost use Rattle.std.specs.Prelude.{◌≡◌, ◌<◌, ◌^◌, [], length, map, All, IfOk};
 ghost use Rattle.bs_net.specs.Netlist.{parts_of};
 ghost use Rattle.bs_net.specs.Parts.{key_at};
-ghost use Rattle.bs_net_names.specs.Signals.{AreSignals, signal_in};
+ghost use Rattle.bs_inspect_view.specs.Signals.{AreSignals, signal_in};
 ghost use Rattle.bs_inspect_why_words.specs.Facts.{fact_bits, fact_keys};
 
 use bs_bits::{Bits, NoMemory};
+use bs_inspect_view::{Signal, signals};
 use bs_net::{NetId, Raw};
 use bs_net_facts::Fact;
-use bs_net_names::{Signal, signals};
 use std::alloc::Global;
 
 /// The key of a net, and nothing where there is no such net.

@@ -3,9 +3,11 @@ ghost use Rattle.std.specs.Prelude.{◌≡◌};
 ghost use Rattle.bs_inspect_why_words.specs.Limits.{limits_of};
 
 /// A cause is older where it has not changed in so many cycles.
+/// An older cause is likely a setting, and not what happened.
 pub const RECENT: u32 = 3;
 
 /// Cycles are joined to one of so many groups.
+/// Each cycle is compared with each group.
 pub const MAX_APART: usize = 64;
 
 /// How many of a kind are told.

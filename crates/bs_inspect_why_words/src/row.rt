@@ -1,11 +1,11 @@
 //! Signals in the order of their last change.
 ghost use Rattle.std.specs.Prelude.{◌≡◌, length, map, IfOk, slice_index_or};
 ghost use Rattle.std.specs.List.Sorted.{IsPermutation, IsSorted};
-ghost use Rattle.bs_net_names.specs.Signals.{signal_in};
+ghost use Rattle.bs_inspect_view.specs.Signals.{signal_in};
 ghost use Rattle.bs_inspect_why_words.specs.Rows.{latest, row_cmp, rows_of};
 
 use bs_bits::NoMemory;
-use bs_net_names::Signal;
+use bs_inspect_view::Signal;
 use std::alloc::Global;
 use std::cmp::Reverse;
 

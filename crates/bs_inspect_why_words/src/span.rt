@@ -5,7 +5,7 @@ ghost use Rattle.bs_net.specs.Netlist.{parts_of};
 ghost use Rattle.bs_inspect_why_words.specs.Blocks.{Appends};
 ghost use Rattle.bs_inspect_why_words.specs.Groups.{end_words, group_line, group_spans, groups_lines, rest_line, span_words, spans_words, AreGroups, TellsGroups};
 
-use crate::group::{Group, Span, fronted, groups_of};
+use crate::group::{CycleSpan, Group, fronted, groups_of};
 use crate::limits::Limits;
 use crate::reason::reasons;
 use crate::words::{first_of, push_more};
@@ -15,7 +15,7 @@ use bs_net_facts::Fact;
 use std::alloc::Global;
 
 /// Appends the last of several cycles.
-fn push_end(text: &mut Vec<u8>, span: Span) -> Result<(), NoMemory>
+fn push_end(text: &mut Vec<u8>, span: CycleSpan) -> Result<(), NoMemory>
     ensures { OnOk result (text.new.items ≡ text.old.items ++ end_words span) }
 {
     if span.from == span.to {
@@ -27,7 +27,7 @@ fn push_end(text: &mut Vec<u8>, span: Span) -> Result<(), NoMemory>
 }
 
 /// Appends cycles in a row.
-fn push_span(text: &mut Vec<u8>, span: Span) -> Result<(), NoMemory>
+fn push_span(text: &mut Vec<u8>, span: CycleSpan) -> Result<(), NoMemory>
     ensures { OnOk result (text.new.items ≡ text.old.items ++ span_words span) }
 {
     push_piece(text, b" ")?;
@@ -36,7 +36,7 @@ fn push_span(text: &mut Vec<u8>, span: Span) -> Result<(), NoMemory>
 }
 
 /// Appends spans.
-fn push_all_spans(text: &mut Vec<u8>, spans: &[Span]) -> Result<(), NoMemory>
+fn push_all_spans(text: &mut Vec<u8>, spans: &[CycleSpan]) -> Result<(), NoMemory>
     ensures { OnOk result (text.new.items ≡ text.old.items ++ flat_map span_words spans.now) }
 {
     'spans: for span in spans {
@@ -46,7 +46,12 @@ fn push_all_spans(text: &mut Vec<u8>, spans: &[Span]) -> Result<(), NoMemory>
 }
 
 /// Appends the last span of a group behind so many closed ones, unless enough are told.
-fn push_last(text: &mut Vec<u8>, most: usize, closed: usize, span: Span) -> Result<(), NoMemory>
+fn push_last(
+    text: &mut Vec<u8>,
+    most: usize,
+    closed: usize,
+    span: CycleSpan,
+) -> Result<(), NoMemory>
     ensures { OnOk result (text.new.items ≡ text.old.items ++ (if nat_lt closed most then span_words span else [])) }
 {
     if closed < most {
@@ -62,7 +67,7 @@ fn push_spans(text: &mut Vec<u8>, most: usize, group: &Group) -> Result<(), NoMe
     ensures { OnOk result (text.new.items ≡ text.old.items ++ spans_words most (group_spans group.now)) }
 {
     let closed = group.closed.slice();
-    let last = Span {
+    let last = CycleSpan {
         from: group.from,
         to: group.to,
     };

@@ -1,15 +1,15 @@
 //! Signals and their values in words.
 ghost use Rattle.std.specs.Prelude.{◌≡◌, ◌<◌, ◌-◌, ◌^◌, ◌==◌, [], ◌++◌, codes, length, map, take, All, IfOk, OnOk, if◌then◌else◌};
 ghost use Rattle.bs_net.specs.Netlist.{parts_of};
-ghost use Rattle.bs_net_names.specs.Signals.{signal_in};
+ghost use Rattle.bs_inspect_view.specs.Signals.{signal_in};
 ghost use Rattle.bs_inspect_why_words.specs.Facts.{fact_bits, more_words, signal_words, signals_words, TellsFacts, TellsFirst};
 
 use crate::key::{fact_bits, fact_signals};
 use bs_bits::{Bits, List, NoMemory, push_number, push_piece};
 use bs_inspect_report::push_signal_value;
+use bs_inspect_view::{Signal, push_rtl_name};
 use bs_net::Raw;
 use bs_net_facts::Fact;
-use bs_net_names::{Signal, push_rtl_name};
 use std::alloc::Global;
 
 /// Appends a signal and its value.

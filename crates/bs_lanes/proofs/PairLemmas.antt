@@ -18,13 +18,13 @@ use Rattle.bs_stim.specs.Packing.{bit_in}
 use Rattle.bs_lanes.specs.Planes.{IsPlane, bit_place, lane}
 use Rattle.bs_lanes.proofs.PlaneLemmas.{and_is_plane, xor_is_plane, lane_at}
 use Rattle.bs_lanes.specs.declared.pairs.Pair.{Pair}
-use Rattle.bs_lanes.specs.declared.pairs.Table.{Table}
+use Rattle.bs_lanes.specs.declared.pairs.PairTable.{PairTable}
 use Rattle.bs_lanes.specs.Settling.{HasPlane, RunsTo, RunsAll}
 use Rattle.bs_lanes.specs.Program.{pair_gate, pair_gates, HasGate}
 use Rattle.bs_lanes.specs.Pairs.{differ, mixed, IsTable, IsMixed}
 use Rattle.bs_lanes.proofs.SettlingLemmas.{one_write, left_as, within, keeps_plane, keeps_planes}
 
-abbrev table : Bool → Bool → Bool → Table
+abbrev table : Bool → Bool → Bool → PairTable
 table both one inverted = record { both = both; one = one; inverted = inverted }
 
 pub and_table : IsTable And (table true false false)
@@ -96,7 +96,7 @@ mixed_is wide a b both one inverted la lb lc ld le =
     (and_is_plane wide _ one _ _ (xor_is_plane wide a b _ _ pa pb) (own_plane wide one ld))) (own_plane wide inverted le)
 
 -- a gate of two inputs is evaluated
-pub one_pair : (wide : ℕ) (kind : Kind) (start : ℕ) (pairs : List Pair) (i : ℕ) (d : Pair) (t : Table) (old now a b both one inverted plane : List ℕ)
+pub one_pair : (wide : ℕ) (kind : Kind) (start : ℕ) (pairs : List Pair) (i : ℕ) (d : Pair) (t : PairTable) (old now a b both one inverted plane : List ℕ)
     (whole : ℕ → List Step) → i < length pairs → IsTable kind t →
     RunsTo wide (λ r. map gate_write (pair_gates kind (start + i) (drop i pairs))) whole old now →
     HasGate wide now (pair_gate kind (start + i) (get_or pairs i d)) →

@@ -11,8 +11,8 @@ use Rattle.bs_net.proofs.NetlistLemmas.{run-append}
 use Rattle.bs_net.specs.Order.{no_gate, gates_in}
 use Rattle.bs_lanes.specs.Planes.{lane}
 use Rattle.bs_lanes.specs.declared.pairs.Pair.{Pair}
-use Rattle.bs_lanes.specs.declared.program.Stretch.{Stretch}
-use Rattle.bs_lanes.specs.declared.program.Stretch.TheVariants.{Pairs, Others}
+use Rattle.bs_lanes.specs.declared.program.GateStretch.{GateStretch}
+use Rattle.bs_lanes.specs.declared.program.GateStretch.TheVariants.{Pairs, Others}
 use Rattle.bs_lanes.specs.Layout.{placed_net, placed_gate, placed_gates, IsGateOf}
 use Rattle.std.proofs.Common.{◌≢◌, false, subst}
 use Rattle.std.specs.Prelude.{IsTrue}
@@ -158,12 +158,12 @@ others_so_far places order gates others i some le so_far =
 
 -- ---- stretches
 
-flat_push : (ss : List Stretch) (s : Stretch) → program_gates (ss ++ s ∷ []) ≡ program_gates ss ++ stretch_gates s
+flat_push : (ss : List GateStretch) (s : GateStretch) → program_gates (ss ++ s ∷ []) ≡ program_gates ss ++ stretch_gates s
 flat_push ss s =
     flat_map-append stretch_gates ss (s ∷ []) ∙ ap (λ gs. program_gates ss ++ gs) (append-nil (stretch_gates s))
 
 -- one stretch more
-pub one_more_stretch : (places order : List ℕ) (gates : List Gate) (ss : List Stretch) (s : Stretch) (at count : ℕ) →
+pub one_more_stretch : (places order : List ℕ) (gates : List Gate) (ss : List GateStretch) (s : GateStretch) (at count : ℕ) →
     program_gates ss ≡ take at (placed_gates places order gates) → IsFirst (placed_gates places (drop at order) gates) s count →
     program_gates (ss ++ s ∷ []) ≡ take (at + count) (placed_gates places order gates)
 one_more_stretch places order gates ss s at count h k =
@@ -173,14 +173,14 @@ one_more_stretch places order gates ss s at count h k =
     ∙ (ap (λ gs. take at all ++ gs) (k.first ∙ ap (take count) (placed_drop places order gates at))
     ∙ sym (take-add at count all)))
 
-pub all_stretches : (places order : List ℕ) (gates : List Gate) (ss : List Stretch) (at : ℕ) → length order ≤ at →
+pub all_stretches : (places order : List ℕ) (gates : List Gate) (ss : List GateStretch) (at : ℕ) → length order ≤ at →
     program_gates ss ≡ take at (placed_gates places order gates) → program_gates ss ≡ placed_gates places order gates
 all_stretches places order gates ss at ge h = h ∙ take_all at (placed_gates places order gates) (omega (arith, ge, length_placed places order gates))
 
 -- ---- what the gates of a program read and drive
 
 -- what holds of all gates of a program holds of those of a stretch
-pub of_stretch : (P : Gate → Type 0) (ss : List Stretch) (i : ℕ) (d : Stretch) → i < length ss → All P (program_gates ss) →
+pub of_stretch : (P : Gate → Type 0) (ss : List GateStretch) (i : ℕ) (d : GateStretch) → i < length ss → All P (program_gates ss) →
     All P (stretch_gates (get_or ss i d))
 of_stretch P ss i d lt h = All-from_recursion P (stretch_gates (get_or ss i d)) (go ss i lt (recursion_from_All P (program_gates ss) h))
   where
@@ -192,7 +192,7 @@ of_stretch P ss i d lt h = All-from_recursion P (stretch_gates (get_or ss i d)) 
     back [] ys a = a
     back (x ∷ xs) ys a = back xs ys a.1
 
-    go : (ts : List Stretch) (k : ℕ) → k < length ts → AllByRecursion P (program_gates ts) → AllByRecursion P (stretch_gates (get_or ts k d))
+    go : (ts : List GateStretch) (k : ℕ) → k < length ts → AllByRecursion P (program_gates ts) → AllByRecursion P (stretch_gates (get_or ts k d))
     go [] k small a = absurd (omega (arith, small))
     go (t ∷ ts) zero small a = front (stretch_gates t) (program_gates ts) a
     go (t ∷ ts) (suc k) small a = go ts k (omega (arith, small)) (back (stretch_gates t) (program_gates ts) a)
@@ -201,7 +201,7 @@ pub keeps_gates : (wide : ℕ) (old new : List ℕ) (gs : List Gate) → length 
 keeps_gates wide old new gs size h = All-weaker (HasGate wide old) (HasGate wide new) (λ g k. gate_stays wide old new g size k) gs h
 
 -- one stretch more is evaluated
-pub one_stretch : (wide : ℕ) (ss : List Stretch) (i : ℕ) (d : Stretch) (old now new : List ℕ) (whole : ℕ → List Step) → i < length ss →
+pub one_stretch : (wide : ℕ) (ss : List GateStretch) (i : ℕ) (d : GateStretch) (old now new : List ℕ) (whole : ℕ → List Step) → i < length ss →
     RunsTo wide (λ r. map gate_write (program_gates (drop i ss))) whole old now →
     RunsAll wide (λ r. map gate_write (stretch_gates (get_or ss i d))) now new →
     RunsTo wide (λ r. map gate_write (program_gates (drop (i + 1) ss))) whole old new

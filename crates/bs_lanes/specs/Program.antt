@@ -7,8 +7,8 @@ use Rattle.bs_net.specs.declared.gate.Kind.TheVariants.{And, Nand, Or, Nor, Xor,
 use Rattle.bs_net.specs.Gate.{takes}
 use Rattle.bs_lanes.specs.Settling.{HasPlane}
 use Rattle.bs_lanes.specs.declared.pairs.Pair.{Pair}
-use Rattle.bs_lanes.specs.declared.program.Stretch.{Stretch}
-use Rattle.bs_lanes.specs.declared.program.Stretch.TheVariants.{Pairs, Others}
+use Rattle.bs_lanes.specs.declared.program.GateStretch.{GateStretch}
+use Rattle.bs_lanes.specs.declared.program.GateStretch.TheVariants.{Pairs, Others}
 
 -- a gate of two inputs
 abbrev pub pair_gate : Kind → ℕ → Pair → Gate
@@ -34,12 +34,12 @@ pair_gates kind start [] = []
 pair_gates kind start (p ∷ ps) = pair_gate kind start p ∷ pair_gates kind (start + 1) ps
 
 -- the gates of a stretch
-abbrev pub stretch_gates : Stretch → List Gate
+abbrev pub stretch_gates : GateStretch → List Gate
 stretch_gates (Pairs kind start ps) = pair_gates kind start ps
 stretch_gates (Others gates) = gates
 
 -- the gates of some stretches
-abbrev pub program_gates : List Stretch → List Gate
+abbrev pub program_gates : List GateStretch → List Gate
 program_gates stretches = flat_map stretch_gates stretches
 
 -- the pairs are the first of these gates
@@ -54,7 +54,7 @@ pub record AreFirst (gates firsts : List Gate) : Type 0 where
   pub first : firsts ≡ take (length firsts) gates
 
 -- the stretch has the first of these gates, so many, at least one
-pub record IsFirst (gates : List Gate) (stretch : Stretch) (count : ℕ) : Type 0 where
+pub record IsFirst (gates : List Gate) (stretch : GateStretch) (count : ℕ) : Type 0 where
   pub some : 0 < count
   pub few : count ≤ length gates
   pub first : stretch_gates stretch ≡ take count gates

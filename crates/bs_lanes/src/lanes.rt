@@ -96,7 +96,7 @@ fn step_all(wide: usize, nets: &mut Vec<u64>, flops: &mut Vec<u64>, layout: &Lay
 }
 
 /// The bits of a lane in the first planes.
-fn lane_bits(
+pub fn lane_bits(
     alloc: Global,
     words: &[u64],
     wide: usize,

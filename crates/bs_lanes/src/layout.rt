@@ -6,7 +6,7 @@ ghost use Rattle.bs_lanes.specs.Layout.{placed_net, placed_const, placed_mode, p
 
 use crate::levels::by_level;
 use crate::places::places_of;
-use crate::program::{Stretch, place, stretches_of};
+use crate::program::{GateStretch, place, stretches_of};
 use bs_bits::{List, NoMemory};
 use bs_net::{Const, Flop, Mode, NetId, Netlist};
 use std::alloc::Global;
@@ -26,7 +26,7 @@ pub(crate) struct Layout {
     pub flops: List<Flop>,
     pub consts: List<Const>,
     /// The gates, each behind those whose outputs it reads.
-    pub program: List<Stretch>,
+    pub program: List<GateStretch>,
 }
 
 /// The places of some nets.

@@ -10,6 +10,9 @@
 //! Of planes: `plane` (one plane read, written, complemented, widened), `planes` (`Plane`, `Planes`: planes
 //! one behind another in flat words). Used above: a run's bits in some planes are `lane` (`specs/Planes`),
 //! lanes counted from 0; `IsPlane` says what a plane has in each lane.
+//!
+//! Why: planes lie in the order of evaluation, because in the order of nets a step took 1.3 times as long. Levels go
+//! round the kinds of gates, so that gates of one kind stand in a row.
 #![tactic(auto)]
 
 mod gates;
@@ -25,6 +28,6 @@ mod planes;
 mod program;
 mod widths;
 
-pub use lanes::Lanes;
+pub use lanes::{Lanes, lane_bits};
 pub use plane::{inverse, lane_bit};
 pub use planes::{Plane, Planes, put_bit};

@@ -11,7 +11,7 @@ use crate::layout::Layout;
 use crate::loads::load;
 use crate::pairs::settle_pairs;
 use crate::plane::{plane_at, put_plane};
-use crate::program::Stretch;
+use crate::program::GateStretch;
 use bs_net::{Const, Flop, Gate, NetId};
 
 /// Shows some planes on some nets.
@@ -52,18 +52,23 @@ fn settle_gates<const N: usize>(nets: &mut [u64], gates: &[Gate])
 }
 
 /// Makes the outputs of a stretch of gates show their values, in order.
-fn settle_stretch<const N: usize>(nets: &mut [u64], stretch: &Stretch)
+fn settle_stretch<const N: usize>(nets: &mut [u64], stretch: &GateStretch)
     requires { All (HasGate N nets.old) (stretch_gates stretch.now) }
     ensures { RunsAll N (λ r. map gate_write (stretch_gates stretch.now)) nets.old nets.new }
 {
     match stretch {
-        Stretch::Pairs(kind, start, pairs) => settle_pairs::<N>(nets, *kind, *start, pairs.slice()),
-        Stretch::Others(gates) => settle_gates::<N>(nets, gates.slice()),
+        GateStretch::Pairs(kind, start, pairs) => settle_pairs::<N>(
+            nets,
+            *kind,
+            *start,
+            pairs.slice(),
+        ),
+        GateStretch::Others(gates) => settle_gates::<N>(nets, gates.slice()),
     }
 }
 
 /// Makes the outputs of all gates show their values, stretch by stretch.
-fn settle_program<const N: usize>(nets: &mut [u64], program: &[Stretch])
+fn settle_program<const N: usize>(nets: &mut [u64], program: &[GateStretch])
     requires { All (HasGate N nets.old) (program_gates program.now) }
     ensures { RunsAll N (λ r. map gate_write (program_gates program.now)) nets.old nets.new }
 {

@@ -23,7 +23,7 @@ pub(crate) struct Pair {
 /// What a gate of two inputs computes: whether their conjunction counts, whether their difference counts, and whether the
 /// whole is inverted.
 #[derive(Clone, Copy)]
-pub(crate) struct Table {
+pub(crate) struct PairTable {
     pub both: bool,
     pub one: bool,
     pub inverted: bool,

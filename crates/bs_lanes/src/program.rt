@@ -12,7 +12,7 @@ use std::alloc::Global;
 /// Gates that stand one behind another, with the places of planes for nets: those of one kind with two inputs each, which
 /// write one plane after another, or others.
 #[derive(Drop)]
-pub(crate) enum Stretch {
+pub(crate) enum GateStretch {
     /// Gates of two inputs and one kind: the place of the first output, and the inputs.
     Pairs(Kind, u32, List<Pair>),
     /// Other gates.
@@ -152,7 +152,7 @@ fn first_stretch(
     gates: &[Gate],
     order: &[u32],
     places: &[u32],
-) -> Result<(Stretch, usize), NoMemory>
+) -> Result<(GateStretch, usize), NoMemory>
     requires some { 0 < length order.now }
     requires numbered { All (λ i. i < length gates.now) order.now }
     requires placed { All (IsGateOf (length places.now)) gates.now }
@@ -163,11 +163,11 @@ fn first_stretch(
     let pairs = pairs_of(alloc, gates, order, places, gate.kind, start)?;
     let count = pairs.len();
     if count != 0 {
-        return Ok((Stretch::Pairs(gate.kind, start, pairs), count));
+        return Ok((GateStretch::Pairs(gate.kind, start, pairs), count));
     }
     let others = others_of(alloc, gates, order, places)?;
     let count = others.len();
-    Ok((Stretch::Others(others), count))
+    Ok((GateStretch::Others(others), count))
 }
 
 /// An order in stretches.
@@ -176,7 +176,7 @@ pub(crate) fn stretches_of(
     gates: &[Gate],
     order: &[u32],
     places: &[u32],
-) -> Result<List<Stretch>, NoMemory>
+) -> Result<List<GateStretch>, NoMemory>
     requires numbered { All (λ i. i < length gates.now) order.now }
     requires placed { All (IsGateOf (length places.now)) gates.now }
     ensures { IfOk result (λ stretches. program_gates stretches ≡ placed_gates places.now order.now gates.now) }

@@ -74,7 +74,7 @@ pub fn is_symbol(b: u8) -> bool
 }
 
 /// A letter of a base, in either case.
-pub fn is_base(b: u8) -> bool
+pub(crate) fn is_base(b: u8) -> bool
     ensures { result ≡ spec.is_base b }
 {
     matches!(b, b'b' | b'o' | b'd' | b'h' | b'B' | b'O' | b'D' | b'H')

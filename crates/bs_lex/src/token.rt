@@ -1,7 +1,7 @@
 //! Tokens, and what else stands in a text.
 
 /// The kind of a token.
-#[derive(Clone, Copy, Debug, PartialEq, Eq)]
+#[derive(Clone, Copy)]
 pub enum TokenKind {
     /// A name, or a keyword.
     Name,
@@ -24,7 +24,7 @@ pub enum TokenKind {
 }
 
 /// A token: its text is the slice of its source from `start` up to `stop`, which are byte offsets from 0.
-#[derive(Clone, Copy, Debug, PartialEq, Eq)]
+#[derive(Clone, Copy)]
 pub struct Token {
     pub kind: TokenKind,
     pub start: u32,
@@ -32,7 +32,7 @@ pub struct Token {
 }
 
 /// What stands next in a text.
-#[derive(Clone, Copy, Debug, PartialEq, Eq)]
+#[derive(Clone, Copy)]
 pub enum Next {
     /// A token, after white space and comments.
     Found(Token),
@@ -43,7 +43,7 @@ pub enum Next {
 }
 
 /// What begins at a place of a text.
-#[derive(Clone, Copy, Debug, PartialEq, Eq)]
+#[derive(Clone, Copy)]
 pub enum Piece {
     /// White space, a comment or a directive's line: this many bytes that make no token.
     Passed(usize),

@@ -1,7 +1,9 @@
 -- A text that grows keeps the bytes that it had.
-use Rattle.std.proofs.Common.{◌≡◌, ℕ, List, [], ◌∷◌, ◌++◌, length, take, refl, sym, ap, ◌∙◌}
+use Rattle.std.proofs.Common.{◌≡◌, ◌<◌, ◌≤◌, ◌^◌, arith, ℕ, List, [], ◌∷◌, ◌++◌, length, take, refl, sym, ap, ◌∙◌}
 use Rattle.std.proofs.lemmas.List.{append-nil, append_assoc}
 use Rattle.std.specs.Prelude.{OnErr, Result, Ok, Err}
+use Rattle.std.specs.Fmt.{decimal}
+use Rattle.std.proofs.lemmas.Fmt.{length-decimal-le}
 use Rattle.bs_log.specs.Writing.{Keeps}
 
 pub keeps_same : (old new : List ℕ) → new ≡ old → Keeps old new
@@ -26,3 +28,7 @@ cut_back old new kept = ap (take (length old)) kept.is ∙ front old kept.more
 pub on_err : {T E : Type 0} (r : Result T E) (X : Type 0) → X → OnErr r X
 on_err (Ok t) X x = tt
 on_err (Err e) X x = x
+
+-- a variable has at most ten digits
+pub few_digits : (n : ℕ) → n < 2 ^ 30 → length (decimal n) ≤ 10
+few_digits n small = length-decimal-le 10 n (omega arith) (omega (arith, small)) (omega (arith, small))

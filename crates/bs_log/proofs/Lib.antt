@@ -11,3 +11,17 @@ pub mod Histories
 pub mod Finishes
 pub mod StepLemmas
 pub mod FirstRefusals
+pub mod Found
+pub mod Raising
+pub mod Standing
+pub mod Units
+pub mod Lines
+pub mod Lemmas
+pub mod ShownLaws
+pub mod Walking
+pub mod Texts
+pub mod Rooms
+pub mod ShownExamples
+pub mod Behind
+pub mod Sound
+pub mod ClosedLemmas

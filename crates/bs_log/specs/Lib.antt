@@ -1,3 +1,4 @@
+-- what public contracts rest on
 pub mod History
 pub mod Propagation
 pub mod Refusal
@@ -11,3 +12,10 @@ pub mod LineText
 pub mod Writing
 pub mod LineReading
 pub mod LineForms
+pub mod Cnf
+pub mod Proof
+pub mod ShownLaw
+pub mod Clauses
+pub mod Lines
+-- what inner functions promise each other
+pub mod Walk

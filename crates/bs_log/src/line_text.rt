@@ -1,5 +1,5 @@
 //! The texts of the lines of a log.
-ghost use Rattle.std.specs.Prelude.{◌≡◌, ◌++◌, OnErr, OnOk};
+ghost use Rattle.std.specs.Prelude.{◌≡◌, ◌≤◌, ◌++◌, [], cond, codes, drop, OnErr, OnOk};
 ghost use Rattle.std.specs.List.{flat_map};
 ghost use Rattle.bs_log.specs.Writing.{Keeps};
 ghost use Rattle.bs_log.specs.LineText.{id_text, line_text, literal_text};
@@ -7,6 +7,7 @@ ghost use Rattle.bs_log.specs.LineText.{id_text, line_text, literal_text};
 use crate::line::Line;
 use bs_bits::{NoMemory, push_number, push_piece};
 use bs_clause::Lit;
+use itoa::write_digits;
 
 impl Line {
     #[tactic(auto, using(crate::proofs::Keeping::cut_back))]
@@ -24,17 +25,42 @@ impl Line {
     }
 }
 
+/// How many bytes the text of a literal has at most: a sign, the ten digits of a variable, a space.
+const LITERAL_BYTES: usize = 12;
+
+/// Puts a literal's sign before its text from a place on, and gives where the text then begins.
+fn put_sign(bytes: &mut [u8; LITERAL_BYTES], start: usize, positive: bool) -> usize
+    requires low { 1 ≤ start }
+    requires high { start ≤ 12 }
+    ensures within { result ≤ 12 }
+    ensures signed { drop result bytes.new ≡ cond positive [] (codes "-") ++ drop start bytes.old }
+{
+    if positive {
+        return start;
+    }
+    bytes[start - 1] = b'-';
+    start - 1
+}
+
+/// Writes a literal and a space at the end of some bytes, and gives where they begin.
+fn write_literal(bytes: &mut [u8; LITERAL_BYTES], literal: Lit) -> usize
+    ensures within { result ≤ 12 }
+    ensures written { drop result bytes.new ≡ literal_text literal }
+{
+    bytes[LITERAL_BYTES - 1] = b' ';
+    let start = write_digits(u64::from(literal.var().0), bytes, LITERAL_BYTES - 1);
+    put_sign(bytes, start, literal.positive())
+}
+
 /// Appends a literal and a space.
-#[tactic(auto, using(crate::proofs::Keeping::keeps_after, crate::proofs::Keeping::keeps_same, crate::proofs::Keeping::keeps_piece))]
+#[tactic(auto, using(crate::proofs::Keeping::keeps_same))]
 fn push_literal(text: &mut Vec<u8>, literal: Lit) -> Result<(), NoMemory>
     ensures ok { OnOk result (text.new.items ≡ text.old.items ++ literal_text literal) }
     ensures err { OnErr result (Keeps text.old.items text.new.items) }
 {
-    if !literal.positive() {
-        push_piece(text, b"-")?;
-    }
-    push_number(text, u64::from(literal.var().0))?;
-    push_piece(text, b" ")
+    let mut bytes = [0; LITERAL_BYTES];
+    let start = write_literal(&mut bytes, literal);
+    push_piece(text, &bytes[start..])
 }
 
 /// Appends an id and a space.

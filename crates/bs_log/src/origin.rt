@@ -1,7 +1,7 @@
 //! Where the clauses of a log come from.
 
 /// Where a clause of a log comes from.
-#[derive(Clone, Copy, Debug, PartialEq, Eq)]
+#[derive(Clone, Copy, PartialEq, Eq)]
 pub enum Origin {
     /// It stood before the first line.
     Axiom,

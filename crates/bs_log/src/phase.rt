@@ -1,7 +1,7 @@
 //! Where a log stands between two lines.
 
 /// Where a log stands between two lines.
-#[derive(Clone, Copy, Debug, PartialEq, Eq)]
+#[derive(Clone, Copy, PartialEq, Eq)]
 pub enum Phase {
     /// No step is under way, and none has just ended.
     BetweenSteps,

@@ -2,7 +2,7 @@
 
 /// Why a line of a log is refused (docs/FORMATS.md, "The log"). The reasons are tried in the order of the words `Order`,
 /// `NoClause`, `Duplicate`, `BadBlock`, `NotUnit`, `NotFalse`, `BadEnd`.
-#[derive(Clone, Copy, Debug, PartialEq, Eq)]
+#[derive(Clone, Copy, PartialEq, Eq)]
 pub enum Why {
     /// The line does not stand where it may, does not give the next id, or lists ids that do not ascend; or the log ends
     /// before its last step does.

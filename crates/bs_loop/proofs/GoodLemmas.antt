@@ -22,20 +22,20 @@ use Rattle.bs_scan.specs.Present.{Present}
 use Rattle.bs_report.specs.declared.report.Step.{Step}
 use Rattle.bs_report.specs.declared.report.Budgets.{Budgets}
 use Rattle.bs_report.specs.declared.report.Report.{Report}
-use Rattle.bs_report_good.proofs.LoggedLemmas.{good_is_valid}
-use Rattle.bs_report_good.specs.Chain.{present_of}
-use Rattle.bs_report_good.specs.Trace.{IsTrace, trace_end, trace_inputs, trace_states}
+use Rattle.bs_report.proofs.LoggedLemmas.{good_is_valid}
+use Rattle.bs_report.specs.Chain.{present_of}
+use Rattle.bs_report.specs.Trace.{IsTrace, trace_end, trace_inputs, trace_states}
 use Rattle.bs_report.specs.declared.report.Stop.{Stop}
-use Rattle.bs_report_good.specs.Stop.{StopsFor}
-use Rattle.bs_report_good.specs.Good.{IsGood}
-use Rattle.bs_report_good.specs.Valid.{finishes_in, is_right_finish, IsLogged, IsValid}
+use Rattle.bs_report.specs.Stop.{StopsFor}
+use Rattle.bs_report.specs.Good.{IsGood}
+use Rattle.bs_report.specs.Valid.{finishes_in, is_right_finish, IsLogged, IsValid}
 use Rattle.bs_preimage.specs.Preimage.{PreimageState}
 use Rattle.bs_loop.specs.Made.{encoding_in, activation_at, IsLoggedStep}
 use Rattle.bs_loop.specs.Bound.{HasBound}
 use Rattle.bs_solve.specs.Budget.{HasFewLemmas}
 use Rattle.bs_scan.specs.Crash.{IsCrash}
-use Rattle.bs_report_good.specs.Progress.{GoesBack}
-use Rattle.bs_report_good.proofs.EndLemmas.{goes_back}
+use Rattle.bs_report.specs.Progress.{GoesBack}
+use Rattle.bs_report.proofs.TraceEndLemmas.{goes_back}
 use Rattle.bs_loop.specs.Report.{IsOfWay, IsAlikeButLog}
 use Rattle.bs_loop.specs.Way.{HasEnded}
 

@@ -21,7 +21,7 @@ use Rattle.bs_scan.specs.Moments.{Run, Moment, moment, IsMoment, run_of, state_a
 use Rattle.bs_scan.specs.Present.{LeadsInto}
 use Rattle.bs_scan.specs.Signature.{predecessors}
 use Rattle.bs_scan.proofs.SignatureLemmas.{bits_same_is}
-use Rattle.bs_chip.specs.declared.replay.Hit.{Hit}
+use Rattle.bs_chip.specs.declared.first_hit.Hit.{Hit}
 use Rattle.bs_encode.specs.Assuming.{block_for}
 use Rattle.bs_report.specs.declared.report.Before.{Before}
 use Rattle.bs_report.specs.declared.report.Budgets.{Budgets}
@@ -30,16 +30,16 @@ use Rattle.bs_report.specs.declared.report.HitLine.{HitLine}
 use Rattle.bs_report.specs.declared.report.ListEnd.{ListEnd}
 use Rattle.bs_report.specs.declared.report.Step.{Step}
 use Rattle.bs_report.specs.declared.report.ListEnd.TheVariants.{Finished, Candidates, Conflicts}
-use Rattle.bs_report_good.specs.Step.{listed, hit_of, Ascend, IsCandidate, IsRightStep, IsRightEnd}
-use Rattle.bs_report_good.specs.Trace.{end_or, input_for, trace_end}
-use Rattle.bs_report_good.specs.Valid.{is_right_before, HaveBefores, blocks_due, are_right_blocks, blocks_in}
-use Rattle.bs_report_good.proofs.ExecutionLemmas.{cand_for}
-use Rattle.bs_report_good.proofs.ProgressLemmas.{hit_at}
+use Rattle.bs_report.specs.Step.{listed, hit_of, Ascend, IsCandidate, IsRightStep, IsRightEnd}
+use Rattle.bs_report.specs.Trace.{end_or, input_for, trace_end}
+use Rattle.bs_report.specs.Valid.{is_right_before, HaveBefores, blocks_due, are_right_blocks, blocks_in}
+use Rattle.bs_report.proofs.ExecutionLemmas.{cand_for}
+use Rattle.bs_report.proofs.ProgressLemmas.{hit_at}
 use Rattle.bs_preimage.specs.declared.listing.Listing.{Listing}
 use Rattle.bs_preimage.specs.Listed.{HasListed}
 use Rattle.bs_preimage.specs.Preimage.{PreimageState, encoding_in, next_activation}
 use Rattle.bs_preimage_recorded.proofs.OwnLemmas.{leads_on, state_next}
-use Rattle.bs_loop.specs.declared.known.Reach.{Reach}
+use Rattle.bs_loop.specs.declared.known.SearchExtent.{SearchExtent}
 use Rattle.bs_loop.specs.KnownCand.{IsAnswered}
 use Rattle.bs_loop.specs.HitInput.{goes_to, own_at, own_input, put_input, put_own, TakesRecorded, TracesEndAsRecorded}
 use Rattle.bs_loop.specs.Recorded.{recorded_at}
@@ -277,7 +277,7 @@ hit_moments r now stored listing None line = tt
 hit_moments r now stored listing (Some k) line = (hit_at (crash_of r now) (step_of now stored listing (Some k)) (line_of k) line).run_cycle
 
 pub looked_with : (r : Recording) (budgets : Budgets) (old new : PreimageState) (now : Dump) (stored : List Bool) (at : Option Moment)
-    (listing after : Listing) (hit : Option Hit) (reach : Reach) → IsRecording r → old.circuit ≡ r.circuit →
+    (listing after : Listing) (hit : Option Hit) (reach : SearchExtent) → IsRecording r → old.circuit ≡ r.circuit →
     HasLookedFrom r budgets old new now stored at listing hit reach → after.end ≡ listing.end →
     after.cands ≡ put_own (own_input r now.state hit) listing.cands → HasLookedFrom r budgets old new now stored at after hit reach
 looked_with r budgets old new now stored at listing after hit reach sound circuits from ended cands =
@@ -299,7 +299,7 @@ looked_with r budgets old new now stored at listing after hit reach sound circui
     }
 
 pub takes_with : (r : Recording) (budgets : Budgets) (old new : PreimageState) (now : Dump) (stored : List Bool) (at : Option Moment)
-    (listing after : Listing) (hit : Option Hit) (reach : Reach) → HasLookedFrom r budgets old new now stored at listing hit reach →
+    (listing after : Listing) (hit : Option Hit) (reach : SearchExtent) → HasLookedFrom r budgets old new now stored at listing hit reach →
     after.end ≡ listing.end → after.cands ≡ put_own (own_input r now.state hit) listing.cands →
     TakesRecorded r.circuit r.runs (step_of now stored after hit)
 takes_with r budgets old new now stored at listing after hit reach from ended cands =

@@ -17,8 +17,8 @@ use Rattle.bs_chip.proofs.MomentLemmas.{first_found, none_found}
 use Rattle.bs_report.specs.declared.report.Cand.{Cand}
 use Rattle.bs_report.specs.declared.report.ListEnd.{ListEnd}
 use Rattle.bs_report.specs.declared.report.ListEnd.TheVariants.{Finished, Candidates, Conflicts}
-use Rattle.bs_report_good.specs.Step.{listed, IsCandidate, IsRightEnd}
-use Rattle.bs_report_good.proofs.GoodLemmas.{listed_member}
+use Rattle.bs_report.specs.Step.{listed, IsCandidate, IsRightEnd}
+use Rattle.bs_report.proofs.GoodLemmas.{listed_member}
 use Rattle.bs_stim.specs.declared.limits.TheConstants.{MAX_CYCLES}
 use Rattle.bs_preimage.specs.declared.listing.Listing.{Listing}
 use Rattle.bs_preimage.specs.Preimage.{PreimageState}
@@ -31,8 +31,8 @@ use Rattle.bs_preimage_recorded.specs.Search.{asked_in, IsCutAt, SoughtSooner, S
 use Rattle.bs_loop.specs.Recorded.{cand_at, known_before, StandsIn}
 use Rattle.bs_loop.proofs.MeetLemmas.{IsHeld, held_wide}
 use Rattle.bs_loop.specs.declared.known.SearchAnswer.{SearchAnswer}
-use Rattle.bs_loop.specs.declared.known.Reach.{Reach}
-use Rattle.bs_loop.specs.declared.known.Reach.TheVariants.{Whole, Limited, Unanswered}
+use Rattle.bs_loop.specs.declared.known.SearchExtent.{SearchExtent}
+use Rattle.bs_loop.specs.declared.known.SearchExtent.TheVariants.{Whole, Limited, Unanswered}
 use Rattle.bs_loop.specs.KnownCand.{floor_of, known_by, seen_at, seen_by, sight_by, IsOfFirst, IsOfNone, HasSooner, IsKnown, IsAsked, IsAnswered, Reaches, Sees}
 use Rattle.bs_loop.proofs.RecordedLemmas.{earlier_moment, known_is_right, known_is}
 
@@ -337,7 +337,7 @@ met_counted r now stored known first old new k b listing circuits choices whole 
 
 -- ---- what a search has seen of a list
 
-seen_whole : (r : Recording) (now : Dump) (stored : List Bool) (b : ℕ) (known : Option Cand) (cands : List Cand) (first : Option Moment) (reach : Reach) →
+seen_whole : (r : Recording) (now : Dump) (stored : List Bool) (b : ℕ) (known : Option Cand) (cands : List Cand) (first : Option Moment) (reach : SearchExtent) →
     Reaches r now.state stored now.older b known first reach →
     (MatchOption known (IsOfNone r (asked_in r now.state stored now.older) first) (IsOfFirst r (asked_in r now.state stored now.older) first) →
     first_moment r.circuit r.runs (listed cands) ≡ first_moment r.circuit r.runs (asked_in r now.state stored now.older)) →

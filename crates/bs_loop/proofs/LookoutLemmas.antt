@@ -9,7 +9,7 @@ use Rattle.bs_preimage.specs.declared.listing.Listing.{Listing}
 use Rattle.bs_preimage.specs.Asking.{KnowsRight, HasAsked}
 use Rattle.bs_preimage.specs.Listed.{HasListed, IsRightCand}
 use Rattle.bs_preimage.specs.Preimage.{PreimageState}
-use Rattle.bs_loop.specs.declared.lookout.Lookout.{Lookout}
+use Rattle.bs_loop.specs.declared.recorded_source.Lookout.{Lookout}
 use Rattle.bs_loop.specs.KnownCand.{IsAsked}
 use Rattle.bs_loop.specs.Lookout.{Knows}
 use Rattle.bs_loop.specs.Turn.{HasListedFrom}

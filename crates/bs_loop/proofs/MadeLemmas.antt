@@ -16,7 +16,7 @@ use Rattle.bs_scan.specs.Choice.{depth_of}
 use Rattle.bs_scan.specs.Dump.{signatures_of}
 use Rattle.bs_scan.specs.Present.{Present, present_in}
 use Rattle.bs_scan.specs.Crash.{Recording, Crash, crash_of, DumpFits}
-use Rattle.bs_chip.specs.declared.replay.Hit.{Hit}
+use Rattle.bs_chip.specs.declared.first_hit.Hit.{Hit}
 use Rattle.bs_encode.specs.Tables.{lit}
 use Rattle.bs_encode.specs.Assuming.{assumptions_for, block_for, steps_from, problem_of}
 use Rattle.bs_encode.proofs.AssumingLemmas.{length_steps_from, steps_from_more}
@@ -27,11 +27,11 @@ use Rattle.bs_report.specs.declared.report.ListEnd.TheVariants.{Candidates, Conf
 use Rattle.bs_report.specs.declared.report.Step.{Step}
 use Rattle.bs_report.specs.declared.report.Budgets.{Budgets}
 use Rattle.bs_report.specs.Text.{IsOfDepth}
-use Rattle.bs_report_good.specs.Step.{listed, IsRightStep}
-use Rattle.bs_report_good.specs.Chain.{present_of}
-use Rattle.bs_report_good.specs.Valid.{HaveBefores, blocks_due, are_right_blocks, blocks_in, is_right_finish, finishes_in}
-use Rattle.bs_report_good.specs.Progress.{ListsBefore}
-use Rattle.bs_report_good.proofs.LoopLemmas.{follow_more, before_more}
+use Rattle.bs_report.specs.Step.{listed, IsRightStep}
+use Rattle.bs_report.specs.Chain.{present_of}
+use Rattle.bs_report.specs.Valid.{HaveBefores, blocks_due, are_right_blocks, blocks_in, is_right_finish, finishes_in}
+use Rattle.bs_report.specs.Progress.{ListsBefore}
+use Rattle.bs_report.proofs.LoopLemmas.{follow_more, before_more}
 use Rattle.bs_preimage.specs.declared.listing.Listing.{Listing}
 use Rattle.bs_preimage.specs.Preimage.{PreimageState, next_activation}
 use Rattle.bs_preimage.specs.Listed.{HasListed}
@@ -39,7 +39,7 @@ use Rattle.bs_loop.specs.Made.{encoding_in, activation_at, IsLoggedStep, state_a
 use Rattle.bs_loop.specs.HitInput.{TakesRecorded}
 use Rattle.bs_loop.specs.Recorded.{last_moment}
 use Rattle.bs_loop.specs.declared.known.SearchAnswer.{SearchAnswer}
-use Rattle.bs_loop.specs.declared.known.Reach.{Reach}
+use Rattle.bs_loop.specs.declared.known.SearchExtent.{SearchExtent}
 use Rattle.bs_loop.specs.KnownCand.{HasSooner, IsAnswered, IsAsked}
 use Rattle.bs_loop.specs.Turn.{step_of, HasLookedBack, HasLookedFrom, IsStepBack}
 
@@ -109,7 +109,7 @@ lists_before r dump steps old new now at stored known answer k b listing hit las
     }
 
 step_made : (r : Recording) (dump : Dump) (budgets : Budgets) (steps : List Step) (old new : PreimageState) (now : Dump) (at : Option Moment)
-    (stored : List Bool) (listing : Listing) (hit : Option Hit) (reach : Reach) →
+    (stored : List Bool) (listing : Listing) (hit : Option Hit) (reach : SearchExtent) →
     HasMade (crash_of r dump) budgets steps old → StandsAt (crash_of r dump) steps now → DumpFits r.circuit r.choice now → at ≡ last_moment steps →
     signatures_of now ≡ stored ∷ option_to_list now.older →
     HasLookedFrom r budgets old new now stored at listing hit reach → TakesRecorded r.circuit r.runs (step_of now stored listing hit) →

@@ -13,12 +13,12 @@ use Rattle.bs_scan.specs.Crash.{Recording, crash_of, DumpFits}
 use Rattle.bs_scan.specs.Moments.{Moment, moment, first_moment, state_of}
 use Rattle.bs_scan.specs.Present.{present_in}
 use Rattle.bs_scan.proofs.CrashLemmas.{dump_at_fits, present_at}
-use Rattle.bs_chip.specs.declared.replay.Hit.{Hit}
+use Rattle.bs_chip.specs.declared.first_hit.Hit.{Hit}
 use Rattle.bs_report.specs.declared.report.Cand.{Cand}
 use Rattle.bs_report.specs.declared.report.HitLine.{HitLine}
-use Rattle.bs_report_good.specs.Step.{listed, hit_of, IsCandidate}
-use Rattle.bs_report_good.specs.Chain.{present_of_hit}
-use Rattle.bs_report_good.proofs.ExecutionLemmas.{led_widths}
+use Rattle.bs_report.specs.Step.{listed, hit_of, IsCandidate}
+use Rattle.bs_report.specs.Chain.{present_of_hit}
+use Rattle.bs_report.proofs.ExecutionLemmas.{led_widths}
 use Rattle.bs_loop.specs.Turn.{line_of, HasItsDump}
 
 -- the dump of a hit fits the chip

@@ -31,13 +31,13 @@ use Rattle.bs_report.specs.declared.report.Budgets.{Budgets}
 use Rattle.bs_report.specs.declared.report.Report.{Report}
 use Rattle.bs_clause.specs.Literal.{Clause}
 use Rattle.bs_encode.specs.Assuming.{assumptions_for}
-use Rattle.bs_report_good.specs.Chain.{present_after, present_of, present_of_hit, Follow}
-use Rattle.bs_report_good.specs.Trace.{hit_state, led_to, end_or, trace_end, IsTrace}
-use Rattle.bs_report_good.specs.Step.{IsRightStep}
+use Rattle.bs_report.specs.Chain.{present_after, present_of, present_of_hit, Follow}
+use Rattle.bs_report.specs.Trace.{hit_state, led_to, end_or, trace_end, IsTrace}
+use Rattle.bs_report.specs.Step.{IsRightStep}
 use Rattle.bs_report.specs.Text.{state_at, IsOfDepth, HasEndText, HasHitText, HasStepText, HasReportText}
 use Rattle.bs_report.proofs.TraceLemmas.{last_state}
-use Rattle.bs_report_good.specs.Valid.{is_right_before, HaveBefores, finishes_in, is_right_finish}
-use Rattle.bs_report_good.proofs.ProgressLemmas.{hit_at, all_at}
+use Rattle.bs_report.specs.Valid.{is_right_before, HaveBefores, finishes_in, is_right_finish}
+use Rattle.bs_report.proofs.ProgressLemmas.{hit_at, all_at}
 use Rattle.bs_preimage.specs.Preimage.{PreimageState}
 use Rattle.bs_loop.specs.Budget.{IsBudget}
 use Rattle.bs_loop.specs.Made.{encoding_in, activation_at}

@@ -18,8 +18,8 @@ use Rattle.bs_scan.specs.Present.{Present}
 use Rattle.bs_scan.proofs.CrashLemmas.{present_at}
 use Rattle.bs_scan.proofs.SignatureLemmas.{bits_same, came_from, length_state}
 use Rattle.bs_report.specs.declared.report.Before.{Before}
-use Rattle.bs_report_good.specs.Step.{IsCandidate}
-use Rattle.bs_report_good.specs.Valid.{is_right_before}
+use Rattle.bs_report.specs.Step.{IsCandidate}
+use Rattle.bs_report.specs.Valid.{is_right_before}
 use Rattle.bs_preimage.specs.Listed.{IsRightCand}
 use Rattle.bs_preimage_recorded.proofs.OwnLemmas.{input_width, leads_on, state_next}
 use Rattle.bs_loop.specs.Recorded.{recorded_at, before_at, cand_at, known_before, StandsIn}

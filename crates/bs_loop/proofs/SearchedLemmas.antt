@@ -5,21 +5,21 @@ use Rattle.std.specs.Prelude.{Result, Ok, Err, IfOk, option_map, slice_get}
 use Rattle.bs_scan.specs.declared.dump.Dump.{Dump}
 use Rattle.bs_scan.specs.Crash.{Recording}
 use Rattle.bs_scan.specs.Moments.{Moment, state_of, first_moment}
-use Rattle.bs_chip.specs.declared.replay.Hit.{Hit}
+use Rattle.bs_chip.specs.declared.first_hit.Hit.{Hit}
 use Rattle.bs_report.specs.declared.report.Budgets.{Budgets}
 use Rattle.bs_report.specs.declared.report.Cand.{Cand}
 use Rattle.bs_report.specs.declared.report.HitLine.{HitLine}
 use Rattle.bs_report.specs.declared.report.ListEnd.{ListEnd}
 use Rattle.bs_report.specs.declared.report.ListEnd.TheVariants.{Finished, Candidates, Conflicts}
 use Rattle.bs_report.specs.declared.report.Step.{Step}
-use Rattle.bs_report_good.specs.Step.{listed}
+use Rattle.bs_report.specs.Step.{listed}
 use Rattle.bs_preimage.specs.declared.listing.Listing.{Listing}
 use Rattle.bs_preimage.specs.Preimage.{PreimageState}
 use Rattle.bs_preimage.specs.Listed.{HasListed}
 use Rattle.bs_preimage_recorded.specs.Search.{asked_in}
 use Rattle.bs_loop.specs.declared.known.SearchAnswer.{SearchAnswer}
-use Rattle.bs_loop.specs.declared.known.Reach.{Reach}
-use Rattle.bs_loop.specs.declared.known.Reach.TheVariants.{Whole, Limited, Unanswered}
+use Rattle.bs_loop.specs.declared.known.SearchExtent.{SearchExtent}
+use Rattle.bs_loop.specs.declared.known.SearchExtent.TheVariants.{Whole, Limited, Unanswered}
 use Rattle.bs_loop.specs.KnownCand.{reach_by, IsAsked, Reaches}
 use Rattle.bs_loop.specs.Searched.{HitsBy, HitsFirst, AreSearched, WereSearched, IsOneSearched, IsTurnSearched, is_last_cut, TellsCut}
 use Rattle.bs_loop.specs.Turn.{step_of, HasLookedFrom}
@@ -51,7 +51,7 @@ asked_met r now stored known first old new k b listing circuits choices h l Cand
 asked_met r now stored known first old new k b listing circuits choices h l Conflicts e spent = absurd (spent refl)
 
 given_hits : (r : Recording) (budgets : Budgets) (old new : PreimageState) (now : Dump) (stored : List Bool) (at : Option Moment) (listing : Listing)
-    (hit : Option Hit) (reach : Reach) (answer : SearchAnswer) (given_reach : Reach) → old.circuit ≡ r.circuit → old.choice ≡ r.choice →
+    (hit : Option Hit) (reach : SearchExtent) (answer : SearchAnswer) (given_reach : SearchExtent) → old.circuit ≡ r.circuit → old.choice ≡ r.choice →
     (from : HasLookedFrom r budgets old new now stored at listing hit reach) →
     Reaches r now.state stored now.older budgets.conflicts from.known answer.first given_reach →
     HitsBy r budgets.conflicts (step_of now stored listing hit) given_reach
@@ -65,7 +65,7 @@ given_hits r budgets old new now stored at listing hit reach answer (Limited m) 
 given_hits r budgets old new now stored at listing hit reach answer (Unanswered m) circuits choices from h = h
 
 looked_hits : (r : Recording) (budgets : Budgets) (old new : PreimageState) (now : Dump) (stored : List Bool) (at : Option Moment) (listing : Listing)
-    (hit : Option Hit) (reach : Reach) → old.circuit ≡ r.circuit → old.choice ≡ r.choice →
+    (hit : Option Hit) (reach : SearchExtent) → old.circuit ≡ r.circuit → old.choice ≡ r.choice →
     HasLookedFrom r budgets old new now stored at listing hit reach → HitsBy r budgets.conflicts (step_of now stored listing hit) reach
 looked_hits r budgets old new now stored at listing hit reach circuits choices from = by from.answered.either
   where
@@ -86,27 +86,27 @@ looked_hits r budgets old new now stored at listing hit reach circuits choices f
 
 -- the step of a list
 pub step_hits : (r : Recording) (budgets : Budgets) (old new : PreimageState) (now : Dump) (stored : List Bool) (at : Option Moment) (listing : Listing)
-    (hit : Option Hit) (reach : Reach) (step : Step) → old.circuit ≡ r.circuit → old.choice ≡ r.choice →
+    (hit : Option Hit) (reach : SearchExtent) (step : Step) → old.circuit ≡ r.circuit → old.choice ≡ r.choice →
     HasLookedFrom r budgets old new now stored at listing hit reach → step ≡ step_of now stored listing hit → HitsFirst r budgets.conflicts step reach
 step_hits r budgets old new now stored at listing hit reach step circuits choices from is =
     subst (λ (s : Step). HitsFirst r budgets.conflicts s reach) (sym is)
     (record { hit = looked_hits r budgets old new now stored at listing hit reach circuits choices from })
 
-pub turn_searched : {A E : Type 0} (r : Recording) (b : ℕ) (steps more : List Step) (reaches longer : List Reach) (step : Step) (reach : Reach)
+pub turn_searched : {A E : Type 0} (r : Recording) (b : ℕ) (steps more : List Step) (reaches longer : List SearchExtent) (step : Step) (reach : SearchExtent)
     (result : Result A E) → IfOk result (λ _. more ≡ steps ++ step ∷ []) → IfOk result (λ _. longer ≡ reaches ++ reach ∷ []) →
     HitsFirst r b step reach → IfOk result (λ _. IsTurnSearched r b steps more reaches longer)
 turn_searched r b steps more reaches longer step reach (Ok done) made noted hits =
     record { either = inr (record { step = step; reach = reach; made = made; noted = noted; hits = hits }) }
 turn_searched r b steps more reaches longer step reach (Err want) made noted hits = tt
 
-pub none_searched : (r : Recording) (b : ℕ) (reaches : List Reach) → reaches ≡ [] → AreSearched r b [] reaches
+pub none_searched : (r : Recording) (b : ℕ) (reaches : List SearchExtent) → reaches ≡ [] → AreSearched r b [] reaches
 none_searched r b reaches is = subst (AreSearched r b []) (sym is) (record { count = refl; each = λ i step reach e f. cc })
 
-each_more : (P : Reach → Step → Type 0) (steps : List Step) (step : Step) (reaches : List Reach) (reach : Reach) → length reaches ≡ length steps →
-    ((i : ℕ) (s : Step) (x : Reach) → slice_get steps i ≡ Some s → slice_get reaches i ≡ Some x → P x s) → P reach step →
-    (i : ℕ) (s : Step) (x : Reach) → slice_get (steps ++ step ∷ []) i ≡ Some s → slice_get (reaches ++ reach ∷ []) i ≡ Some x → P x s
+each_more : (P : SearchExtent → Step → Type 0) (steps : List Step) (step : Step) (reaches : List SearchExtent) (reach : SearchExtent) → length reaches ≡ length steps →
+    ((i : ℕ) (s : Step) (x : SearchExtent) → slice_get steps i ≡ Some s → slice_get reaches i ≡ Some x → P x s) → P reach step →
+    (i : ℕ) (s : Step) (x : SearchExtent) → slice_get (steps ++ step ∷ []) i ≡ Some s → slice_get (reaches ++ reach ∷ []) i ≡ Some x → P x s
 each_more P [] step [] reach e h p zero s x is at =
-    let same : step ≡ s = cc in let noted : reach ≡ x = cc in subst (P x) same (subst (λ (y : Reach). P y step) noted p)
+    let same : step ≡ s = cc in let noted : reach ≡ x = cc in subst (P x) same (subst (λ (y : SearchExtent). P y step) noted p)
 each_more P [] step [] reach e h p (suc i) s x is at = cc
 each_more P [] step (b ∷ bs) reach e h p i s x is at = absurd (omega (arith, e))
 each_more P (t ∷ ts) step [] reach e h p i s x is at = absurd (omega (arith, e))
@@ -114,7 +114,7 @@ each_more P (t ∷ ts) step (b ∷ bs) reach e h p zero s x is at = h zero s x i
 each_more P (t ∷ ts) step (b ∷ bs) reach e h p (suc i) s x is at =
     each_more P ts step bs reach (omega (arith, e)) (λ j s x q a. h (suc j) s x q a) p i s x is at
 
-one_more : (r : Recording) (b : ℕ) (steps more : List Step) (reaches longer : List Reach) → AreSearched r b steps reaches →
+one_more : (r : Recording) (b : ℕ) (steps more : List Step) (reaches longer : List SearchExtent) → AreSearched r b steps reaches →
     IsOneSearched r b steps more reaches longer → AreSearched r b more longer
 one_more r b steps more reaches longer all one =
     subst (λ (l : List Step). AreSearched r b l longer) (sym one.made)
@@ -124,7 +124,7 @@ one_more r b steps more reaches longer all one =
       each = each_more (λ x s. HitsFirst r b s x) steps one.step reaches one.reach all.count all.each one.hits;
     }))
 
-pub searched_more : (r : Recording) (b : ℕ) (steps more : List Step) (reaches longer : List Reach) → AreSearched r b steps reaches →
+pub searched_more : (r : Recording) (b : ℕ) (steps more : List Step) (reaches longer : List SearchExtent) → AreSearched r b steps reaches →
     IsTurnSearched r b steps more reaches longer → AreSearched r b more longer
 searched_more r b steps more reaches longer all turn = by turn.either
   where
@@ -133,13 +133,13 @@ searched_more r b steps more reaches longer all turn = by turn.either
     by (inr one) = one_more r b steps more reaches longer all one
 
 -- what was searched for the steps of a result
-pub were_searched : {A E : Type 0} (r : Recording) (b : ℕ) (steps : A → List Step) (reaches : List Reach) (result : Result A E) →
+pub were_searched : {A E : Type 0} (r : Recording) (b : ℕ) (steps : A → List Step) (reaches : List SearchExtent) (result : Result A E) →
     IfOk result (λ way. AreSearched r b (steps way) reaches) → IfOk result (λ way. WereSearched r b (steps way))
 were_searched r b steps reaches (Ok way) are = record { reaches = reaches; are = are }
 were_searched r b steps reaches (Err want) are = tt
 
 -- and whether the search for the last of them was cut
-pub tells_cut : {A E : Type 0} (r : Recording) (b : ℕ) (steps : A → List Step) (reaches : List Reach) (cut : Bool) (result : Result A E) →
+pub tells_cut : {A E : Type 0} (r : Recording) (b : ℕ) (steps : A → List Step) (reaches : List SearchExtent) (cut : Bool) (result : Result A E) →
     cut ≡ is_last_cut reaches → IfOk result (λ way. AreSearched r b (steps way) reaches) → IfOk result (λ way. TellsCut r b (steps way) cut)
 tells_cut r b steps reaches cut (Ok way) is are = record { searched = record { reaches = reaches; are = are }; last = is }
 tells_cut r b steps reaches cut (Err want) is are = tt

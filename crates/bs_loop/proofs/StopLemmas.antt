@@ -15,9 +15,9 @@ use Rattle.bs_report.specs.declared.report.Stop.{Stop}
 use Rattle.bs_report.specs.declared.report.Stop.TheVariants.{Reset, Length, Nohit, Empty}
 use Rattle.bs_report.specs.declared.report.Budgets.{Budgets}
 use Rattle.bs_scan.specs.Crash.{Crash}
-use Rattle.bs_report_good.specs.Stop.{IsFinished, LastIs, StopsFor}
-use Rattle.bs_report_good.specs.Valid.{cause_of_end}
-use Rattle.bs_report_good.proofs.LoopLemmas.{last_more}
+use Rattle.bs_report.specs.Stop.{IsFinished, LastIs, StopsFor}
+use Rattle.bs_report.specs.Valid.{cause_of_end}
+use Rattle.bs_report.proofs.LoopLemmas.{last_more}
 use Rattle.bs_loop.specs.Made.{StandsAt}
 
 last_is : (P : Step → Type 0) (steps : List Step) (step : Step) → P step → LastIs (steps ++ step ∷ []) P

@@ -9,11 +9,11 @@ use Rattle.bs_report.specs.declared.report.HitLine.{HitLine}
 use Rattle.bs_report.specs.declared.report.Step.{Step}
 use Rattle.bs_report.specs.declared.report.Report.{Report}
 use Rattle.bs_scan.specs.Crash.{Crash}
-use Rattle.bs_report_good.specs.Step.{stored_of, IsCandidate, IsRightStep}
-use Rattle.bs_report_good.specs.Trace.{hit_state, input_for, trace_end}
-use Rattle.bs_report_good.specs.Good.{IsGood}
-use Rattle.bs_report_good.proofs.ProgressLemmas.{hit_at}
-use Rattle.bs_report_good.proofs.ExecutionLemmas.{cand_for}
+use Rattle.bs_report.specs.Step.{stored_of, IsCandidate, IsRightStep}
+use Rattle.bs_report.specs.Trace.{hit_state, input_for, trace_end}
+use Rattle.bs_report.specs.Good.{IsGood}
+use Rattle.bs_report.proofs.ProgressLemmas.{hit_at}
+use Rattle.bs_report.proofs.ExecutionLemmas.{cand_for}
 
 -- the input behind a step's hit, if it has one
 abbrev pub input_behind : Step → Option (List Bool)

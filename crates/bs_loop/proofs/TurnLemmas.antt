@@ -5,22 +5,22 @@ use Rattle.std.specs.Option.{option_to_list}
 use Rattle.bs_scan.specs.declared.dump.Dump.{Dump}
 use Rattle.bs_scan.specs.Crash.{Recording}
 use Rattle.bs_scan.specs.Dump.{signatures_of}
-use Rattle.bs_chip.specs.declared.replay.Hit.{Hit}
+use Rattle.bs_chip.specs.declared.first_hit.Hit.{Hit}
 use Rattle.bs_report.specs.declared.report.Step.{Step}
 use Rattle.bs_report.specs.declared.report.Stop.{Stop}
 use Rattle.bs_report.specs.declared.report.Budgets.{Budgets}
-use Rattle.bs_report_good.specs.Valid.{cause_of_end}
+use Rattle.bs_report.specs.Valid.{cause_of_end}
 use Rattle.bs_preimage.specs.declared.listing.Listing.{Listing}
 use Rattle.bs_preimage.specs.Preimage.{PreimageState}
 use Rattle.bs_scan.specs.Moments.{Moment, moment}
-use Rattle.bs_loop.specs.declared.known.Reach.{Reach}
+use Rattle.bs_loop.specs.declared.known.SearchExtent.{SearchExtent}
 use Rattle.bs_loop.specs.HitInput.{TakesRecorded}
 use Rattle.bs_loop.specs.Turn.{step_of, HasLookedFrom, HasStepped, HasStopped}
 
 -- what a turn has done, where the step stands behind the others, and the present is the moment hit
 turned_here : (r : Recording) (budgets : Budgets) (steps more : List Step) (old new : PreimageState) (now next : Dump)
     (at next_at : Option Moment) (stored : List Bool)
-    (listing : Listing) (step : Step) (reach : Reach) (hit : Option Hit) (stop : Option Stop) →
+    (listing : Listing) (step : Step) (reach : SearchExtent) (hit : Option Hit) (stop : Option Stop) →
     signatures_of now ≡ stored ∷ option_to_list now.older → HasLookedFrom r budgets old new now stored at listing hit reach → step ≡ step_of now stored listing hit →
     TakesRecorded r.circuit r.runs step → more ≡ steps ++ step ∷ [] →
     MatchOption hit (stop ≡ Some (cause_of_end step step.end)) (λ hit. (stop ≡ None) × (next ≡ hit.dump) × (next_at ≡ Some (moment hit.run hit.cycle))) →
@@ -48,7 +48,7 @@ turned_here r budgets steps more old new now next at next_at stored listing step
 
 pub turned : {E : Type 0} (r : Recording) (budgets : Budgets) (steps more : List Step) (old new : PreimageState) (now next : Dump)
     (at next_at : Option Moment) (stored : List Bool)
-    (listing : Listing) (step : Step) (reach : Reach) (hit : Option Hit) (result : Result (Option Stop) E) →
+    (listing : Listing) (step : Step) (reach : SearchExtent) (hit : Option Hit) (result : Result (Option Stop) E) →
     signatures_of now ≡ stored ∷ option_to_list now.older → HasLookedFrom r budgets old new now stored at listing hit reach → step ≡ step_of now stored listing hit →
     TakesRecorded r.circuit r.runs (step_of now stored listing hit) → IfOk result (λ _. more ≡ steps ++ step ∷ []) →
     IfOk result (λ stop. MatchOption hit (stop ≡ Some (cause_of_end step step.end)) (λ hit. (stop ≡ None) × (next ≡ hit.dump) × (next_at ≡ Some (moment hit.run hit.cycle)))) →

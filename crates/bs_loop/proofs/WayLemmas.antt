@@ -7,7 +7,7 @@ use Rattle.bs_scan.specs.declared.dump.Dump.{Dump}
 use Rattle.bs_scan.specs.Choice.{depth_of, IsDepth}
 use Rattle.bs_scan.proofs.CrashLemmas.{depth_is}
 use Rattle.bs_scan.specs.Present.{present_in}
-use Rattle.bs_chip.specs.declared.replay.Hit.{Hit}
+use Rattle.bs_chip.specs.declared.first_hit.Hit.{Hit}
 use Rattle.bs_scan.specs.Crash.{Recording, crash_of, DumpFits}
 use Rattle.bs_report.specs.declared.limits.TheConstants.{MAX_STEPS}
 use Rattle.bs_scan.specs.Moments.{Moment, moment}
@@ -17,12 +17,12 @@ use Rattle.bs_report.specs.declared.report.Stop.{Stop}
 use Rattle.bs_report.specs.declared.report.Stop.TheVariants.{Reset, Length}
 use Rattle.bs_report.specs.declared.report.Budgets.{Budgets}
 use Rattle.bs_report.specs.Text.{IsOfDepth}
-use Rattle.bs_report_good.specs.Step.{hit_of, IsRightStep}
-use Rattle.bs_report_good.specs.Valid.{HaveBefores}
-use Rattle.bs_report_good.specs.Chain.{present_of_hit, present_after}
-use Rattle.bs_report_good.specs.Stop.{StopsFor}
-use Rattle.bs_report_good.proofs.LoopLemmas.{last_present_more, last_more}
-use Rattle.bs_report_good.proofs.ProgressLemmas.{hit_at}
+use Rattle.bs_report.specs.Step.{hit_of, IsRightStep}
+use Rattle.bs_report.specs.Valid.{HaveBefores}
+use Rattle.bs_report.specs.Chain.{present_of_hit, present_after}
+use Rattle.bs_report.specs.Stop.{StopsFor}
+use Rattle.bs_report.proofs.LoopLemmas.{last_present_more, last_more}
+use Rattle.bs_report.proofs.ProgressLemmas.{hit_at}
 use Rattle.bs_preimage.specs.Preimage.{PreimageState, fresh}
 use Rattle.bs_loop.specs.Budget.{IsBudget}
 use Rattle.bs_loop.specs.HitInput.{TakesRecorded}

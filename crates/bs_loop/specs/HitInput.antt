@@ -6,14 +6,14 @@ use Rattle.bs_scan.specs.Seen.{is_shown, whole, Shows}
 use Rattle.bs_net.specs.Circuit.{Circuit, next}
 use Rattle.bs_scan.specs.Crash.{Crash, Recording}
 use Rattle.bs_scan.specs.Moments.{Run, run_of, state_at}
-use Rattle.bs_chip.specs.declared.replay.Hit.{Hit}
+use Rattle.bs_chip.specs.declared.first_hit.Hit.{Hit}
 use Rattle.bs_report.specs.declared.report.Before.{Before}
 use Rattle.bs_report.specs.declared.report.Cand.{Cand}
 use Rattle.bs_report.specs.declared.report.HitLine.{HitLine}
 use Rattle.bs_report.specs.declared.report.Step.{Step}
 use Rattle.bs_report.specs.declared.report.Report.{Report}
-use Rattle.bs_report_good.specs.Good.{IsGood}
-use Rattle.bs_report_good.specs.Trace.{input_for, trace_end}
+use Rattle.bs_report.specs.Good.{IsGood}
+use Rattle.bs_report.specs.Trace.{input_for, trace_end}
 use Rattle.bs_loop.specs.Recorded.{recorded_at}
 
 -- Where a step's present is known in part, and the input recorded at its hit leads to a state that shows it, the step lists this input for

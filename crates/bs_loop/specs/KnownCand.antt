@@ -8,7 +8,7 @@ use Rattle.bs_chip.specs.Lockstep.{IsFirstIn, NoneReached}
 use Rattle.bs_report.specs.declared.report.Cand.{Cand}
 use Rattle.bs_report.specs.declared.report.ListEnd.{ListEnd}
 use Rattle.bs_report.specs.declared.report.ListEnd.TheVariants.{Finished, Candidates, Conflicts}
-use Rattle.bs_report_good.specs.Step.{listed}
+use Rattle.bs_report.specs.Step.{listed}
 use Rattle.bs_preimage.specs.Listed.{IsRightCand}
 use Rattle.bs_preimage_recorded.specs.declared.search.Sought.{Sought}
 use Rattle.bs_preimage_recorded.specs.declared.search.Sought.TheVariants.{Found, NoMoment, Cut, Unsaid}
@@ -16,8 +16,8 @@ use Rattle.bs_preimage_recorded.specs.declared.search.TheConstants.{MAX_ASKS}
 use Rattle.bs_preimage_recorded.specs.Search.{asked_in, alike_before, IsUnknownAt, StaysOpen}
 use Rattle.bs_loop.specs.declared.known.SearchAnswer.{SearchAnswer}
 use Rattle.bs_loop.specs.declared.known.KnownCand.{KnownCand}
-use Rattle.bs_loop.specs.declared.known.Reach.{Reach}
-use Rattle.bs_loop.specs.declared.known.Reach.TheVariants.{Whole, Limited, Unanswered}
+use Rattle.bs_loop.specs.declared.known.SearchExtent.{SearchExtent}
+use Rattle.bs_loop.specs.declared.known.SearchExtent.TheVariants.{Whole, Limited, Unanswered}
 use Rattle.bs_loop.specs.declared.known.Sight.{Sight}
 use Rattle.bs_loop.specs.declared.known.Sight.TheVariants.{Told, Untold}
 
@@ -59,7 +59,7 @@ pub record IsLeftOpen (r : Recording) (present : Seen) (stored : List Bool) (old
 
 -- How far the recorded moments were searched for a predecessor of the present with these stored signatures, where b is the budget of a solve:
 -- the known candidate is of the first of all, or no moment is in one; or the search was cut.
-abbrev pub Reaches : Recording → Seen → List Bool → Option (List Bool) → ℕ → Option Cand → Option Moment → Reach → Type 0
+abbrev pub Reaches : Recording → Seen → List Bool → Option (List Bool) → ℕ → Option Cand → Option Moment → SearchExtent → Type 0
 Reaches r present stored older b known first Whole =
     MatchOption known (IsOfNone r (asked_in r present stored older) first) (IsOfFirst r (asked_in r present stored older) first)
 Reaches r present stored older b known first (Limited m) = IsCutFar r (asked_in r present stored older) stored m
@@ -95,13 +95,13 @@ pub record IsAnswered (r : Recording) (now : Dump) (stored : List Bool) (b : ℕ
   pub either : ((answer ≡ None) × (end ≢ Candidates)) ⊎ IsAsked r now stored b at known answer
 
 -- how far the search came for a list that may have asked: what is not asked about is all in the list
-abbrev pub reach_by : Option SearchAnswer → Reach
+abbrev pub reach_by : Option SearchAnswer → SearchExtent
 reach_by None = Whole
 reach_by (Some answer) = answer.reach
 
 -- ---- where a list is met
 
-abbrev pub seen_at : Option Moment → Reach → Sight
+abbrev pub seen_at : Option Moment → SearchExtent → Sight
 seen_at first Whole = Told first
 seen_at first (Limited m) = Untold
 seen_at first (Unanswered m) = Untold

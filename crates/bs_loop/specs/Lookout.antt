@@ -6,7 +6,7 @@ use Rattle.bs_scan.specs.Dump.{signatures_of}
 use Rattle.bs_report.specs.declared.report.Cand.{Cand}
 use Rattle.bs_loop.specs.KnownCand.{IsAsked}
 use Rattle.bs_loop.specs.Recorded.{StandsIn}
-use Rattle.bs_loop.specs.declared.lookout.Lookout.{Lookout}
+use Rattle.bs_loop.specs.declared.recorded_source.Lookout.{Lookout}
 
 -- its parts are of one chip, and the present has signatures
 pub record IsLooking (l : Lookout) : Type 0 where

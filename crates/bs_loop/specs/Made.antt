@@ -18,11 +18,11 @@ use Rattle.bs_report.specs.declared.report.Step.{Step}
 use Rattle.bs_report.specs.declared.report.Budgets.{Budgets}
 use Rattle.bs_report.specs.Text.{IsOfDepth}
 use Rattle.bs_scan.specs.Crash.{Crash}
-use Rattle.bs_report_good.specs.Step.{asked_of, IsRightStep, IsRightEnd}
-use Rattle.bs_report_good.specs.Chain.{present_of, last_present, Follow}
-use Rattle.bs_report_good.specs.Progress.{ListBefore}
+use Rattle.bs_report.specs.Step.{asked_of, IsRightStep, IsRightEnd}
+use Rattle.bs_report.specs.Chain.{present_of, last_present, Follow}
+use Rattle.bs_report.specs.Progress.{ListBefore}
 use Rattle.bs_solve.specs.Budget.{HasFewLemmas}
-use Rattle.bs_report_good.specs.Valid.{HaveBefores, blocks_due, are_right_blocks, blocks_in, is_right_finish, finishes_in}
+use Rattle.bs_report.specs.Valid.{HaveBefores, blocks_due, are_right_blocks, blocks_in, is_right_finish, finishes_in}
 use Rattle.bs_preimage.specs.Preimage.{PreimageState}
 use Rattle.bs_loop.specs.HitInput.{TakesRecorded}
 

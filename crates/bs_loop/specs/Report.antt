@@ -9,7 +9,7 @@ use Rattle.bs_report.specs.declared.report.Budgets.{Budgets}
 use Rattle.bs_report.specs.declared.report.Report.{Report}
 use Rattle.bs_report.specs.declared.report.Step.{Step}
 use Rattle.bs_report.specs.declared.report.Stop.{Stop}
-use Rattle.bs_report_good.specs.Trace.{trace_end, trace_inputs, trace_states}
+use Rattle.bs_report.specs.Trace.{trace_end, trace_inputs, trace_states}
 
 -- the report of these steps from a crash, and of the cause of their stop, whatever its log
 pub record IsOfWay (crash : Crash) (budgets : Budgets) (steps : List Step) (stop : Stop) (r : Report) : Type 0 where

@@ -5,22 +5,22 @@ use Rattle.bs_scan.specs.declared.dump.Dump.{Dump}
 use Rattle.bs_scan.specs.Crash.{Recording, crash_of, dump_at}
 use Rattle.bs_scan.specs.Dump.{signatures_of}
 use Rattle.bs_scan.specs.Moments.{Moment, moment}
-use Rattle.bs_chip.specs.declared.replay.Hit.{Hit}
+use Rattle.bs_chip.specs.declared.first_hit.Hit.{Hit}
 use Rattle.bs_report.specs.declared.report.Cand.{Cand}
 use Rattle.bs_report.specs.declared.report.HitLine.{HitLine}
 use Rattle.bs_report.specs.declared.report.Step.{Step}
 use Rattle.bs_report.specs.declared.report.Stop.{Stop}
 use Rattle.bs_report.specs.declared.report.Stop.TheVariants.{Reset}
 use Rattle.bs_report.specs.declared.report.Budgets.{Budgets}
-use Rattle.bs_report_good.specs.Step.{hit_of}
-use Rattle.bs_report_good.specs.Valid.{cause_of_end}
+use Rattle.bs_report.specs.Step.{hit_of}
+use Rattle.bs_report.specs.Valid.{cause_of_end}
 use Rattle.bs_preimage.specs.declared.listing.Listing.{Listing}
 use Rattle.bs_preimage.specs.Preimage.{PreimageState}
 use Rattle.bs_preimage.specs.Listed.{HasListed}
 use Rattle.bs_loop.specs.HitInput.{TakesRecorded}
 use Rattle.bs_loop.specs.KnownCand.{reach_by, IsAnswered}
 use Rattle.bs_loop.specs.declared.known.SearchAnswer.{SearchAnswer}
-use Rattle.bs_loop.specs.declared.known.Reach.{Reach}
+use Rattle.bs_loop.specs.declared.known.SearchExtent.{SearchExtent}
 
 -- the hit line of a hit
 abbrev pub line_of : Hit → HitLine
@@ -53,7 +53,7 @@ pub record HasListedFrom (r : Recording) (budgets : Budgets) (old new : Preimage
 
 -- the same with the first moment of a run in a listed state, and how far the recorded moments were searched
 pub record HasLookedFrom (r : Recording) (budgets : Budgets) (old new : PreimageState) (now : Dump) (stored : List Bool) (at : Option Moment)
-    (listing : Listing) (hit : Option Hit) (reach : Reach) : Type 0 where
+    (listing : Listing) (hit : Option Hit) (reach : SearchExtent) : Type 0 where
   pub known : Option Cand
   pub answer : Option SearchAnswer
   pub answered : IsAnswered r now stored budgets.conflicts at listing.end known answer
@@ -66,7 +66,7 @@ pub record IsStepBack (r : Recording) (budgets : Budgets) (old new : PreimageSta
   pub stored : List Bool
   pub held : signatures_of now ≡ stored ∷ option_to_list now.older
   pub listing : Listing
-  pub reach : Reach
+  pub reach : SearchExtent
   pub from : HasLookedFrom r budgets old new now stored at listing hit reach
   pub step_is : step ≡ step_of now stored listing hit
   pub takes : TakesRecorded r.circuit r.runs step

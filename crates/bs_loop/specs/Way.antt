@@ -5,7 +5,7 @@ use Rattle.bs_report.specs.declared.report.Step.{Step}
 use Rattle.bs_report.specs.declared.report.Stop.{Stop}
 use Rattle.bs_report.specs.declared.report.Budgets.{Budgets}
 use Rattle.bs_scan.specs.Crash.{Recording, Crash, crash_of, DumpFits}
-use Rattle.bs_report_good.specs.Stop.{StopsFor}
+use Rattle.bs_report.specs.Stop.{StopsFor}
 use Rattle.bs_preimage.specs.Preimage.{PreimageState}
 use Rattle.bs_scan.specs.Moments.{Moment}
 use Rattle.bs_loop.specs.Recorded.{StandsIn, last_moment}

@@ -6,10 +6,10 @@ ghost use Rattle.bs_scan.specs.Seen.{is_shown};
 ghost use Rattle.bs_scan.specs.Moments.{IsMoment, moment, run_of, state_at};
 ghost use Rattle.bs_loop.specs.HitInput.{goes_to, own_at, own_input, put_input, put_own};
 
-use crate::recorded::recorded_at;
+use crate::before_present::recorded_at;
 use bs_bits::{Bits, List, NoMemory};
 use bs_chip::{Chip, Hit};
-use bs_preimage::Listing;
+use bs_preimage::{Listing, copied_before};
 use bs_report::{Before, Cand};
 use bs_scan::Seen;
 use std::alloc::Global;
@@ -101,20 +101,6 @@ fn own_input(
     }
 }
 
-/// A copy of the state before a candidate, if one is named.
-fn copy_before(before: &Option<Before>) -> Result<Option<Before>, NoMemory>
-    ensures { IfOk result (λ copy. copy ≡ before.now) }
-{
-    match before {
-        None => Ok(None),
-        Some(before) => {
-            let state = before.state.copy()?;
-            let input = before.input.copy()?;
-            Ok(Some(Before { state, input }))
-        }
-    }
-}
-
 /// The input that belongs to a state, if the candidate has this state, or else the candidate's own.
 fn input_or<'a>(cand: &'a Cand, own: &'a Before) -> &'a Bits
     ensures { result.now ≡ (if bits_eq cand.now.state own.now.state then own.now.input else cand.now.input) }
@@ -132,7 +118,7 @@ fn put_input(cand: &Cand, own: &Before) -> Result<Cand, NoMemory>
 {
     let state = cand.state.copy()?;
     let input = input_or(cand, own).copy()?;
-    let before = copy_before(&cand.before)?;
+    let before = copied_before(&cand.before)?;
     Ok(Cand {
         state,
         input,

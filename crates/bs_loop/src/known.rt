@@ -8,11 +8,11 @@ ghost use Rattle.bs_scan.specs.Dump.{signatures_of};
 ghost use Rattle.bs_scan.specs.Moments.{moment, IsMoment};
 ghost use Rattle.bs_preimage_recorded.specs.Search.{IsCutAt, SoughtWithin};
 ghost use Rattle.bs_preimage_recorded.specs.declared.search.TheConstants.{MAX_ASKS};
-ghost use Rattle.bs_loop.specs.declared.known.Reach.TheVariants.{Whole};
+ghost use Rattle.bs_loop.specs.declared.known.SearchExtent.TheVariants.{Whole};
 ghost use Rattle.bs_loop.specs.KnownCand.{floor_of, known_by, reach_by, seen_at, seen_by, sight_by, IsKnown};
 ghost use Rattle.bs_loop.specs.Recorded.{known_before, StandsIn};
 
-use crate::recorded::known_before;
+use crate::before_present::known_before;
 use crate::steps::lent;
 use bs_bits::{Bits, NoMemory};
 use bs_chip::Chip;
@@ -23,7 +23,7 @@ use std::alloc::Global;
 
 /// How far the recorded moments were searched for the predecessors of a step.
 #[derive(Clone, Copy)]
-pub enum Reach {
+pub enum SearchExtent {
     /// The step hits the first moment of all, or none is in one, unless its list ended with conflicts.
     Whole,
     /// As many states as the limit were asked about, each with the hash of the stored signature. No moment before this one is in a
@@ -38,7 +38,7 @@ pub enum Reach {
 #[derive(Clone, Copy)]
 pub struct SearchAnswer {
     pub first: Option<Moment>,
-    pub reach: Reach,
+    pub reach: SearchExtent,
 }
 
 /// A candidate that is known, and what the search for it says.
@@ -58,7 +58,7 @@ pub enum Sight {
 }
 
 /// What a search says, from its parts.
-fn answer_of(first: Option<Moment>, reach: Reach) -> SearchAnswer
+fn answer_of(first: Option<Moment>, reach: SearchExtent) -> SearchAnswer
     ensures { result ≡ record { first = first; reach = reach } }
 {
     SearchAnswer { first, reach }
@@ -136,7 +136,7 @@ fn found_known(found: Recorded) -> KnownCand
 {
     let Recorded { run, cycle, cand } = found;
     let first = Some(Moment { run, cycle });
-    let reach = Reach::Whole;
+    let reach = SearchExtent::Whole;
     KnownCand {
         cand: Some(cand),
         answer: SearchAnswer { first, reach },
@@ -159,15 +159,27 @@ fn known_of(
     let first = floor_of(at);
     match sought {
         Sought::Found(found) => Ok(found_known(found)),
-        Sought::NoMoment => floor_known(alloc, chip, at, depth, answer_of(first, Reach::Whole)),
-        Sought::Cut(m) => floor_known(alloc, chip, at, depth, answer_of(None, Reach::Limited(m))),
+        Sought::NoMoment => floor_known(
+            alloc,
+            chip,
+            at,
+            depth,
+            answer_of(first, SearchExtent::Whole),
+        ),
+        Sought::Cut(m) => floor_known(
+            alloc,
+            chip,
+            at,
+            depth,
+            answer_of(None, SearchExtent::Limited(m)),
+        ),
         Sought::Unsaid(m) => {
             floor_known(
                 alloc,
                 chip,
                 at,
                 depth,
-                answer_of(None, Reach::Unanswered(m)),
+                answer_of(None, SearchExtent::Unanswered(m)),
             )
         }
     }
@@ -199,23 +211,23 @@ pub fn known_for<'a>(
 }
 
 /// How far the search came for a list: where nothing was asked, what leads to the present is all in the list.
-pub fn reach_of(answer: Option<SearchAnswer>) -> Reach
+pub fn reach_of(answer: Option<SearchAnswer>) -> SearchExtent
     ensures { result ≡ reach_by answer }
 {
     match answer {
-        None => Reach::Whole,
+        None => SearchExtent::Whole,
         Some(answer) => answer.reach,
     }
 }
 
 /// What is seen of a list by a search that came so far.
-fn seen_at(first: Option<Moment>, reach: Reach) -> Sight
+fn seen_at(first: Option<Moment>, reach: SearchExtent) -> Sight
     ensures { result ≡ seen_at first reach }
 {
     match reach {
-        Reach::Whole => Sight::Told(first),
-        Reach::Limited(_) => Sight::Untold,
-        Reach::Unanswered(_) => Sight::Untold,
+        SearchExtent::Whole => Sight::Told(first),
+        SearchExtent::Limited(_) => Sight::Untold,
+        SearchExtent::Unanswered(_) => Sight::Untold,
     }
 }
 

@@ -6,8 +6,8 @@ ghost use Rattle.bs_scan.specs.Dump.{signatures_of};
 ghost use Rattle.bs_scan.specs.Moments.{moment};
 ghost use Rattle.bs_scan.specs.Crash.{dump_at};
 ghost use Rattle.bs_scan.specs.Moments.{first_moment, IsMoment};
-ghost use Rattle.bs_report_good.specs.Step.{listed};
-ghost use Rattle.bs_report_good.specs.Valid.{cause_of_end};
+ghost use Rattle.bs_report.specs.Step.{listed};
+ghost use Rattle.bs_report.specs.Valid.{cause_of_end};
 ghost use Rattle.bs_loop.specs.Budget.{IsBudget};
 ghost use Rattle.bs_loop.specs.HitInput.{TakesRecorded};
 ghost use Rattle.bs_loop.specs.KnownCand.{Sees};
@@ -16,8 +16,8 @@ ghost use Rattle.bs_loop.specs.Searched.{IsTurnSearched};
 ghost use Rattle.bs_loop.specs.Turn.{line_of, step_of, HasListedFrom, HasLookedFrom, HasStepped, HasStopped};
 
 use crate::hit_input::take_recorded;
-use crate::known::{Reach, SearchAnswer, Sight, reach_of, sight_of};
-use crate::lookout::Lookout;
+use crate::known::{SearchAnswer, SearchExtent, Sight, reach_of, sight_of};
+use crate::recorded_source::Lookout;
 use crate::stop::cause_after;
 use bs_bits::{Bits, List, NoMemory};
 use bs_chip::{Chip, Hit};
@@ -36,10 +36,10 @@ struct Listed {
 
 /// A list of states, the first moment of a run in one of them, and how far the recorded moments were searched.
 #[derive(Drop)]
-struct Looked {
+struct ListedHit {
     listing: Listing,
     hit: Option<Hit>,
-    reach: Reach,
+    reach: SearchExtent,
 }
 
 /// The signature, lent, if there is one.
@@ -190,7 +190,7 @@ fn meet_from<'a>(
     at: Option<Moment>,
     stored: &Bits,
     budgets: &Budgets,
-) -> Result<Looked, NoMemory>
+) -> Result<ListedHit, NoMemory>
     requires finder { finder.old.recording ≡ chip.old.recording }
     requires circuit { preimage.old.circuit ≡ chip.old.recording.circuit }
     requires choice { preimage.old.choice ≡ chip.old.recording.choice }
@@ -209,7 +209,7 @@ fn meet_from<'a>(
     let sight = sight_of(at, answer, &listing.end);
     let hit = hit_in(alloc, chip, listing.cands.slice(), sight)?;
     let reach = reach_of(answer);
-    Ok(Looked {
+    Ok(ListedHit {
         listing,
         hit,
         reach,
@@ -226,7 +226,7 @@ fn look_from<'a>(
     at: Option<Moment>,
     stored: &Bits,
     budgets: &Budgets,
-) -> Result<Looked, NoMemory>
+) -> Result<ListedHit, NoMemory>
     requires finder { finder.old.recording ≡ chip.old.recording }
     requires circuit { preimage.old.circuit ≡ chip.old.recording.circuit }
     requires choice { preimage.old.choice ≡ chip.old.recording.choice }
@@ -241,13 +241,13 @@ fn look_from<'a>(
     ensures finder { finder.new.recording ≡ finder.old.recording }
 {
     chip.is_recording();
-    let Looked {
+    let ListedHit {
         listing,
         hit,
         reach,
     } = meet_from(alloc, chip, finder, preimage, now, at, stored, budgets)?;
     let with_input = take_recorded(alloc, chip, &now.state, &hit, listing)?;
-    Ok(Looked {
+    Ok(ListedHit {
         listing: with_input,
         hit,
         reach,
@@ -273,12 +273,12 @@ fn go_on(now: &mut Dump, at: &mut Option<Moment>, hit: Option<Hit>, cause: Stop)
 /// backtrace stops.
 fn advance(
     steps: &mut List<Step>,
-    searched: &mut List<Reach>,
+    searched: &mut List<SearchExtent>,
     now: &mut Dump,
     at: &mut Option<Moment>,
     step: Step,
     hit: Option<Hit>,
-    reach: Reach,
+    reach: SearchExtent,
 ) -> Result<Option<Stop>, NoMemory>
     ensures searched { IfOk result (λ _. searched.new ≡ searched.old ++ reach ∷ []) }
     ensures steps { IfOk result (λ _. steps.new ≡ steps.old ++ step ∷ []) }
@@ -299,7 +299,7 @@ pub fn turn<'a>(
     preimage: &mut Preimage<'_>,
     budgets: &Budgets,
     steps: &mut List<Step>,
-    searched: &mut List<Reach>,
+    searched: &mut List<SearchExtent>,
     now: &mut Dump,
     at: &mut Option<Moment>,
 ) -> Result<Option<Stop>, NoMemory>
@@ -319,7 +319,7 @@ pub fn turn<'a>(
         None => return Ok(Some(Stop::Reset)),
         Some(stored) => stored.copy()?,
     };
-    let Looked {
+    let ListedHit {
         listing,
         hit,
         reach,

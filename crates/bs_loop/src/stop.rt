@@ -1,6 +1,6 @@
 //! The cause for which a backtrace stops.
 ghost use Rattle.std.specs.Prelude.{◌≡◌};
-ghost use Rattle.bs_report_good.specs.Valid.{cause_of_end};
+ghost use Rattle.bs_report.specs.Valid.{cause_of_end};
 
 use bs_report::{ListEnd, Step, Stop};
 

@@ -1,10 +1,9 @@
 //! The trace of a backtrace: the way from the last hit to its end.
 ghost use Rattle.std.specs.Prelude.{◌≡◌, ◌∷◌, ◌++◌, [], IfOk, OnOk, option_and_then};
-ghost use Rattle.bs_report_good.specs.Trace.{hit_state, input_for, trace_inputs, trace_states};
+ghost use Rattle.bs_report.specs.Trace.{hit_state, input_for, trace_inputs, trace_states};
 
 use bs_bits::{Bits, List, NoMemory};
-use bs_report::Step;
-use bs_report_good::input_for;
+use bs_report::{Step, input_for};
 use std::alloc::Global;
 
 /// Puts a copy of a state behind the others.

@@ -10,8 +10,8 @@ use Rattle.std.proofs.lemmas.List.Sums.{sum_by-cons}
 use Rattle.bs_net.specs.declared.net.NetId.{NetId}
 use Rattle.bs_net.specs.declared.net.Gate.{Gate}
 use Rattle.bs_net.specs.declared.net.Flop.{Flop}
-use Rattle.bs_net.specs.declared.tallies.Tally.{Tally}
-use Rattle.bs_net.specs.declared.tallies.Tally.TheVariants.{Never}
+use Rattle.bs_net.specs.declared.tallies.UseCount.{UseCount}
+use Rattle.bs_net.specs.declared.tallies.UseCount.TheVariants.{Never}
 use Rattle.bs_net.specs.Parts.{Parts, PartsArePlaced, mode_nets, load_nets}
 use Rattle.bs_net.specs.Check.{times_in, driver_nets, reader_nets, is_shared, is_undriven}
 use Rattle.bs_net.specs.Lowest.{IsLowest, NonePasses}
@@ -19,16 +19,16 @@ use Rattle.bs_net.specs.Tallies.{tally_of, raised, is_often, is_never, tally_at,
 
 -- ---- the table
 
-pub length-tallied : (table : List Tally) (ns : List NetId) → length (tallied table ns) ≡ length table
+pub length-tallied : (table : List UseCount) (ns : List NetId) → length (tallied table ns) ≡ length table
 length-tallied table [] = refl
 length-tallied table (n ∷ ns) = length-tallied _ ns ∙ length-set table n.0 _
 
-pub tallied-append : (table : List Tally) (ns ms : List NetId) → tallied table (ns ++ ms) ≡ tallied (tallied table ns) ms
+pub tallied-append : (table : List UseCount) (ns ms : List NetId) → tallied table (ns ++ ms) ≡ tallied (tallied table ns) ms
 tallied-append table [] ms = refl
 tallied-append table (n ∷ ns) ms = tallied-append _ ns ms
 
 -- the inputs of one more gate
-pub inputs_more : (table : List Tally) (gs : List Gate) (i : ℕ) (d : Gate) → i < length gs →
+pub inputs_more : (table : List UseCount) (gs : List Gate) (i : ℕ) (d : Gate) → i < length gs →
     tallied (tallied table (get_or gs i d).ins) (flat_map (λ g. g.ins) (drop (i + 1) gs)) ≡ tallied table (flat_map (λ g. g.ins) (drop i gs))
 inputs_more table gs i d lt =
     sym
@@ -36,7 +36,7 @@ inputs_more table gs i d lt =
     ∙ tallied-append table (get_or gs i d).ins (flat_map (λ g. g.ins) (drop (i + 1) gs)))
 
 -- the nets by which one more flip-flop loads
-pub loads_more : (table between after : List Tally) (fs : List Flop) (i : ℕ) (d : Flop) → i < length fs →
+pub loads_more : (table between after : List UseCount) (fs : List Flop) (i : ℕ) (d : Flop) → i < length fs →
     between ≡ set table (get_or fs i d).d.0 (raised (tally_at table (get_or fs i d).d.0)) → after ≡ tallied between (mode_nets (get_or fs i d).mode) →
     tallied after (flat_map load_nets (drop (i + 1) fs)) ≡ tallied table (flat_map load_nets (drop i fs))
 loads_more table between after fs i d lt first then =
@@ -48,7 +48,7 @@ loads_more table between after fs i d lt first then =
     ∙ tallied-append table (load_nets (get_or fs i d)) (flat_map load_nets (drop (i + 1) fs)))
 
 -- the four parts, one after another
-pub four_tallied : (t t₁ t₂ t₃ t₄ : List Tally) (a b c d : List NetId) → t₁ ≡ tallied t a → t₂ ≡ tallied t₁ b → t₃ ≡ tallied t₂ c → t₄ ≡ tallied t₃ d →
+pub four_tallied : (t t₁ t₂ t₃ t₄ : List UseCount) (a b c d : List NetId) → t₁ ≡ tallied t a → t₂ ≡ tallied t₁ b → t₃ ≡ tallied t₂ c → t₄ ≡ tallied t₃ d →
     t₄ ≡ tallied t (a ++ (b ++ (c ++ d)))
 four_tallied t t₁ t₂ t₃ t₄ a b c d e₁ e₂ e₃ e₄ =
     e₄
@@ -65,11 +65,11 @@ raised_more zero = refl
 raised_more (suc zero) = refl
 raised_more (suc (suc a)) = refl
 
-tallied_from : (table : List Tally) (ns : List NetId) (n a : ℕ) → n < length table → tally_at table n ≡ tally_of a →
+tallied_from : (table : List UseCount) (ns : List NetId) (n a : ℕ) → n < length table → tally_at table n ≡ tally_of a →
     tally_at (tallied table ns) n ≡ tally_of (times_in ns n + a)
 tallied_from table [] n a lt e = e ∙ ap tally_of (sym (zero-add a))
 tallied_from table (m ∷ ns) n a lt e =
-    let next : List Tally = set table m.0 (raised (tally_at table m.0)) in
+    let next : List UseCount = set table m.0 (raised (tally_at table m.0)) in
     let wide : n < length next = omega (arith, lt, length-set table m.0 (raised (tally_at table m.0))) in
     ⊎_elim
     (λ (same : n ≡ m.0).
@@ -116,18 +116,18 @@ not_not true = refl
 not_not false = refl
 
 -- the table of a netlist's drivers, and that of its readers
-abbrev pub Drives : Parts → List Tally → Type 0
+abbrev pub Drives : Parts → List UseCount → Type 0
 Drives r table = table ≡ tallies_of (length r.names) (driver_nets r)
 
-abbrev pub Reads : Parts → List Tally → Type 0
+abbrev pub Reads : Parts → List UseCount → Type 0
 Reads r table = table ≡ tallies_of (length r.names) (reader_nets r)
 
-shared_is : (r : Parts) (drivers : List Tally) → Drives r drivers → (n : ℕ) → n < length r.names → is_often (tally_at drivers n) ≡ is_shared r n
+shared_is : (r : Parts) (drivers : List UseCount) → Drives r drivers → (n : ℕ) → n < length r.names → is_often (tally_at drivers n) ≡ is_shared r n
 shared_is r drivers d n lt =
     ap (λ t. is_often (tally_at t n)) d
     ∙ (ap is_often (tallied_at (length r.names) (driver_nets r) n lt) ∙ often_is (times_in (driver_nets r) n))
 
-undriven_is : (r : Parts) (readers drivers : List Tally) → Reads r readers → Drives r drivers → (n : ℕ) → n < length r.names →
+undriven_is : (r : Parts) (readers drivers : List UseCount) → Reads r readers → Drives r drivers → (n : ℕ) → n < length r.names →
     (not (is_never (tally_at readers n)) && is_never (tally_at drivers n)) ≡ is_undriven r n
 undriven_is r readers drivers e d n lt =
     let read : not (is_never (tally_at readers n)) ≡ nat_lt 0 (times_in (reader_nets r) n) =
@@ -153,32 +153,32 @@ lowest_same p q j k n e same l =
 none_same : (p q : ℕ → Bool) (j k : ℕ) → j ≡ k → ((i : ℕ) → i < k → p i ≡ q i) → NonePasses p j → NonePasses q k
 none_same p q j k e same l = record { each = λ i lt. sym (same i lt) ∙ l.each i (omega (arith, e, lt)) }
 
-wide : (r : Parts) (drivers : List Tally) → Drives r drivers → length drivers ≡ length r.names
+wide : (r : Parts) (drivers : List UseCount) → Drives r drivers → length drivers ≡ length r.names
 wide r drivers d = ap (λ t. length t) d ∙ length-tallied_new (length r.names) (driver_nets r)
 
-pub lowest_shared : (r : Parts) (drivers : List Tally) (n : ℕ) → Drives r drivers → IsLowest (often_at drivers) (length drivers) n →
+pub lowest_shared : (r : Parts) (drivers : List UseCount) (n : ℕ) → Drives r drivers → IsLowest (often_at drivers) (length drivers) n →
     IsLowest (is_shared r) (length r.names) n
 lowest_shared r drivers n d l =
     lowest_same (often_at drivers) (is_shared r) _ _ n (wide r drivers d) (shared_is r drivers d) l
 
-pub none_shared : (r : Parts) (drivers : List Tally) → Drives r drivers → NonePasses (often_at drivers) (length drivers) →
+pub none_shared : (r : Parts) (drivers : List UseCount) → Drives r drivers → NonePasses (often_at drivers) (length drivers) →
     NonePasses (is_shared r) (length r.names)
 none_shared r drivers d l =
     none_same (often_at drivers) (is_shared r) _ _ (wide r drivers d) (shared_is r drivers d) l
 
-pub lowest_undriven : (r : Parts) (readers drivers : List Tally) (n : ℕ) → Reads r readers → Drives r drivers →
+pub lowest_undriven : (r : Parts) (readers drivers : List UseCount) (n : ℕ) → Reads r readers → Drives r drivers →
     IsLowest (undriven_at readers drivers) (length drivers) n → IsLowest (is_undriven r) (length r.names) n
 lowest_undriven r readers drivers n e d l =
     lowest_same (undriven_at readers drivers) (is_undriven r) _ _ n (wide r drivers d) (undriven_is r readers drivers e d) l
 
-pub none_undriven : (r : Parts) (readers drivers : List Tally) → Reads r readers → Drives r drivers →
+pub none_undriven : (r : Parts) (readers drivers : List UseCount) → Reads r readers → Drives r drivers →
     NonePasses (undriven_at readers drivers) (length drivers) → NonePasses (is_undriven r) (length r.names)
 none_undriven r readers drivers e d l =
     none_same (undriven_at readers drivers) (is_undriven r) _ _ (wide r drivers d) (undriven_is r readers drivers e d) l
 
 -- a table for each name is short
-pub table_short : (r : Parts) → PartsArePlaced r → (drivers : List Tally) → Drives r drivers → length drivers < 2 ^ 32
+pub table_short : (r : Parts) → PartsArePlaced r → (drivers : List UseCount) → Drives r drivers → length drivers < 2 ^ 32
 table_short r p drivers d = omega (arith, wide r drivers d, p.few_names)
 
-pub tables_match : (r : Parts) (readers drivers : List Tally) → Reads r readers → Drives r drivers → length readers ≡ length drivers
+pub tables_match : (r : Parts) (readers drivers : List UseCount) → Reads r readers → Drives r drivers → length readers ≡ length drivers
 tables_match r readers drivers e d = ap (λ t. length t) e ∙ (length-tallied_new (length r.names) (reader_nets r) ∙ sym (wide r drivers d))

@@ -4,22 +4,22 @@ use Rattle.std.specs.Prelude.{Option, Some, None, if◌then◌else◌, sum, map,
 use Rattle.std.specs.List.{list_all, IsDistinct}
 use Rattle.bs_net.specs.declared.net.NetId.{NetId}
 use Rattle.bs_net.specs.declared.net.Gate.{Gate}
-use Rattle.bs_net.specs.declared.search.Mark.{Mark}
-use Rattle.bs_net.specs.declared.search.Mark.TheVariants.{New, Open, Listed}
-use Rattle.bs_net.specs.declared.search.Look.{Look}
-use Rattle.bs_net.specs.declared.search.Look.TheVariants.{Whole, Ready, Unlisted, OnPath}
+use Rattle.bs_net.specs.declared.search.GateMark.{GateMark}
+use Rattle.bs_net.specs.declared.search.GateMark.TheVariants.{New, Open, Listed}
+use Rattle.bs_net.specs.declared.search.OpenGate.{OpenGate}
+use Rattle.bs_net.specs.declared.search.OpenGate.TheVariants.{Whole, Ready, Unlisted, OnPath}
 use Rattle.bs_net.specs.Loops.{is_in, gate_at, feeds}
 
 -- how far a search is: the mark of each gate, how many of its inputs are not examined, the open gates and the listed
 -- ones, the newest first
 pub record State : Type 0 where
-  pub marks : List Mark
+  pub marks : List GateMark
   pub left : List ℕ
   pub path : List ℕ
   pub listed : List ℕ
 
 -- the mark of a gate: listed, or open on the path, or new
-abbrev pub mark_of : List ℕ → List ℕ → ℕ → Mark
+abbrev pub mark_of : List ℕ → List ℕ → ℕ → GateMark
 mark_of path listed g = if is_in g listed then Listed else if is_in g path then Open else New
 
 -- ---- steps
@@ -113,7 +113,7 @@ pub record ClosesLoop (gates : List Gate) (s : State) (h : ℕ) : Type 0 where
   pub feeds_top : feeds gates h (top s) ≡ true
 
 -- what a look at the newest open gate tells
-abbrev pub Finds : List Gate → List (Option ℕ) → State → Look → Type 0
+abbrev pub Finds : List Gate → List (Option ℕ) → State → OpenGate → Type 0
 Finds gates table s Whole = slice_index_or s.left (top s) 0 ≡ 0
 Finds gates table s Ready = (0 < slice_index_or s.left (top s) 0) × (is_ready table s.listed (next_input gates s (top s)) ≡ true)
 Finds gates table s (Unlisted h) = (h < length gates) × (slice_index_or s.marks h New ≡ New) × (feeds gates h (top s) ≡ true)
@@ -128,7 +128,7 @@ abbrev pub StayFound : State → State → Type 0
 StayFound old new = (g : ℕ) → slice_index_or new.marks g New ≡ New → slice_index_or old.marks g New ≡ New
 
 -- what a look finds by the mark of the gate that drives the next input
-abbrev pub MarkFinds : Mark → ℕ → Look → Type 0
+abbrev pub MarkFinds : GateMark → ℕ → OpenGate → Type 0
 MarkFinds New h look = look ≡ Unlisted h
 MarkFinds Open h look = look ≡ OnPath h
 MarkFinds Listed h look = look ≡ Ready

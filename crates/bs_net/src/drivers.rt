@@ -9,33 +9,33 @@ ghost use Rattle.bs_net.specs.Check.{too_many, PassesNets, IsFault};
 use crate::fault::NetFault;
 use crate::net::NetId;
 use crate::raw::Raw;
-use crate::tallies::{Tally, driver_tallies, reader_tallies};
+use crate::tallies::{UseCount, driver_tallies, reader_tallies};
 use std::alloc::Global;
 
 /// Whether a net is named twice or more.
-fn is_often(tally: Tally) -> bool
+fn is_often(tally: UseCount) -> bool
     ensures { result ≡ is_often tally }
 {
     match tally {
-        Tally::Never => false,
-        Tally::Once => false,
-        Tally::Often => true,
+        UseCount::Never => false,
+        UseCount::Once => false,
+        UseCount::Often => true,
     }
 }
 
 /// Whether a net is not named.
-fn is_never(tally: Tally) -> bool
+fn is_never(tally: UseCount) -> bool
     ensures { result ≡ is_never tally }
 {
     match tally {
-        Tally::Never => true,
-        Tally::Once => false,
-        Tally::Often => false,
+        UseCount::Never => true,
+        UseCount::Once => false,
+        UseCount::Often => false,
     }
 }
 
 /// The lowest net that is named twice or more.
-fn first_shared(drivers: &[Tally]) -> Option<u32>
+fn first_shared(drivers: &[UseCount]) -> Option<u32>
     requires { length drivers.now < 2 ^ 32 }
     ensures found { IfSome result (λ n. IsLowest (often_at drivers.now) (length drivers.now) n) }
     ensures none { IfNone result (NonePasses (often_at drivers.now) (length drivers.now)) }
@@ -49,14 +49,14 @@ fn first_shared(drivers: &[Tally]) -> Option<u32>
 }
 
 /// Whether a net is read and is driven by nothing.
-fn is_undriven(readers: Tally, drivers: Tally) -> bool
+fn is_undriven(readers: UseCount, drivers: UseCount) -> bool
     ensures { result ≡ (not (is_never readers) && is_never drivers) }
 {
     !is_never(readers) && is_never(drivers)
 }
 
 /// The lowest net that is read and is driven by nothing.
-fn first_undriven(readers: &[Tally], drivers: &[Tally]) -> Option<u32>
+fn first_undriven(readers: &[UseCount], drivers: &[UseCount]) -> Option<u32>
     requires same { length readers.now ≡ length drivers.now }
     requires few { length drivers.now < 2 ^ 32 }
     ensures found { IfSome result (λ n. IsLowest (undriven_at readers.now drivers.now) (length drivers.now) n) }

@@ -6,7 +6,7 @@ use crate::raw::Raw;
 use bs_bits::{List, NoMemory};
 
 /// What there is too much of.
-#[derive(Clone, Copy, Debug, PartialEq, Eq)]
+#[derive(Clone, Copy)]
 pub enum Count {
     /// Flip-flops: at most `MAX_FLOPS`.
     Flops,

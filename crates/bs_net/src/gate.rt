@@ -1,7 +1,7 @@
 //! The kinds of gates. Their values are `specs/Gate`.
 
 /// The kind of a gate. `Buf` and `Not` have one input, the other kinds one or more.
-#[derive(Clone, Copy, Debug, PartialEq, Eq)]
+#[derive(Clone, Copy)]
 pub enum Kind {
     /// 1 where all inputs are 1.
     And,

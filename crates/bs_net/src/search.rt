@@ -9,15 +9,15 @@ use std::alloc::Global;
 use std::marker::Model;
 
 /// How far a gate is.
-#[derive(Clone, Copy, Debug, PartialEq, Eq)]
-pub(crate) enum Mark {
+#[derive(Clone, Copy)]
+pub(crate) enum GateMark {
     New,
     Open,
     Listed,
 }
 
 /// What the newest open gate waits for.
-pub(crate) enum Look {
+pub(crate) enum OpenGate {
     /// All its inputs are examined.
     Whole,
     /// Its next input is driven by no gate or by a listed one.
@@ -31,7 +31,7 @@ pub(crate) enum Look {
 /// A search: the open gates are a path, each one's output read by the one below it.
 #[derive(Drop)]
 pub(crate) struct Search {
-    marks: Vec<Mark>,
+    marks: Vec<GateMark>,
     left: Vec<u32>,
     path: Vec<u32>,
     listed: Vec<u32>,
@@ -47,10 +47,10 @@ impl Model for Search {
 }
 
 /// New marks.
-fn new_marks(alloc: Global, count: usize) -> Result<Vec<Mark>, NoMemory>
-    ensures { IfOk result (λ m. m.items ≡ replicate count Mark.New) }
+fn new_marks(alloc: Global, count: usize) -> Result<Vec<GateMark>, NoMemory>
+    ensures { IfOk result (λ m. m.items ≡ replicate count GateMark.New) }
 {
-    let marks = vec![in alloc; Mark::New; count]?;
+    let marks = vec![in alloc; GateMark::New; count]?;
     Ok(marks)
 }
 
@@ -97,9 +97,9 @@ impl Search {
     }
 
     /// The mark of a gate.
-    fn mark(&self, g: u32) -> Mark
+    fn mark(&self, g: u32) -> GateMark
         requires { g < length self.now.marks }
-        ensures { result ≡ slice_index_or self.now.marks g Mark.New }
+        ensures { result ≡ slice_index_or self.now.marks g GateMark.New }
     {
         self.marks[g as usize]
     }
@@ -134,7 +134,7 @@ impl Search {
         ensures err { OnErr result (self.new ≡ self.old) }
     {
         self.path.push(h)?;
-        self.marks[h as usize] = Mark::Open;
+        self.marks[h as usize] = GateMark::Open;
         Ok(())
     }
 
@@ -157,12 +157,12 @@ impl Search {
         let g = self.top();
         self.listed.push(g)?;
         let _ = self.path.pop();
-        self.marks[g as usize] = Mark::Listed;
+        self.marks[g as usize] = GateMark::Listed;
         Ok(())
     }
 
     /// What the newest open gate waits for.
-    fn look(&self, gates: &[Gate], table: &[Option<u32>]) -> Look
+    fn look(&self, gates: &[Gate], table: &[Option<u32>]) -> OpenGate
         requires search { IsSearch gates.now table.now self.now }
         requires drivers { IsDriverTable gates.now table.now }
         requires covers { CoversInputs gates.now table.now }
@@ -174,24 +174,24 @@ impl Search {
         let ins = gate.ins.slice();
         let left = self.left(g) as usize;
         if left == 0 {
-            return Look::Whole;
+            return OpenGate::Whole;
         }
         let net = ins[ins.len() - left];
         match table[net.0 as usize] {
-            None => Look::Ready,
+            None => OpenGate::Ready,
             Some(h) => self.look_at(h),
         }
     }
 
     /// The same where a gate drives the next input.
-    fn look_at(&self, h: u32) -> Look
+    fn look_at(&self, h: u32) -> OpenGate
         requires { h < length self.now.marks }
-        ensures { MarkFinds (slice_index_or self.now.marks h Mark.New) h result }
+        ensures { MarkFinds (slice_index_or self.now.marks h GateMark.New) h result }
     {
         match self.mark(h) {
-            Mark::New => Look::Unlisted(h),
-            Mark::Open => Look::OnPath(h),
-            Mark::Listed => Look::Ready,
+            GateMark::New => OpenGate::Unlisted(h),
+            GateMark::Open => OpenGate::OnPath(h),
+            GateMark::Listed => OpenGate::Ready,
         }
     }
 
@@ -207,20 +207,20 @@ impl Search {
         ensures found { StayFound self.old self.new }
     {
         match self.look(gates, table) {
-            Look::Whole => {
+            OpenGate::Whole => {
                 self.close()?;
                 Ok(None)
             }
-            Look::Ready => {
+            OpenGate::Ready => {
                 let g = self.top();
                 self.advance(g);
                 Ok(None)
             }
-            Look::Unlisted(h) => {
+            OpenGate::Unlisted(h) => {
                 self.enter(h)?;
                 Ok(None)
             }
-            Look::OnPath(h) => Ok(Some(h)),
+            OpenGate::OnPath(h) => Ok(Some(h)),
         }
     }
 
@@ -259,7 +259,7 @@ impl Search {
         ensures closes { IfOk result (λ found. IfSome found (λ h. ClosesLoop gates.now self.new h)) }
     {
         for g in 0..gates.len() {
-            if let Mark::New = self.mark(g as u32) {
+            if let GateMark::New = self.mark(g as u32) {
                 self.enter(g as u32)?;
                 if let Some(h) = self.descend(gates, table)? {
                     return Ok(Some(h));

@@ -12,26 +12,26 @@ use bs_bits::NoMemory;
 use std::alloc::Global;
 
 /// How often a net is named.
-#[derive(Clone, Copy, Debug, PartialEq, Eq)]
-pub(crate) enum Tally {
+#[derive(Clone, Copy)]
+pub(crate) enum UseCount {
     Never,
     Once,
     Often,
 }
 
 /// The tally after one more.
-fn raised(tally: Tally) -> Tally
+fn raised(tally: UseCount) -> UseCount
     ensures { result ≡ raised tally }
 {
     match tally {
-        Tally::Never => Tally::Once,
-        Tally::Once => Tally::Often,
-        Tally::Often => Tally::Often,
+        UseCount::Never => UseCount::Once,
+        UseCount::Once => UseCount::Often,
+        UseCount::Often => UseCount::Often,
     }
 }
 
 /// Counts a net once more.
-fn count_net(table: &mut Vec<Tally>, net: NetId)
+fn count_net(table: &mut Vec<UseCount>, net: NetId)
     requires { net.0 < length table.old.items }
     ensures { table.new.items ≡ slice_set table.old.items net.0 (raised (tally_at table.old.items net.0)) }
 {
@@ -40,7 +40,7 @@ fn count_net(table: &mut Vec<Tally>, net: NetId)
 }
 
 /// Counts each net where it stands.
-fn count_nets(table: &mut Vec<Tally>, nets: &[NetId])
+fn count_nets(table: &mut Vec<UseCount>, nets: &[NetId])
     requires { All (λ n. n.0 < length table.old.items) nets.now }
     ensures wide { length table.new.items ≡ length table.old.items }
     ensures counts { table.new.items ≡ tallied table.old.items nets.now }
@@ -51,7 +51,7 @@ fn count_nets(table: &mut Vec<Tally>, nets: &[NetId])
 }
 
 /// Counts the nets of the constants.
-fn count_constants(table: &mut Vec<Tally>, consts: &[Const])
+fn count_constants(table: &mut Vec<UseCount>, consts: &[Const])
     requires { All (λ k. k.net.0 < length table.old.items) consts.now }
     ensures wide { length table.new.items ≡ length table.old.items }
     ensures counts { table.new.items ≡ tallied table.old.items (map (λ k. k.net) consts.now) }
@@ -62,7 +62,7 @@ fn count_constants(table: &mut Vec<Tally>, consts: &[Const])
 }
 
 /// Counts the gates' outputs.
-fn count_outputs(table: &mut Vec<Tally>, gates: &[Gate])
+fn count_outputs(table: &mut Vec<UseCount>, gates: &[Gate])
     requires { All (λ g. g.out.0 < length table.old.items) gates.now }
     ensures wide { length table.new.items ≡ length table.old.items }
     ensures counts { table.new.items ≡ tallied table.old.items (map (λ g. g.out) gates.now) }
@@ -73,7 +73,7 @@ fn count_outputs(table: &mut Vec<Tally>, gates: &[Gate])
 }
 
 /// Counts the gates' inputs.
-fn count_inputs(table: &mut Vec<Tally>, gates: &[Gate])
+fn count_inputs(table: &mut Vec<UseCount>, gates: &[Gate])
     requires { All (λ g. All (λ n. n.0 < length table.old.items) g.ins) gates.now }
     ensures wide { length table.new.items ≡ length table.old.items }
     ensures counts { table.new.items ≡ tallied table.old.items (flat_map (λ g. g.ins) gates.now) }
@@ -84,7 +84,7 @@ fn count_inputs(table: &mut Vec<Tally>, gates: &[Gate])
 }
 
 /// Counts the flip-flops' outputs.
-fn count_states(table: &mut Vec<Tally>, flops: &[Flop])
+fn count_states(table: &mut Vec<UseCount>, flops: &[Flop])
     requires { All (λ f. f.q.0 < length table.old.items) flops.now }
     ensures wide { length table.new.items ≡ length table.old.items }
     ensures counts { table.new.items ≡ tallied table.old.items (map (λ f. f.q) flops.now) }
@@ -95,7 +95,7 @@ fn count_states(table: &mut Vec<Tally>, flops: &[Flop])
 }
 
 /// Counts the net of an enable or of a clear.
-fn count_mode(table: &mut Vec<Tally>, mode: Mode)
+fn count_mode(table: &mut Vec<UseCount>, mode: Mode)
     requires { IsModePlaced (length table.old.items) mode }
     ensures wide { length table.new.items ≡ length table.old.items }
     ensures counts { table.new.items ≡ tallied table.old.items (mode_nets mode) }
@@ -108,7 +108,7 @@ fn count_mode(table: &mut Vec<Tally>, mode: Mode)
 }
 
 /// Counts the nets by which the flip-flops load.
-fn count_loads(table: &mut Vec<Tally>, flops: &[Flop])
+fn count_loads(table: &mut Vec<UseCount>, flops: &[Flop])
     requires { All (λ f. (f.d.0 < length table.old.items) × IsModePlaced (length table.old.items) f.mode) flops.now }
     ensures wide { length table.new.items ≡ length table.old.items }
     ensures counts { table.new.items ≡ tallied table.old.items (flat_map load_nets flops.now) }
@@ -120,7 +120,7 @@ fn count_loads(table: &mut Vec<Tally>, flops: &[Flop])
 }
 
 /// Counts the flip-flops' clocks.
-fn count_clocks(table: &mut Vec<Tally>, flops: &[Flop])
+fn count_clocks(table: &mut Vec<UseCount>, flops: &[Flop])
     requires { All (λ f. f.ck.0 < length table.old.items) flops.now }
     ensures wide { length table.new.items ≡ length table.old.items }
     ensures counts { table.new.items ≡ tallied table.old.items (map (λ f. f.ck) flops.now) }
@@ -131,15 +131,15 @@ fn count_clocks(table: &mut Vec<Tally>, flops: &[Flop])
 }
 
 /// A table of nets that are never named.
-fn unnamed(alloc: Global, count: usize) -> Result<Vec<Tally>, NoMemory>
-    ensures { IfOk result (λ t. t.items ≡ replicate count Tally.Never) }
+fn unnamed(alloc: Global, count: usize) -> Result<Vec<UseCount>, NoMemory>
+    ensures { IfOk result (λ t. t.items ≡ replicate count UseCount.Never) }
 {
-    let table = vec![in alloc; Tally::Never; count]?;
+    let table = vec![in alloc; UseCount::Never; count]?;
     Ok(table)
 }
 
 /// How many drivers each net has.
-pub(crate) fn driver_tallies(alloc: Global, raw: &Raw) -> Result<Vec<Tally>, NoMemory>
+pub(crate) fn driver_tallies(alloc: Global, raw: &Raw) -> Result<Vec<UseCount>, NoMemory>
     requires { PartsArePlaced (parts_of raw.now) }
     ensures { IfOk result (λ t. t.items ≡ tallies_of (length raw.now.names) (driver_nets (parts_of raw.now))) }
 {
@@ -152,7 +152,7 @@ pub(crate) fn driver_tallies(alloc: Global, raw: &Raw) -> Result<Vec<Tally>, NoM
 }
 
 /// How many readers each net has.
-pub(crate) fn reader_tallies(alloc: Global, raw: &Raw) -> Result<Vec<Tally>, NoMemory>
+pub(crate) fn reader_tallies(alloc: Global, raw: &Raw) -> Result<Vec<UseCount>, NoMemory>
     requires { PartsArePlaced (parts_of raw.now) }
     ensures { IfOk result (λ t. t.items ≡ tallies_of (length raw.now.names) (reader_nets (parts_of raw.now))) }
 {

@@ -7,10 +7,10 @@ use Rattle.std.proofs.lemmas.Bool.{cases_eq}
 use Rattle.std.proofs.lemmas.List.Elements.{All-append, All-from_recursion, recursion_from_All}
 use Rattle.bs_net.specs.Circuit.{bit_at}
 use Rattle.bs_net.specs.Netlist.{Checked, circuit}
-use Rattle.bs_net_facts.specs.declared.mark.Mark.{Mark}
-use Rattle.bs_net_facts.specs.declared.mark.Mark.TheVariants.{Moved}
-use Rattle.bs_net_facts.specs.Marks.{Holds, SayNothing, StayHeld, AreShown, mark_at}
-use Rattle.bs_net_facts.proofs.MarkLemmas.{hold_set}
+use Rattle.bs_sim.specs.declared.mark.Mark.{Mark}
+use Rattle.bs_sim.specs.declared.mark.Mark.TheVariants.{Moved}
+use Rattle.bs_sim.specs.Marks.{Holds, SayNothing, StayHeld, AreShown, mark_at}
+use Rattle.bs_sim.proofs.MarkLemmas.{hold_set}
 use Rattle.bs_net_facts.specs.Marked.{Blank, IsKept, Marks, Unmarks}
 
 -- the marks of constants hold in every valuation that fits

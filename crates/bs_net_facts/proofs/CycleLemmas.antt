@@ -10,15 +10,15 @@ use Rattle.bs_net.specs.declared.net.Gate.{Gate}
 use Rattle.bs_net.specs.declared.net.Flop.{Flop}
 use Rattle.bs_net.specs.Circuit.{Circuit, IsSettled, bit_at, shown, next_state, loaded}
 use Rattle.bs_net.specs.Gate.{gate_value, takes}
-use Rattle.bs_net_facts.specs.declared.mark.Mark.{Mark}
-use Rattle.bs_net_facts.specs.declared.mark.Mark.TheVariants.{Low, High, Still, Moved}
-use Rattle.bs_net_facts.specs.Marks.{Holds, Hold, mark_at, fixed, gate_mark, flop_mark}
-use Rattle.bs_net_facts.proofs.MarkLemmas.{holds_of, fixed_holds, gate_holds, flop_holds}
+use Rattle.bs_sim.specs.declared.mark.Mark.{Mark}
+use Rattle.bs_sim.specs.declared.mark.Mark.TheVariants.{Low, High, Still, Moved}
+use Rattle.bs_sim.specs.Marks.{Holds, Hold, mark_at, fixed, gate_mark, flop_mark}
+use Rattle.bs_sim.proofs.MarkLemmas.{holds_of, fixed_holds, gate_holds, flop_holds}
 use Rattle.bs_net.specs.Netlist.{Checked, circuit}
 use Rattle.bs_net.specs.Parts.{Parts, PartsArePlaced}
 use Rattle.bs_net_facts.specs.declared.fact.Fact.{Fact}
 use Rattle.bs_net_facts.specs.declared.block.Block.{Block}
-use Rattle.bs_net_facts.specs.declared.carried.Kept.{Kept}
+use Rattle.bs_net_facts.specs.declared.known_loads.KnownNet.{KnownNet}
 use Rattle.bs_net_facts.specs.Marked.{Marking, Marks, Stays, ShowBits, ShowAt, ShowKept, ShowBegun, AllSettled, IsGivenAt, Carry, CarryOn, has_bit, tell_bits}
 
 pub stays_same : (K : List Bool → Type 0) (m : Marking) → Stays K m m
@@ -64,13 +64,13 @@ stays_bit bits old now new i d m lt e h net put =
     subst (λ (a : Mark). Holds a (bit_at v f.net.0) (bit_at v f.net.0)) (sym e)
     (fixed_shown f.bit (bit_at v f.net.0) (at_place (λ (g : Fact). bit_at v g.net.0 ≡ g.bit) bits i d lt k)))
 
-pub stays_kept : (kept : List Kept) (old now new : Marking) (i : ℕ) (d : Kept) → i < length kept →
+pub stays_kept : (kept : List KnownNet) (old now new : Marking) (i : ℕ) (d : KnownNet) → i < length kept →
     Stays (ShowKept kept) old now → new.net ≡ now.net → Marks (get_or kept i d).net.0 (get_or kept i d).mark now.marks new.marks →
     Stays (ShowKept kept) old new
 stays_kept kept old now new i d lt h net put =
     let k = get_or kept i d in
     stays_put (ShowKept kept) old now new k.net.0 k.mark h net put
-    (λ v all held. at_place (λ (j : Kept). Holds j.mark (bit_at v j.net.0) (bit_at v j.net.0)) kept i d lt all)
+    (λ v all held. at_place (λ (j : KnownNet). Holds j.mark (bit_at v j.net.0) (bit_at v j.net.0)) kept i d lt all)
 
 -- what the parts keep of a gate
 pub gate_placed : (n : Checked) (r : Parts) (gates : List Gate) (i : ℕ) (g : Gate) → PartsArePlaced r → r ≡ n.raw → gates ≡ r.gates → i < length gates →
@@ -152,9 +152,9 @@ flop_shows w bits flops i f e lt is =
 
 pub carry_none : (c : Circuit) (marks : List Mark) → Carry c marks []
 carry_none c marks =
-    record { each = λ v w held lead. All-from_recursion (λ (k : Kept). Holds k.mark (bit_at w k.net.0) (bit_at w k.net.0)) [] tt }
+    record { each = λ v w held lead. All-from_recursion (λ (k : KnownNet). Holds k.mark (bit_at w k.net.0) (bit_at w k.net.0)) [] tt }
 
-pub carry_more : (c : Circuit) (marks : List Mark) (kept : List Kept) (i : ℕ) (f : Flop) (k : Kept) → i < length c.flops → f ≡ get_or c.flops i f →
+pub carry_more : (c : Circuit) (marks : List Mark) (kept : List KnownNet) (i : ℕ) (f : Flop) (k : KnownNet) → i < length c.flops → f ≡ get_or c.flops i f →
     k.net ≡ f.q → k.mark ≡ flop_mark marks f → Carry c marks kept → Carry c marks (kept ++ k ∷ [])
 carry_more c marks kept i f k lt e net mark h =
     record {
@@ -167,18 +167,18 @@ carry_more c marks kept i f k lt e net mark h =
           subst (λ (n : NetId). Holds (flop_mark marks f) (bit_at w n.0) (bit_at w n.0)) (sym net) here in
           let last : Holds k.mark (bit_at w k.net.0) (bit_at w k.net.0) =
           subst (λ (m : Mark). Holds m (bit_at w k.net.0) (bit_at w k.net.0)) (sym mark) there in
-          All-append (λ (j : Kept). Holds j.mark (bit_at w j.net.0) (bit_at w j.net.0)) kept (k ∷ []) (h.each v w held lead)
-          (All-from_recursion (λ (j : Kept). Holds j.mark (bit_at w j.net.0) (bit_at w j.net.0)) (k ∷ []) (last, tt));
+          All-append (λ (j : KnownNet). Holds j.mark (bit_at w j.net.0) (bit_at w j.net.0)) kept (k ∷ []) (h.each v w held lead)
+          (All-from_recursion (λ (j : KnownNet). Holds j.mark (bit_at w j.net.0) (bit_at w j.net.0)) (k ∷ []) (last, tt));
     }
 
 -- one flip-flop more
-pub carry_done : (c : Circuit) (marks : List Mark) (old new : List Kept) → CarryOn c marks old new → Carry c marks old → Carry c marks new
+pub carry_done : (c : Circuit) (marks : List Mark) (old new : List KnownNet) → CarryOn c marks old new → Carry c marks old → Carry c marks new
 carry_done c marks old new on h = on.each h
 
-pub carry_same : (c : Circuit) (marks : List Mark) (kept : List Kept) → CarryOn c marks kept kept
+pub carry_same : (c : Circuit) (marks : List Mark) (kept : List KnownNet) → CarryOn c marks kept kept
 carry_same c marks kept = record { each = λ h. h }
 
-pub carry_pushed : (c : Circuit) (marks : List Mark) (flops : List Flop) (kept new : List Kept) (i : ℕ) (d : Flop) (m : Mark) → flops ≡ c.flops →
+pub carry_pushed : (c : Circuit) (marks : List Mark) (flops : List Flop) (kept new : List KnownNet) (i : ℕ) (d : Flop) (m : Mark) → flops ≡ c.flops →
     i < length flops → m ≡ flop_mark marks (get_or flops i d) → new ≡ kept ++ record { net = (get_or flops i d).q; mark = m } ∷ [] →
     CarryOn c marks kept new
 carry_pushed c marks flops kept new i d m same lt mark is =
@@ -187,13 +187,13 @@ carry_pushed c marks flops kept new i d m same lt mark is =
     let e : f ≡ get_or c.flops i f = get_or_default flops i d f lt ∙ ap (λ (fs : List Flop). get_or fs i f) same in
     record {
       each = λ h.
-          subst (λ (ks : List Kept). Carry c marks ks) (sym is)
+          subst (λ (ks : List KnownNet). Carry c marks ks) (sym is)
           (carry_more c marks kept i f (record { net = f.q; mark = m }) below e refl mark h);
     }
 
 -- ---- a whole cycle
 
-pub stays_all : (b : Block) (kept : List Kept) (t : ℕ) (given : List Fact) (m₀ m₁ m₂ m₃ m₄ : Marking) → given ≡ b.given → Stays (ShowKept kept) m₀ m₁ →
+pub stays_all : (b : Block) (kept : List KnownNet) (t : ℕ) (given : List Fact) (m₀ m₁ m₂ m₃ m₄ : Marking) → given ≡ b.given → Stays (ShowKept kept) m₀ m₁ →
     Stays (ShowAt t given) m₁ m₂ → Stays (ShowBegun b t) m₂ m₃ → Stays (AllSettled (circuit m₃.net)) m₃ m₄ →
     Stays (IsGivenAt (circuit m₀.net) b kept t) m₀ m₄
 stays_all b kept t given m₀ m₁ m₂ m₃ m₄ e first second third fourth =

@@ -4,5 +4,3 @@ pub mod PassLemmas
 pub mod SeenLemmas
 pub mod ToldLemmas
 pub mod LawLemmas
-pub mod MarkLemmas
-pub mod StayLemmas

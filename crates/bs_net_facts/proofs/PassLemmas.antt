@@ -5,11 +5,11 @@ use Rattle.std.proofs.lemmas.Bool.{cases_lt}
 use Rattle.std.proofs.lemmas.List.Elements.{All-append, All-map, All-weaker, All-from_recursion, recursion_from_All}
 use Rattle.bs_net.specs.Circuit.{Circuit, bit_at}
 use Rattle.bs_net.specs.Netlist.{Checked, circuit}
-use Rattle.bs_net_facts.specs.declared.mark.Mark.{Mark}
-use Rattle.bs_net_facts.specs.Marks.{Holds, Hold}
+use Rattle.bs_sim.specs.declared.mark.Mark.{Mark}
+use Rattle.bs_sim.specs.Marks.{Holds, Hold}
 use Rattle.bs_net_facts.specs.declared.fact.Fact.{Fact}
 use Rattle.bs_net_facts.specs.declared.block.Block.{Block}
-use Rattle.bs_net_facts.specs.declared.carried.Kept.{Kept}
+use Rattle.bs_net_facts.specs.declared.known_loads.KnownNet.{KnownNet}
 use Rattle.bs_net_facts.specs.Facts.{HoldsIn, FitsSome, Force, valuation_at}
 use Rattle.bs_net_facts.specs.Blocks.{begun, lasting, stretch, moved}
 use Rattle.bs_net_facts.proofs.CycleLemmas.{told_bits}
@@ -44,7 +44,7 @@ pub at_shown : (vs : List (List Bool)) (t : ℕ) (bits : List Fact) → ShowBits
 at_shown vs t bits h = All-map (HoldsIn vs) (moved t) bits h
 
 -- the marks of a cycle hold there
-pub held_at : (m new : Marking) (b : Block) (kept : List Kept) (t : ℕ) → Blank m → Stays (IsGivenAt (circuit m.net) b kept t) m new →
+pub held_at : (m new : Marking) (b : Block) (kept : List KnownNet) (t : ℕ) → Blank m → Stays (IsGivenAt (circuit m.net) b kept t) m new →
     KeptAt (circuit m.net) b t kept → Known (circuit m.net) b (λ vs. t < length vs → Hold new.marks (valuation_at vs t) (valuation_at vs t))
 held_at m new b kept t blank stay before =
     record {
@@ -70,7 +70,7 @@ held_at m new b kept t blank stay before =
     }
 
 -- what is carried holds in the next cycle
-pub kept_next : (c : Circuit) (b : Block) (marks : List Mark) (kept : List Kept) (t : ℕ) →
+pub kept_next : (c : Circuit) (b : Block) (marks : List Mark) (kept : List KnownNet) (t : ℕ) →
     Known c b (λ vs. t < length vs → Hold marks (valuation_at vs t) (valuation_at vs t)) → Carry c marks kept → KeptAt c b (t + 1) kept
 kept_next c b marks kept t held carry =
     record {
@@ -79,11 +79,11 @@ kept_next c b marks kept t held carry =
           carry.each (valuation_at vs t) (valuation_at vs (t + 1)) (held.each vs last follow given here) (follow.lead t lt);
     }
 
-pub kept_none : (c : Circuit) (b : Block) (t : ℕ) (kept : List Kept) → length kept ≡ 0 → KeptAt c b t kept
+pub kept_none : (c : Circuit) (b : Block) (t : ℕ) (kept : List KnownNet) → length kept ≡ 0 → KeptAt c b t kept
 kept_none c b t [] e =
     record {
       each = λ vs last follow given lt.
-          All-from_recursion (λ (k : Kept). Holds k.mark (bit_at (valuation_at vs t) k.net.0) (bit_at (valuation_at vs t) k.net.0)) [] tt;
+          All-from_recursion (λ (k : KnownNet). Holds k.mark (bit_at (valuation_at vs t) k.net.0) (bit_at (valuation_at vs t) k.net.0)) [] tt;
     }
 kept_none c b t (k ∷ kept) e = absurd (omega (arith, e))
 
@@ -144,7 +144,7 @@ forced_force c b cycles lt h =
     }
 
 -- the same of a board of this netlist
-pub held_in : (net : Checked) (m new : Marking) (b : Block) (kept : List Kept) (t : ℕ) → m.net ≡ net → Blank m →
+pub held_in : (net : Checked) (m new : Marking) (b : Block) (kept : List KnownNet) (t : ℕ) → m.net ≡ net → Blank m →
     Stays (IsGivenAt (circuit m.net) b kept t) m new → KeptAt (circuit net) b t kept →
     Known (circuit net) b (λ vs. t < length vs → Hold new.marks (valuation_at vs t) (valuation_at vs t))
 held_in net m new b kept t e blank stay before =
@@ -153,17 +153,17 @@ held_in net m new b kept t e blank stay before =
 
 -- ---- a pass
 
-pub before_first : (net : Checked) (b : Block) (t : ℕ) (m : Marking) (kept : List Kept) → m.net ≡ net → Blank m → length kept ≡ 0 → t ≤ b.since →
+pub before_first : (net : Checked) (b : Block) (t : ℕ) (m : Marking) (kept : List KnownNet) → m.net ≡ net → Blank m → length kept ≡ 0 → t ≤ b.since →
     IsBefore net b t m kept
 before_first net b t m kept e blank none le =
     record { same = e; blank = blank; kept_holds = kept_none (circuit net) b t kept none; so_far = forced_none (circuit net) b t le }
 
-pub before_next : (net : Checked) (b : Block) (t : ℕ) (m marked cleared : Marking) (kept kept₂ next : List Kept) (marks marks₂ : List Mark) (n : Checked) →
+pub before_next : (net : Checked) (b : Block) (t : ℕ) (m marked cleared : Marking) (kept kept₂ next : List KnownNet) (marks marks₂ : List Mark) (n : Checked) →
     IsBefore net b t m kept → kept₂ ≡ kept → Stays (IsGivenAt (circuit m.net) b kept₂ t) m marked → marks ≡ marked.marks →
     (b.since ≤ t → tell_bits marks b.bits ≡ true) → marks₂ ≡ marked.marks → n ≡ marked.net → Carry (circuit n) marks₂ next →
     cleared.net ≡ marked.net → Blank cleared → t ≤ b.at → IsBefore net b (t + 1) cleared next
 before_next net b t m marked cleared kept kept₂ next marks marks₂ n before e stay shown tell k i carry cleared_net blank within =
-    let stays : Stays (IsGivenAt (circuit m.net) b kept t) m marked = subst (λ (ks : List Kept). Stays (IsGivenAt (circuit m.net) b ks t) m marked) e stay in
+    let stays : Stays (IsGivenAt (circuit m.net) b kept t) m marked = subst (λ (ks : List KnownNet). Stays (IsGivenAt (circuit m.net) b ks t) m marked) e stay in
     let same : marked.net ≡ net = stays.net ∙ before.same in
     let held = held_in net m marked b kept t before.same before.blank stays before.kept_holds in
     let tells : b.since ≤ t → tell_bits marked.marks b.bits ≡ true = λ ge. ap (λ (ms : List Mark). tell_bits ms b.bits) (sym shown) ∙ tell ge in
@@ -176,6 +176,6 @@ before_next net b t m marked cleared kept kept₂ next marks marks₂ n before e
       so_far = forced_next (circuit net) b marked.marks t within held tells before.so_far;
     }
 
-pub before_last : (net : Checked) (b : Block) (first t : ℕ) (m : Marking) (kept : List Kept) → IsBefore net b t m kept → first ≤ b.since →
+pub before_last : (net : Checked) (b : Block) (first t : ℕ) (m : Marking) (kept : List KnownNet) → IsBefore net b t m kept → first ≤ b.since →
     b.at + 1 ≤ t → (first ≤ b.at + 1 → t ≤ b.at + 1) → Forced (circuit net) b
 before_last net b first t m kept before early past within = forced_all (circuit net) b first t early past within before.so_far

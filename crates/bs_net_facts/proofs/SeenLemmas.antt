@@ -9,15 +9,15 @@ use Rattle.std.proofs.lemmas.List.{get_or_append_left, get_or_default, get_or_pa
 use Rattle.std.proofs.lemmas.Option.{get_or_from_slice_get}
 use Rattle.bs_net.specs.declared.net.NetId.{NetId}
 use Rattle.bs_net.specs.Order.{IsChecked}
-use Rattle.bs_net_facts.specs.declared.mark.Mark.TheVariants.{Moved}
+use Rattle.bs_sim.specs.declared.mark.Mark.TheVariants.{Moved}
 use Rattle.bs_net.specs.declared.net.Flop.{Flop}
 use Rattle.bs_net.specs.Circuit.{Circuit, Fits, bit_at}
 use Rattle.bs_net.specs.Netlist.{Checked, circuit}
 use Rattle.bs_net.proofs.CallerLemmas.{exactly_one_fits}
-use Rattle.bs_net_facts.specs.declared.mark.Mark.{Mark}
-use Rattle.bs_net_facts.specs.Marks.{Holds, SayNothing, StayHeld, AreShown, AreSettled, mark_at, fixed}
-use Rattle.bs_net_facts.proofs.MarkLemmas.{fixed_holds}
-use Rattle.bs_net_facts.proofs.StayLemmas.{stay_set}
+use Rattle.bs_sim.specs.declared.mark.Mark.{Mark}
+use Rattle.bs_sim.specs.Marks.{Holds, SayNothing, StayHeld, AreShown, AreSettled, mark_at, fixed}
+use Rattle.bs_sim.proofs.MarkLemmas.{fixed_holds}
+use Rattle.bs_sim.proofs.StayLemmas.{stay_set}
 use Rattle.bs_net_facts.specs.declared.fact.Fact.{Fact}
 use Rattle.bs_net_facts.specs.Facts.{IsWayOf, IsReal}
 use Rattle.bs_net_facts.proofs.CycleLemmas.{flop_shows}

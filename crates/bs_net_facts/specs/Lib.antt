@@ -3,7 +3,5 @@ pub mod Facts
 pub mod Blocks
 pub mod Sources
 pub mod Seen
--- what contracts rest on
-pub mod Marks
 -- what inner functions promise each other
 pub mod Marked

@@ -3,12 +3,12 @@ use Rattle.std.specs.Prelude.{◌≡◌, ◌≢◌, ℕ, ◌<◌, ◌⊎◌, ◌
 use Rattle.std.specs.List.{list_all}
 use Rattle.bs_net.specs.Circuit.{Circuit, IsSettled, bit_at, shown, state_nets, next_state}
 use Rattle.bs_net.specs.Netlist.{Checked, circuit}
-use Rattle.bs_net_facts.specs.declared.mark.Mark.{Mark}
-use Rattle.bs_net_facts.specs.declared.mark.Mark.TheVariants.{Low, High, Still, Moved}
-use Rattle.bs_net_facts.specs.Marks.{Holds, Hold, mark_at}
+use Rattle.bs_sim.specs.declared.mark.Mark.{Mark}
+use Rattle.bs_sim.specs.declared.mark.Mark.TheVariants.{Low, High, Still, Moved}
+use Rattle.bs_sim.specs.Marks.{Holds, Hold, mark_at}
 use Rattle.bs_net_facts.specs.declared.fact.Fact.{Fact}
 use Rattle.bs_net_facts.specs.declared.block.Block.{Block}
-use Rattle.bs_net_facts.specs.declared.carried.Kept.{Kept}
+use Rattle.bs_net_facts.specs.declared.known_loads.KnownNet.{KnownNet}
 use Rattle.bs_net_facts.specs.Facts.{HoldsIn, FitsSome, Follow, valuation_at}
 use Rattle.bs_net_facts.specs.Blocks.{begun, lasting, stretch}
 
@@ -56,7 +56,7 @@ abbrev pub ShowAt : ℕ → List Fact → List Bool → Type 0
 ShowAt cycle facts v = All (λ f. f.cycle ≡ cycle → bit_at v f.net.0 ≡ f.bit) facts
 
 -- what is known of the flip-flops before the cycle holds
-abbrev pub ShowKept : List Kept → List Bool → Type 0
+abbrev pub ShowKept : List KnownNet → List Bool → Type 0
 ShowKept kept v = All (λ k. Holds k.mark (bit_at v k.net.0) (bit_at v k.net.0)) kept
 
 -- the gates are settled
@@ -68,7 +68,7 @@ pub record ShowBegun (b : Block) (t : ℕ) (v : List Bool) : Type 0 where
   pub each : b.begun ≡ true → t ≡ b.since → ShowBits b.bits v
 
 -- all of this in one cycle of a block
-pub record IsGivenAt (c : Circuit) (b : Block) (kept : List Kept) (t : ℕ) (v : List Bool) : Type 0 where
+pub record IsGivenAt (c : Circuit) (b : Block) (kept : List KnownNet) (t : ℕ) (v : List Bool) : Type 0 where
   pub kept_holds : ShowKept kept v
   pub given_holds : ShowAt t b.given v
   pub begun_holds : ShowBegun b t v
@@ -88,11 +88,11 @@ abbrev pub tell_bits : List Mark → List Fact → Bool
 tell_bits marks bits = list_all (λ f. has_bit (mark_at marks f.net.0) f.bit) bits
 
 -- what flip-flops show in the next cycle
-pub record Carry (c : Circuit) (marks : List Mark) (kept : List Kept) : Type 0 where
+pub record Carry (c : Circuit) (marks : List Mark) (kept : List KnownNet) : Type 0 where
   pub each : (v w : List Bool) → Hold marks v v → shown w (state_nets c) ≡ next_state c v → ShowKept kept w
 
 -- more of them
-pub record CarryOn (c : Circuit) (marks : List Mark) (old new : List Kept) : Type 0 where
+pub record CarryOn (c : Circuit) (marks : List Mark) (old new : List KnownNet) : Type 0 where
   pub each : Carry c marks old → Carry c marks new
 
 -- ---- what holds of each sequence of valuations in which a block's facts hold
@@ -101,7 +101,7 @@ pub record Known (c : Circuit) (b : Block) (P : List (List Bool) → Type 0) : T
   pub each : (vs : List (List Bool)) → b.at < length vs → Follow c vs → All (HoldsIn vs) (b.given ++ begun b) → P vs
 
 -- the flip-flops before a cycle
-abbrev pub KeptAt : Circuit → Block → ℕ → List Kept → Type 0
+abbrev pub KeptAt : Circuit → Block → ℕ → List KnownNet → Type 0
 KeptAt c b t kept = Known c b (λ vs. t < length vs → ShowKept kept (valuation_at vs t))
 
 -- the block's bits before a cycle
@@ -113,7 +113,7 @@ abbrev pub Forced : Circuit → Block → Type 0
 Forced c b = Known c b (λ vs. All (HoldsIn vs) (lasting b))
 
 -- a pass before a cycle of a block
-pub record IsBefore (net : Checked) (b : Block) (t : ℕ) (m : Marking) (kept : List Kept) : Type 0 where
+pub record IsBefore (net : Checked) (b : Block) (t : ℕ) (m : Marking) (kept : List KnownNet) : Type 0 where
   pub same : m.net ≡ net
   pub blank : Blank m
   pub kept_holds : KeptAt (circuit net) b t kept

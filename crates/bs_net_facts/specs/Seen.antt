@@ -4,8 +4,8 @@ use Rattle.bs_net.specs.declared.net.Flop.{Flop}
 use Rattle.bs_net.specs.Circuit.{Circuit, Fits, bit_at}
 use Rattle.bs_net.specs.Netlist.{Checked, circuit}
 use Rattle.bs_net.specs.Order.{IsChecked}
-use Rattle.bs_net_facts.specs.declared.mark.Mark.{Mark}
-use Rattle.bs_net_facts.specs.Marks.{Hold}
+use Rattle.bs_sim.specs.declared.mark.Mark.{Mark}
+use Rattle.bs_sim.specs.Marks.{Hold}
 use Rattle.bs_net_facts.specs.Facts.{IsWayOf}
 
 -- what a contract sees of the moments: a netlist, and the states and inputs of a trace

@@ -2,17 +2,16 @@
 ghost use Rattle.std.specs.Prelude.{◌≡◌, ◌<◌, length, All, IsTrue, OnOk};
 ghost use Rattle.bs_net.specs.Gate.{takes};
 ghost use Rattle.bs_net.specs.Netlist.{circuit};
-ghost use Rattle.bs_net_facts.specs.Marks.{gate_mark, mark_at};
+ghost use Rattle.bs_sim.specs.Marks.{gate_mark, mark_at};
 ghost use Rattle.bs_net_facts.specs.Marked.{Marks, Stays, ShowAt, ShowBits, ShowKept, ShowBegun, AllSettled, IsGivenAt, has_bit, tell_bits};
 
 use crate::block::{Block, Cone};
-use crate::board::Board;
-use crate::carried::Kept;
 use crate::fact::Fact;
-use crate::gates::gate_mark;
-use crate::mark::{Mark, fixed};
+use crate::known_loads::KnownNet;
+use crate::mark_table::Board;
 use bs_bits::NoMemory;
 use bs_net::Gate;
+use bs_sim::{Mark, fixed, gate_mark};
 
 /// Marks the facts of a cycle, from a place on, and gives the place of the first fact behind them.
 #[tactic(auto, using(crate::proofs::CycleLemmas::stays_same, crate::proofs::CycleLemmas::stays_fact))]
@@ -47,7 +46,7 @@ fn put_bits(board: &mut Board<'_>, bits: &[Fact]) -> Result<(), NoMemory>
 
 /// Marks what is kept.
 #[tactic(auto, using(crate::proofs::CycleLemmas::stays_same, crate::proofs::CycleLemmas::stays_kept))]
-fn put_kept(board: &mut Board<'_>, kept: &[Kept]) -> Result<(), NoMemory>
+fn put_kept(board: &mut Board<'_>, kept: &[KnownNet]) -> Result<(), NoMemory>
     ensures { OnOk result (Stays (ShowKept kept.now) board.old board.new) }
 {
     'kept: for one in kept {
@@ -114,7 +113,7 @@ fn put_begun(board: &mut Board<'_>, block: &Block, cycle: u32) -> Result<(), NoM
 #[tactic(auto, using(crate::proofs::CycleLemmas::stays_all))]
 pub(crate) fn mark_cycle(
     board: &mut Board<'_>,
-    kept: &[Kept],
+    kept: &[KnownNet],
     cone: &Cone,
     block: &Block,
     from: usize,

@@ -1,15 +1,13 @@
 //! Every net's bit at each moment of a trace.
 ghost use Rattle.std.specs.Prelude.{◌≡◌, ◌<◌, ◌≤◌, ◌⊎◌, length, All, IfOk, IfSome, IfNone};
 ghost use Rattle.bs_net.specs.Netlist.{circuit};
-ghost use Rattle.bs_net_facts.specs.Marks.{SayNothing, StayHeld, fixed, mark_at};
+ghost use Rattle.bs_sim.specs.Marks.{SayNothing, StayHeld, fixed, mark_at};
 ghost use Rattle.bs_net_facts.specs.Facts.{IsWayOf, IsReal};
 ghost use Rattle.bs_net_facts.specs.Seen.{RowsFit, ShowState, HoldAtLast};
 
-use crate::gates::{mark_constants, mark_gates, unmarked};
-use crate::mark::{Mark, fixed};
 use bs_bits::{Bits, List, NoMemory};
 use bs_net::{Flop, NetId, Netlist};
-use bs_sim::Sim;
+use bs_sim::{Mark, Sim, fixed, mark_constants, mark_gates, unmarked};
 use std::alloc::Global;
 use std::marker::Model;
 

@@ -4,12 +4,12 @@ ghost use Rattle.bs_net.specs.Netlist.{circuit};
 ghost use Rattle.bs_net_facts.specs.Marked.{Blank, Forced, tell_bits};
 
 use crate::block::{Block, Cone};
-use crate::board::Board;
-use crate::carried::{Kept, carry};
 use crate::cycle::{mark_cycle, tell_bits};
-use crate::mark::Mark;
+use crate::known_loads::{KnownNet, carry};
+use crate::mark_table::Board;
 use bs_bits::NoMemory;
 use bs_net::Netlist;
+use bs_sim::Mark;
 use std::alloc::Global;
 
 /// Whether marks tell a block's bits, from its first cycle on.
@@ -26,7 +26,7 @@ fn is_told(marks: &[Mark], block: &Block, cycle: u32) -> bool
 #[tactic(auto, using(crate::proofs::PassLemmas::before_first, crate::proofs::PassLemmas::before_next, crate::proofs::PassLemmas::before_last))]
 fn pass(
     board: &mut Board<'_>,
-    kept: &mut Vec<Kept>,
+    kept: &mut Vec<KnownNet>,
     cone: &Cone,
     block: &Block,
     first: u32,

@@ -2,9 +2,7 @@ pub mod Splits
 pub mod Keys
 pub mod Ranges
 pub mod Naming
-pub mod Signals
 pub mod Rtl
-pub mod Values
 pub mod Spots
 pub mod Quotes
 pub mod Nearest

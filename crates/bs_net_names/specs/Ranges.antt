@@ -1,5 +1,5 @@
 -- The bits of a range (docs/FORMATS.md, "Keys").
-use Rattle.std.specs.Prelude.{ℕ, ◌-◌, ◌==◌, ◌&&◌, ◌||◌, nat_le, Bool, false, List, length, Option, Some, None, if◌then◌else◌}
+use Rattle.std.specs.Prelude.{ℕ, ◌-◌, ◌==◌, ◌&&◌, ◌||◌, nat_le, Bool, false, List, [], ◌∷◌, ◌++◌, decimal, length, Option, Some, None, if◌then◌else◌}
 use Rattle.bs_bits.specs.Lines.{number_in}
 use Rattle.bs_net_names.specs.Splits.{Halves, first_split}
 use Rattle.bs_net_names.specs.declared.range.Range.{Range}
@@ -44,3 +44,9 @@ place_in r (Some n) = if nat_le r.right r.left then falling r n else rising r n
 abbrev pub is_among : Range → Option ℕ → Bool
 is_among r None = false
 is_among r (Some n) = (nat_le r.right n && nat_le n r.left) || (nat_le r.left n && nat_le n r.right)
+
+-- so many bits of a vector as they stand behind its name, from the greatest down: `[7:4]`, or `[3]` of one; a net by itself has none
+abbrev pub range_text : Option ℕ → ℕ → List ℕ
+range_text None count = []
+range_text (Some high) count =
+    if count == 1 then 91 ∷ (decimal high ++ 93 ∷ []) else 91 ∷ (decimal high ++ (58 ∷ (decimal (high - (count - 1)) ++ 93 ∷ [])))

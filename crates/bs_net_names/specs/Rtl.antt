@@ -1,9 +1,9 @@
 -- The name of a net as RTL writes it (docs/FORMATS.md, "Keys").
-use Rattle.std.specs.Prelude.{ℕ, ◌==◌, ◌&&◌, Bool, true, false, List, ◌++◌, length, Option, Some, None}
+use Rattle.std.specs.Prelude.{ℕ, ◌==◌, ◌&&◌, Bool, true, false, List, ◌++◌, Option, Some, None}
 use Rattle.std.specs.Str.{bytes_eq}
 use Rattle.bs_net_names.specs.Keys.{KeyParts, key_parts}
 use Rattle.bs_net_names.specs.Naming.{plain}
-use Rattle.bs_net_names.specs.Signals.{Signal, range_text}
+use Rattle.bs_net_names.specs.Ranges.{range_text}
 
 abbrev pub equal_bit : Option ℕ → Option ℕ → Bool
 equal_bit None None = true
@@ -14,10 +14,6 @@ equal_bit (Some n) (Some m) = n == m
 -- whether two keys are one name: the same bit of the same vector, or the same net, a `\` in front passed over
 abbrev pub same_name : KeyParts → KeyParts → Bool
 same_name one other = bytes_eq (plain one.base) (plain other.base) && equal_bit one.bit other.bit
-
--- the name of a signal: without the `\` of an escaped one, and with the numbers of its bits behind it
-abbrev pub rtl_text : Signal → List ℕ
-rtl_text s = plain s.base ++ range_text s.high (length s.places)
 
 -- the name of a net: `tx.level[0]` of the key `[0]\tx.level`
 abbrev pub rtl_name : List ℕ → List ℕ

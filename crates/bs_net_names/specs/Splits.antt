@@ -1,7 +1,7 @@
 -- A text cut at a byte.
 use Rattle.std.specs.Prelude.{ℕ, ◌==◌, List, [], ◌∷◌, Option, Some, None, if◌then◌else◌}
 use Rattle.std.specs.Borrow.{Bor}
-use Rattle.std.specs.Option.{option_map}
+use Rattle.std.specs.Option.{option_map, option_map_or}
 
 -- what stands before a byte and what stands behind it
 pub record Halves : Type 0 where
@@ -29,3 +29,11 @@ last_split byte (b ∷ bs) = or_here byte b bs (last_split byte bs)
 abbrev pub halves_in : Option (Bor (List ℕ) × Bor (List ℕ)) → Option Halves
 halves_in None = None
 halves_in (Some p) = Some record { before = p.0.now; behind = p.1.now }
+
+-- what stands before the first such byte, or all
+abbrev pub before : ℕ → List ℕ → List ℕ
+before byte text = option_map_or (λ (h : Halves). h.before) (first_split byte text) text
+
+-- what stands behind it, or all
+abbrev pub behind : ℕ → List ℕ → List ℕ
+behind byte text = option_map_or (λ (h : Halves). h.behind) (first_split byte text) text

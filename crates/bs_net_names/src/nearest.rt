@@ -3,17 +3,18 @@ ghost use Rattle.std.specs.Prelude.{◌≡◌, ◌≤◌, ◌<◌, ◌+◌, ◌+
 ghost use Rattle.std.specs.Bool.{MatchBool};
 ghost use Rattle.bs_net.specs.Netlist.{parts_of};
 ghost use Rattle.bs_net_names.specs.Rtl.{rtl_name};
-ghost use Rattle.bs_net_names.specs.Signals.{range_text};
+ghost use Rattle.bs_net_names.specs.Ranges.{range_text};
 ghost use Rattle.bs_net_names.specs.Nearest.{apart, AreNearest, AreNearestBelow, common, flop_apart, IsFirstNearest, IsLeast, IsNearest, key_at, net_key};
 
 use crate::key::key_parts;
 use crate::naming::plain;
-use crate::signal::push_range;
+use crate::range::push_range;
 use bs_bits::NoMemory;
 use bs_net::{NetId, Raw};
 use std::alloc::Global;
 
 /// How many keys are named at most.
+/// A note is to be read at a glance.
 pub const NAMED: usize = 3;
 
 /// How many bytes two names have in common at their front.

@@ -5,6 +5,7 @@ ghost use Rattle.bs_net_names.specs.Quotes.{caret, digit, is_printable, shown_li
 use bs_bits::{NoMemory, push_piece};
 
 /// How many bytes of a line are shown.
+/// About two lines of a terminal.
 pub const SHOWN: usize = 160;
 
 /// A digit of a number to the base 16.

@@ -1,11 +1,11 @@
 //! The bits of a range.
-ghost use Rattle.std.specs.Prelude.{◌≡◌};
+ghost use Rattle.std.specs.Prelude.{◌≡◌, ◌++◌, OnOk, Some};
 ghost use Rattle.bs_bits.specs.Lines.{number_in};
-ghost use Rattle.bs_net_names.specs.Ranges.{both_ends, ends_of, falling, is_among, one_end, place_in, range_before, range_behind, rising};
+ghost use Rattle.bs_net_names.specs.Ranges.{both_ends, ends_of, falling, is_among, one_end, place_in, range_before, range_behind, range_text, rising};
 ghost use Rattle.bs_net_names.specs.Splits.{first_split, halves_in};
 
 use crate::splits::first_split;
-use bs_bits::read_number;
+use bs_bits::{NoMemory, push_number, push_piece, read_number};
 
 /// The numbers of the first and the last bit of a vector.
 #[derive(Clone, Copy)]
@@ -118,4 +118,17 @@ pub fn is_among(range: Range, bit: Option<u64>) -> bool
         }
         None => false,
     }
+}
+
+/// Appends the numbers of the bits of a vector: so many, from the greatest down.
+pub fn push_range(text: &mut Vec<u8>, high: u64, count: usize) -> Result<(), NoMemory>
+    ensures { OnOk result (text.new.items ≡ text.old.items ++ range_text (Some high) count) }
+{
+    push_piece(text, b"[")?;
+    push_number(text, high)?;
+    if count != 1 {
+        push_piece(text, b":")?;
+        push_number(text, high.saturating_sub((count as u64).saturating_sub(1)))?;
+    }
+    push_piece(text, b"]")
 }

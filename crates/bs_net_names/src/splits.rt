@@ -1,6 +1,6 @@
 //! A text cut at a byte.
 ghost use Rattle.std.specs.Prelude.{◌≡◌};
-ghost use Rattle.bs_net_names.specs.Splits.{first_split, halves_in, last_split};
+ghost use Rattle.bs_net_names.specs.Splits.{before, behind, first_split, halves_in, last_split};
 
 /// What stands before the first such byte and behind it, if there is one.
 #[tactic(auto, using(crate::proofs::SplitLemmas::first_more, crate::proofs::SplitLemmas::first_found, crate::proofs::SplitLemmas::first_none))]
@@ -28,4 +28,24 @@ pub fn last_split(byte: u8, text: &[u8]) -> Option<(&[u8], &[u8])>
         }
     }
     None
+}
+
+/// What stands before the first such byte, or all.
+pub fn before(byte: u8, text: &[u8]) -> &[u8]
+    ensures { result.now ≡ before byte text.now }
+{
+    match first_split(byte, text) {
+        Some((front, _)) => front,
+        None => text,
+    }
+}
+
+/// What stands behind the first such byte, or all.
+pub fn behind(byte: u8, text: &[u8]) -> &[u8]
+    ensures { result.now ≡ behind byte text.now }
+{
+    match first_split(byte, text) {
+        Some((_, rest)) => rest,
+        None => text,
+    }
 }

@@ -4,7 +4,7 @@ ghost use Rattle.bs_net_names.specs.Spots.{IsSpot, is_feed};
 
 /// A place in a text. Line and column count from 1, and a column counts bytes. The line's bytes are those from `start` up to `end`, without
 /// its line feed.
-#[derive(Clone, Copy, Debug, PartialEq, Eq)]
+#[derive(Clone, Copy)]
 pub struct Spot {
     pub line: usize,
     pub column: usize,

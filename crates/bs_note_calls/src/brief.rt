@@ -11,6 +11,7 @@ use itoa::Buffer;
 use std::marker::Model;
 
 /// The most bytes of such a note.
+/// A shown name takes up to four bytes for each of its 160, so 640. As many are left for the sentence.
 pub const ROOM: usize = 1_280;
 
 /// A note, or a sentence of one, of at most `ROOM` bytes. Contracts see its bytes.

@@ -1,4 +1,3 @@
 pub mod NoteLemmas
 pub mod SignatureLemmas
-pub mod BeforeLemmas
 pub mod KindLemmas

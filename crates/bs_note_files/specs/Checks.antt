@@ -14,37 +14,16 @@ use Rattle.bs_net_names.specs.Nearest.{net_key}
 use Rattle.bs_net_names.specs.Quotes.{shown_line}
 use Rattle.bs_note_files.specs.declared.check.TheConstants.{RING}
 use Rattle.bs_note_files.specs.Notes.{saying, file_text, IsNoteOn}
-use Rattle.bs_note_files.specs.Parts.{before, behind, IsFirstPlace, NoneOf}
+use Rattle.bs_net_names.specs.Splits.{before, behind}
+use Rattle.bs_verilog_scope.specs.Standing.{IsNamePlace}
 
 -- ---- where a name stands in a text
 
 -- the name that stands in the text for a key: a vector's without its index
 abbrev pub base_of : List ℕ → List ℕ
 base_of key =
-    if starts_with nat_eq key (codes "[") then behind key 93
-    else (if starts_with nat_eq key (codes "\\") then key else before key 91)
-
--- the byte may stand in a name: a letter, a digit, `_` or `$`
-abbrev pub is_of_name : ℕ → Bool
-is_of_name b = nat_le 48 b && nat_le b 57 || (nat_le 65 b && nat_le b 90 || (nat_le 97 b && nat_le b 122 || (b == 95 || b == 36)))
-
--- such a byte stands there
-abbrev pub is_joined : Option ℕ → Bool
-is_joined None = false
-is_joined (Some b) = is_of_name b
-
-abbrev pub joins_before : List ℕ → ℕ → Bool
-joins_before text at = if at == 0 then false else is_joined (slice_get text (at - 1))
-
--- the name stands there, with no byte of a name before it or behind it
-abbrev pub stands_at : List ℕ → List ℕ → ℕ → Bool
-stands_at text name at =
-    starts_with nat_eq (drop at text) name && (not (joins_before text at) && not (is_joined (slice_get (drop at text) (length name))))
-
--- the first place of a text at which a name stands, or its front where it stands nowhere
-abbrev pub IsNamePlace : List ℕ → List ℕ → ℕ → Type 0
-IsNamePlace text name at =
-    IsFirstPlace (stands_at text name) (length text) at ⊎ (NoneOf (stands_at text name) (length text) × (at ≡ 0))
+    if starts_with nat_eq key (codes "[") then behind 93 key
+    else (if starts_with nat_eq key (codes "\\") then key else before 91 key)
 
 -- ---- a net
 

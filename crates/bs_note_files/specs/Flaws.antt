@@ -2,7 +2,8 @@
 use Rattle.std.specs.Prelude.{◌≡◌, ◌⊎◌, ◌+◌, ◌-◌, ◌==◌, ℕ, List, length, max, slice_index, nat_lt, Bool, ◌||◌, ◌&&◌, Option, Some, None}
 use Rattle.bs_note_files.specs.declared.form.Message.{Message}
 use Rattle.bs_note_files.specs.Notes.{Saying, said, IsNoteOn}
-use Rattle.bs_note_files.specs.Parts.{IsFirstPlace, NoneOf, IsNumbered}
+use Rattle.bs_note_files.specs.Parts.{IsNumbered}
+use Rattle.bs_verilog_scope.specs.Standing.{IsFirstPlace, NoneOf}
 use Rattle.bs_note_files.specs.Sayings.{stray_saying, loose_saying}
 
 -- the byte is none of ` ` to `~`

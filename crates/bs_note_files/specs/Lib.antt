@@ -1,7 +1,6 @@
 pub mod Notes
 pub mod Sayings
 pub mod Parts
-pub mod Before
 pub mod Flaws
 pub mod Kinds
 pub mod Netlists

@@ -4,7 +4,7 @@ use Rattle.std.specs.List.{list_all, starts_with}
 use Rattle.std.specs.Str.{bytes_eq}
 use Rattle.bs_verilog_syntax.specs.declared.fault.What.{What}
 use Rattle.bs_verilog_syntax.specs.declared.fault.What.TheVariants as what
-use Rattle.bs_note_files.specs.Before.{declares_near, is_own, is_word}
+use Rattle.bs_verilog_scope.specs.Before.{declares_near, is_own, is_word}
 use Rattle.bs_note_files.specs.Notes.{Saying, saying}
 
 -- ---- a line at sight

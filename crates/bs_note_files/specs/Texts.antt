@@ -9,7 +9,7 @@ use Rattle.bs_report.specs.declared.fault.ReportFault.TheVariants as report
 use Rattle.bs_note_files.specs.declared.dump.Widths.{Widths}
 use Rattle.bs_note_files.specs.Notes.{Saying, saying, file_text, IsNoteOn}
 use Rattle.bs_note_files.specs.Flaws.{IsLineNote, IsStartNote}
-use Rattle.bs_note_files.specs.Parts.{behind}
+use Rattle.bs_net_names.specs.Splits.{behind}
 use Rattle.bs_note_files.specs.Sayings.{run_form, inputs_saying, count_saying, runs_saying, cycles_saying, bits_in, width_text, dump_form}
 use Rattle.bs_note_files.specs.Sayings.{reset_saying, report_form, short_saying}
 
@@ -25,8 +25,8 @@ IsStimNote path text width stimulus.NoMemory note = note ≡ file_text path (cod
 -- how many bits a line of a dump has, and how many are due
 abbrev pub bits_text : Widths → ℕ → List ℕ → List ℕ
 bits_text widths number line =
-    if number == 1 then width_text (bits_in (behind line 32)) widths.flops (codes "flip-flop of the netlist")
-    else width_text (bits_in (behind line 32)) widths.items (codes "item of the signature")
+    if number == 1 then width_text (bits_in (behind 32 line)) widths.flops (codes "flip-flop of the netlist")
+    else width_text (bits_in (behind 32 line)) widths.items (codes "item of the signature")
 
 -- what to look at: a signature file without a line has no item
 abbrev pub bits_label : Widths → ℕ → List ℕ

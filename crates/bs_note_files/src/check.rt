@@ -1,18 +1,17 @@
 //! Notes on a netlist that its check refuses.
-ghost use Rattle.std.specs.Prelude.{◌≡◌, ◌≤◌, ◌++◌, codes, decimal, length, take, slice_get, IfOk, IfNone, IfSome, OnOk};
+ghost use Rattle.std.specs.Prelude.{◌≡◌, ◌++◌, codes, decimal, take, IfOk, OnOk};
 ghost use Rattle.bs_net.specs.Netlist.{parts_of};
 ghost use Rattle.bs_net_names.specs.Nearest.{net_key};
 ghost use Rattle.bs_net_names.specs.Quotes.{shown_line};
-ghost use Rattle.bs_note_files.specs.Checks.{base_of, count_sentence, first_key, is_joined, is_of_name, IsCheckNote, IsKeyNote, IsNamePlace, IsNetNote, IsRingNote};
-ghost use Rattle.bs_note_files.specs.Checks.{joins_before, keyed_text, output_of, ring_piece, ring_text, stands_at};
+ghost use Rattle.bs_note_files.specs.Checks.{base_of, count_sentence, first_key, IsCheckNote, IsKeyNote, IsNetNote, IsRingNote};
+ghost use Rattle.bs_note_files.specs.Checks.{keyed_text, output_of, ring_piece, ring_text};
 ghost use Rattle.bs_note_files.specs.Notes.{file_text};
-ghost use Rattle.bs_note_files.specs.Parts.{IsFirstPlace, NoneOf};
 
 use crate::form::{Message, file_note, name_sentence, note_on};
-use crate::part::{before, behind};
 use bs_bits::{NoMemory, push_number, push_piece};
 use bs_net::{Count, NetFault, NetId, Raw};
-use bs_net_names::push_quoted;
+use bs_net_names::{before, behind, push_quoted};
+use bs_verilog_scope::place_of_name;
 use std::alloc::Global;
 
 /// How many nets of a ring are named at most. A note is to be read at a glance, and a part of the ring leads to the rest.
@@ -34,77 +33,12 @@ fn base_of(key: &[u8]) -> &[u8]
     ensures { result.now ≡ base_of key.now }
 {
     if key.starts_with(b"[".as_slice()) {
-        return behind(key, b']');
+        return behind(b']', key);
     }
     if key.starts_with(b"\\".as_slice()) {
         return key;
     }
-    before(key, b'[')
-}
-
-/// Whether a byte may stand in a name.
-pub(crate) fn is_of_name(byte: u8) -> bool
-    ensures { result ≡ is_of_name byte }
-{
-    b'0' <= byte && byte <= b'9'
-        || (b'A' <= byte && byte <= b'Z'
-            || (b'a' <= byte && byte <= b'z' || (byte == b'_' || byte == b'$')))
-}
-
-/// Whether a byte of a name stands at a place.
-fn is_joined(text: &[u8], at: usize) -> bool
-    ensures { result ≡ is_joined (slice_get text.now at) }
-{
-    match text.get(at) {
-        Some(byte) => is_of_name(*byte),
-        None => false,
-    }
-}
-
-/// Whether a byte of a name stands before a place.
-fn joins_before(text: &[u8], at: usize) -> bool
-    ensures { result ≡ joins_before text.now at }
-{
-    if at == 0 {
-        false
-    } else {
-        is_joined(text, at - 1)
-    }
-}
-
-/// Whether a name stands at a place of a text, with no byte of a name before it or behind it.
-pub(crate) fn stands_at(text: &[u8], at: usize, name: &[u8]) -> bool
-    requires { at ≤ length text.now }
-    ensures { result ≡ stands_at text.now name.now at }
-{
-    let rest = &text[at..];
-    let starts = rest.starts_with(name);
-    let joined_before = joins_before(text, at);
-    let joined_behind = is_joined(rest, name.len());
-    starts && (!joined_before && !joined_behind)
-}
-
-/// The first place of a text at which a name stands, if it stands anywhere.
-fn first_place(text: &[u8], name: &[u8]) -> Option<usize>
-    ensures some { IfSome result (IsFirstPlace (stands_at text.now name.now) (length text.now)) }
-    ensures none { IfNone result (NoneOf (stands_at text.now name.now) (length text.now)) }
-{
-    'places: for at in 0..text.len() {
-        if stands_at(text, at, name) {
-            return Some(at);
-        }
-    }
-    None
-}
-
-/// The first place of a text at which a name stands; the text's front where it stands nowhere.
-fn place_of_name(text: &[u8], name: &[u8]) -> usize
-    ensures { IsNamePlace text.now name.now result }
-{
-    match first_place(text, name) {
-        Some(at) => at,
-        None => 0,
-    }
+    before(b'[', key)
 }
 
 /// A note on the first place of a text at which the name of a key stands.

@@ -3,19 +3,20 @@ ghost use Rattle.std.specs.Prelude.{◌≡◌, IfOk};
 ghost use Rattle.bs_note_files.specs.Flaws.{IsLineNote, IsStartNote};
 ghost use Rattle.bs_note_files.specs.Notes.{IsNoteOn, said};
 ghost use Rattle.bs_note_files.specs.Sayings.{begins_bits, bits_in, dump_form, dump_saying, end_saying, older_saying, width_text};
-ghost use Rattle.bs_note_files.specs.Parts.{behind};
+ghost use Rattle.bs_net_names.specs.Splits.{behind};
 ghost use Rattle.bs_note_files.specs.Texts.{bits_label, bits_saying, bits_text, IsDumpNote};
 
 use crate::flaw::flaw_note;
 use crate::form::{Message, file_note, note_on, say};
-use crate::part::{behind, numbered_line};
+use crate::part::numbered_line;
 use crate::width::{bits_in, width_sentence};
 use bs_bits::NoMemory;
+use bs_net_names::behind;
 use bs_scan::DumpFault;
 use std::alloc::Global;
 
 /// What a dump is due to have: so many bits of the state, and so many signatures, each of so many bits.
-#[derive(Clone, Copy, Debug)]
+#[derive(Clone, Copy)]
 pub struct Widths {
     pub flops: usize,
     pub depth: u8,
@@ -137,7 +138,7 @@ fn bits_sentence(
 ) -> Result<Vec<u8>, NoMemory>
     ensures { IfOk result (λ said. said.items ≡ bits_text widths number line.now) }
 {
-    let bits = bits_in(behind(line, b' '));
+    let bits = bits_in(behind(b' ', line));
     if number == 1 {
         width_sentence(alloc, bits, widths.flops, b"flip-flop of the netlist")
     } else {

@@ -2,7 +2,7 @@
 ghost use Rattle.std.specs.Prelude.{◌≡◌, ◌≤◌, ◌<◌, ℕ, length, false, IfNone, IfOk, IfSome};
 ghost use Rattle.bs_note_files.specs.Flaws.{FlawIs, is_stray, IsFlawNote, IsStartNote, loose_at, stray_at};
 ghost use Rattle.bs_note_files.specs.Notes.{said};
-ghost use Rattle.bs_note_files.specs.Parts.{IsFirstPlace, NoneOf};
+ghost use Rattle.bs_verilog_scope.specs.Standing.{IsFirstPlace, NoneOf};
 ghost use Rattle.bs_note_files.specs.Sayings.{packed_saying, stray_saying};
 
 use crate::form::{Message, note_on, say};

@@ -9,14 +9,14 @@ use bs_net_names::{Spot, push_caret, push_quoted, spot_of};
 use std::alloc::Global;
 
 /// What is said of a place: a sentence, and a few words behind the caret.
-#[derive(Clone, Copy, Debug)]
+#[derive(Clone, Copy)]
 pub struct Message<'a> {
     pub sentence: &'a [u8],
     pub label: &'a [u8],
 }
 
 /// A place of a file, by the file's name, its text, and a byte offset that is at most the text's length.
-#[derive(Clone, Copy, Debug)]
+#[derive(Clone, Copy)]
 pub struct FilePlace<'a> {
     pub path: &'a str,
     pub text: &'a [u8],

@@ -1,6 +1,6 @@
 //! Which file of a job a text seems to be, by its first word, or by a line that begins a module.
 ghost use Rattle.std.specs.Prelude.{◌≡◌, IfOk};
-ghost use Rattle.bs_note_files.specs.Kinds.{begins_module, has_module, kind_of, kind_of_lines, mistaken, mistaken_advice, mistaken_sentence, mistaken_text, other_than, rank, vcd_advice};
+ghost use Rattle.bs_note_files.specs.Kinds.{begins_module, has_module, kind_of, mistaken, mistaken_advice, mistaken_sentence, mistaken_text, other_than, rank, vcd_advice};
 
 use crate::form::file_note;
 use bs_bits::{NoMemory, next_line, push_piece};
@@ -27,17 +27,6 @@ fn has_module(text: &[u8]) -> bool
         rest = behind;
     }
     false
-}
-
-/// A netlist, where some line of the text begins a module.
-fn kind_of_lines(text: &[u8]) -> Option<File>
-    ensures { result ≡ kind_of_lines text.now }
-{
-    if has_module(text) {
-        Some(File::Netlist)
-    } else {
-        None
-    }
 }
 
 /// The file that a text seems to be.
@@ -68,7 +57,11 @@ fn kind_of_text(text: &[u8]) -> Option<File>
     if text.starts_with(b"$".as_slice()) {
         return Some(File::Vcd);
     }
-    kind_of_lines(text)
+    if has_module(text) {
+        Some(File::Netlist)
+    } else {
+        None
+    }
 }
 
 /// The place of a file among the names of a job.

@@ -1,14 +1,13 @@
 //! Notes on a text that a reader refuses: what is said, and the place of the text that it is said of.
 //!
 //! Modules: `form` (the forms of a note), a module a reader (`check`, `signature`, `stimulus`,
-//! `dump`, `report`, and those of a netlist's text, with `before`), `flaw` (what is wrong with a line at sight),
+//! `dump`, `report`, and those of a netlist's text), `flaw` (what is wrong with a line at sight),
 //! `kind` (which file a text seems to be), `part`, `width`. Used above: `IsPlacedNote`
 //! (`specs/Notes`): path, line, column, the line as it is shown, and the caret. A sentence:
 //! `specs/Sayings` and the module of its reader; a note for a new fault: a line in that reader's
 //! definition and an arm in its module.
 #![tactic(auto)]
 
-mod before;
 mod check;
 mod design;
 mod dump;

@@ -1,14 +1,14 @@
 //! Notes on a text of one module that is no netlist.
 ghost use Rattle.std.specs.Prelude.{◌≡◌, slice_get, IfOk, Some};
-ghost use Rattle.bs_note_files.specs.Before.{declares_near, is_own, is_word};
+ghost use Rattle.bs_verilog_scope.specs.Before.{declares_near, is_own, is_word};
 ghost use Rattle.bs_note_files.specs.Netlists.{fault_saying, IsNetlistNote, place_of};
 ghost use Rattle.bs_note_files.specs.Notes.{said};
 ghost use Rattle.bs_note_files.specs.Sayings.{begins_block, behaviour_saying, cell_saying, declares, is_binary, is_escaped, place_saying, syntax_saying, what_saying};
 
-use crate::before::{declares_near, is_own, is_word};
 use crate::flaw::packed_message;
 use crate::form::{Message, note_on, say};
 use bs_bits::NoMemory;
+use bs_verilog_scope::{declares_near, is_own, is_word};
 use bs_verilog_syntax::{VerilogFault, What};
 use std::alloc::Global;
 

@@ -8,10 +8,10 @@ use Rattle.bs_outside.specs.Calls.{FetchCall, InTurn}
 use Rattle.bs_outside.specs.declared.shelf.Fetch.{Fetch}
 use Rattle.bs_outside.specs.declared.shelf.Fetch.TheVariants as F
 use Rattle.bs_outside.specs.declared.file.File.{File}
-use Rattle.bs_outside.specs.declared.walk.Refusal.{Refusal}
-use Rattle.bs_outside.specs.declared.walk.Refusal.TheVariants as Q
-use Rattle.bs_outside.specs.declared.walk.JobFault.{JobFault}
-use Rattle.bs_outside.specs.declared.walk.JobFault.TheVariants as S
+use Rattle.bs_outside.specs.declared.file_fetch.Refusal.{Refusal}
+use Rattle.bs_outside.specs.declared.file_fetch.Refusal.TheVariants as Q
+use Rattle.bs_outside.specs.declared.file_fetch.JobFault.{JobFault}
+use Rattle.bs_outside.specs.declared.file_fetch.JobFault.TheVariants as S
 use Rattle.bs_outside.specs.PlanFiles.{limit_of}
 use Rattle.bs_outside.specs.Plan.{Tells, Counts, Wanted, Reason, exactly, Says, Plan, fetch, refuse, end, ◌>>=◌, fetched, given_next, with_texts, AllTold}
 use Rattle.bs_outside.specs.Plan.{read_as, PlanOutcome, ready, refused, faulted, Ends}

@@ -8,8 +8,8 @@ use Rattle.bs_outside.specs.declared.file.File.TheVariants.{Netlist, Signature, 
 use Rattle.bs_outside.specs.declared.status.Status.{Status}
 use Rattle.bs_outside.specs.declared.status.Status.TheVariants as T
 use Rattle.bs_outside.specs.declared.reply.Reply.{Reply}
-use Rattle.bs_outside.specs.declared.walk.JobFault.{JobFault}
-use Rattle.bs_outside.specs.declared.walk.JobFault.TheVariants as S
+use Rattle.bs_outside.specs.declared.file_fetch.JobFault.{JobFault}
+use Rattle.bs_outside.specs.declared.file_fetch.JobFault.TheVariants as S
 use Rattle.bs_outside.specs.PlanFiles.{refusal_status, refused_file, is_work_status}
 use Rattle.bs_outside.specs.Plan.{Tells, Counts, Plan, ready, refused, faulted}
 use Rattle.bs_outside.specs.Walks.{WalksTo, Walks, WalksAlone}

@@ -9,16 +9,16 @@ use Rattle.std.specs.declared.alloc.Global.{Global}
 use Rattle.bs_outside.specs.Calls.{FetchCall}
 use Rattle.bs_outside.specs.Faults.{Rose}
 use Rattle.std.specs.Option.{option_and_then}
-use Rattle.bs_outside.specs.declared.sure.SureShelf.{SureShelf}
+use Rattle.bs_outside.specs.declared.never_failing.SureShelf.{SureShelf}
 use Rattle.bs_outside.specs.Files.{sure_count}
 use Rattle.bs_outside.specs.Memory.{sure_held, sure_faults}
 use Rattle.bs_outside.specs.Fetching.{FetchesAll, FetchesTooMany, CountsFaults}
 use Rattle.bs_outside.specs.declared.shelf.Fetch.TheVariants.{Done, Failed, TooLong, NoMemory as Unfilled}
 use Rattle.bs_outside.specs.declared.file.File.{File}
-use Rattle.bs_outside.specs.declared.walk.Refusal.{Refusal}
-use Rattle.bs_outside.specs.declared.walk.Refusal.TheVariants as Q
-use Rattle.bs_outside.specs.declared.walk.JobFault.{JobFault}
-use Rattle.bs_outside.specs.declared.walk.JobFault.TheVariants as S
+use Rattle.bs_outside.specs.declared.file_fetch.Refusal.{Refusal}
+use Rattle.bs_outside.specs.declared.file_fetch.Refusal.TheVariants as Q
+use Rattle.bs_outside.specs.declared.file_fetch.JobFault.{JobFault}
+use Rattle.bs_outside.specs.declared.file_fetch.JobFault.TheVariants as S
 use Rattle.bs_outside.specs.PlanFiles.{limit_of}
 use Rattle.bs_outside.specs.Plan.{Tells, Counts, Wanted, Comes, Reason, exactly, Says, Plan, fetch, refuse, end, ◌>>=◌, fetched, given_next, with_texts}
 use Rattle.bs_outside.specs.Plan.{AllTold, read_as, PlanOutcome, ready, refused, faulted, Ends}

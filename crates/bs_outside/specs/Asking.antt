@@ -5,8 +5,8 @@ use Rattle.bs_outside.specs.Calls.{FetchCall}
 use Rattle.bs_outside.specs.declared.shelf.Fetch.{Fetch}
 use Rattle.bs_outside.specs.declared.shelf.Fetch.TheVariants as F
 use Rattle.bs_outside.specs.declared.status.Status.{Status}
-use Rattle.bs_outside.specs.declared.walk.JobFault.{JobFault}
-use Rattle.bs_outside.specs.declared.walk.JobFault.TheVariants.{NoMemory, Faulted, Refused}
+use Rattle.bs_outside.specs.declared.file_fetch.JobFault.{JobFault}
+use Rattle.bs_outside.specs.declared.file_fetch.JobFault.TheVariants.{NoMemory, Faulted, Refused}
 use Rattle.bs_outside.specs.PlanFiles.{limit_of}
 use Rattle.bs_outside.specs.Answers.{Answers, RefusesWords}
 use Rattle.bs_outside.specs.Plan.{Wanted, Reason, exactly, Says, Plan, fetch, refuse, end, PlanOutcome, ready, refused, faulted}

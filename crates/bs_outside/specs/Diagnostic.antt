@@ -3,10 +3,10 @@ use Rattle.std.specs.Prelude.{ℕ, Option, Some, None, Result, Ok, Err, Vec}
 use Rattle.std.specs.declared.alloc.Global.{Global}
 use Rattle.bs_bits.specs.declared.memory.NoMemory.{NoMemory as WantsMemory}
 use Rattle.bs_outside.specs.declared.file.File.{File}
-use Rattle.bs_outside.specs.declared.walk.JobFault.{JobFault}
-use Rattle.bs_outside.specs.declared.walk.JobFault.TheVariants as J
-use Rattle.bs_outside.specs.declared.walk.Refusal.{Refusal}
-use Rattle.bs_outside.specs.declared.walk.Refusal.TheVariants as Q
+use Rattle.bs_outside.specs.declared.file_fetch.JobFault.{JobFault}
+use Rattle.bs_outside.specs.declared.file_fetch.JobFault.TheVariants as J
+use Rattle.bs_outside.specs.declared.file_fetch.Refusal.{Refusal}
+use Rattle.bs_outside.specs.declared.file_fetch.Refusal.TheVariants as Q
 use Rattle.bs_outside.specs.declared.diagnostic.Unread.{Unread}
 use Rattle.bs_outside.specs.declared.diagnostic.Unread.TheVariants as U
 use Rattle.bs_outside.specs.declared.diagnostic.WalkStop.{WalkStop}

@@ -7,7 +7,7 @@ use Rattle.bs_outside.specs.Calls.{FetchCall, PutCall}
 use Rattle.bs_outside.specs.Cuts.{cut_of, put_answer}
 use Rattle.bs_outside.specs.Files.{Files, held_in, place_of, count_of, sure_count}
 use Rattle.bs_outside.specs.declared.memory.MemShelf.{MemShelf}
-use Rattle.bs_outside.specs.declared.sure.SureShelf.{SureShelf}
+use Rattle.bs_outside.specs.declared.never_failing.SureShelf.{SureShelf}
 use Rattle.bs_outside.specs.declared.memory.MemSink.{MemSink}
 
 -- the files of a shelf

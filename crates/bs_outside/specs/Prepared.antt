@@ -5,8 +5,8 @@ use Rattle.bs_outside.specs.Calls.{FetchCall, InTurn}
 use Rattle.bs_outside.specs.declared.status.Status.{Status}
 use Rattle.bs_outside.specs.declared.status.Status.TheVariants.{ReadFault, WriteFault}
 use Rattle.bs_outside.specs.declared.reply.Reply.{Reply}
-use Rattle.bs_outside.specs.declared.walk.JobFault.{JobFault}
-use Rattle.bs_outside.specs.declared.walk.JobFault.TheVariants.{NoMemory, Faulted, Refused}
+use Rattle.bs_outside.specs.declared.file_fetch.JobFault.{JobFault}
+use Rattle.bs_outside.specs.declared.file_fetch.JobFault.TheVariants.{NoMemory, Faulted, Refused}
 use Rattle.bs_outside.specs.PlanFiles.{refusal_status, refusal_line, is_work_status}
 use Rattle.bs_outside.specs.Plan.{Tells, Counts, Plan}
 use Rattle.bs_outside.specs.Answers.{CallsFor}

@@ -4,10 +4,10 @@ use Rattle.std.specs.declared.alloc.Global.{Global}
 use Rattle.bs_outside.specs.Calls.{FetchCall, InTurn}
 use Rattle.bs_outside.specs.Faults.{Rose}
 use Rattle.bs_outside.specs.declared.file.File.{File}
-use Rattle.bs_outside.specs.declared.walk.JobFault.{JobFault}
-use Rattle.bs_outside.specs.declared.walk.JobFault.TheVariants.{NoMemory, Faulted, Refused}
-use Rattle.bs_outside.specs.declared.walk.Refusal.{Refusal}
-use Rattle.bs_outside.specs.declared.walk.Refusal.TheVariants as Q
+use Rattle.bs_outside.specs.declared.file_fetch.JobFault.{JobFault}
+use Rattle.bs_outside.specs.declared.file_fetch.JobFault.TheVariants.{NoMemory, Faulted, Refused}
+use Rattle.bs_outside.specs.declared.file_fetch.Refusal.{Refusal}
+use Rattle.bs_outside.specs.declared.file_fetch.Refusal.TheVariants as Q
 use Rattle.bs_outside.specs.Plan.{Tells, Counts, Wanted, Comes, IsLong, Reason, Says, Plan, ready, refused, faulted, Ends}
 use Rattle.bs_outside.specs.Asking.{CallTo, GoesTo}
 

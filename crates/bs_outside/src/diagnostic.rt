@@ -4,7 +4,7 @@ ghost use Rattle.bs_outside.specs.Diagnostic.{both_of, lined, made, settled_diag
 ghost use Rattle.bs_outside.specs.declared.diagnostic.WalkStop.TheVariants.{Plain as PlainStop};
 
 use crate::file::File;
-use crate::walk::{JobFault, Refusal};
+use crate::file_fetch::{JobFault, Refusal};
 use bs_bits::NoMemory;
 
 /// The diagnostic of a file that its reader refuses.

@@ -2,13 +2,13 @@
 //! plan: the files that it comes to one after the other, how it may end, and what is written for each end.
 //!
 //! Of files and outputs: `shelf` (`Shelf`, `Fetch`), `sink` (`Sink`, `Put`), `memory` (both in memory, with
-//! faults on demand), `sure` (those that never fail), `once` (a shelf that gives each file once), `deaf`,
+//! faults on demand), `never_failing` (those that never fail), `once` (a shelf that gives each file once), `null_sink`,
 //! `reading` and `writing` (a whole file out of any reader, a piece into any writer), `files` and `streams`
 //! (real files, standard output: the trusted edge, each one call of the generic function). Used above:
 //! `Fetches`, `Puts` and `CountsFaults`, and `leads`, that a state follows from another by these calls. For
 //! another place to read from, write an impl of `Shelf`.
 //!
-//! A plan knows no netlist and no report: `file`, `status` (the exit codes), `limits` (of files), `walk`
+//! A plan knows no netlist and no report: `file`, `status` (the exit codes), `limits` (of files), `file_fetch`
 //! (`fetch_file`), `diagnostic` (`Diagnostic`, the words and the note of one refusal; `settle_diagnostic`),
 //! `reply` (`Reply`, the refusal lines), `output` (`deliver`). Used above: `WalksDiagnosed`, that one walk
 //! follows a plan to an end that agrees with the shelf, and in the same fetches a second plan, whose refusals
@@ -17,12 +17,14 @@
 //! `File` and of `Status` and a line in each table of `specs/PlanFiles`.
 #![tactic(auto)]
 
-mod deaf;
 mod diagnostic;
 mod file;
+mod file_fetch;
 mod files;
 mod limits;
 mod memory;
+mod never_failing;
+mod null_sink;
 mod once;
 mod output;
 mod reading;
@@ -31,20 +33,20 @@ mod shelf;
 mod sink;
 mod status;
 mod streams;
-mod sure;
-mod walk;
 mod writing;
 
 pub use bs_bits::NoMemory;
-pub use deaf::Deaf;
 pub use diagnostic::{Diagnostic, Unread, WalkStop, both, settle_diagnostic};
 pub use file::File;
+pub use file_fetch::{JobFault, Refusal, fetch_file, settle};
 pub use files::FileShelf;
 pub use limits::{
     MAX_DUMP_BYTES, MAX_MAP_BYTES, MAX_NETLIST_BYTES, MAX_REPORT_BYTES, MAX_SIGNATURE_BYTES,
     MAX_STIMULUS_BYTES, MAX_VCD_BYTES,
 };
 pub use memory::{MemShelf, MemSink};
+pub use never_failing::{SureShelf, SureSink};
+pub use null_sink::Deaf;
 pub use once::OnceShelf;
 pub use output::{Delivered, deliver, deliver_counted};
 pub use reading::fetch_opened;
@@ -53,6 +55,4 @@ pub use shelf::{Fetch, Shelf};
 pub use sink::{Put, Sink, put_text};
 pub use status::{NO_MEMORY_CODE, Status};
 pub use streams::StdSink;
-pub use sure::{SureShelf, SureSink};
-pub use walk::{JobFault, Refusal, fetch_file, settle};
 pub use writing::write_whole;

@@ -5,8 +5,8 @@ ghost use Rattle.bs_outside.specs.Answers.{RefusesWords};
 ghost use Rattle.bs_outside.specs.PlanFiles.{refusal_line};
 
 use crate::file::File;
+use crate::file_fetch::JobFault;
 use crate::status::Status;
-use crate::walk::JobFault;
 use bs_bits::{NoMemory, push_piece};
 use std::alloc::Global;
 

@@ -31,10 +31,10 @@ use Rattle.bs_encode.specs.Assuming.{block_for}
 use Rattle.bs_report.specs.declared.report.Cand.{Cand}
 use Rattle.bs_report.specs.declared.report.ListEnd.{ListEnd}
 use Rattle.bs_report.specs.declared.report.ListEnd.TheVariants.{Finished, Candidates, Conflicts}
-use Rattle.bs_report_good.specs.Step.{listed}
-use Rattle.bs_report_good.specs.Valid.{blocks_due}
+use Rattle.bs_report.specs.Step.{listed}
+use Rattle.bs_report.specs.Valid.{blocks_due}
 use Rattle.bs_solve.specs.Budget.{last_lemmas, HasFewLemmas}
-use Rattle.bs_preimage.specs.declared.turn.TurnEnd.TheVariants.{Listed, Refuted, Spent}
+use Rattle.bs_preimage.specs.declared.next_candidate.TurnEnd.TheVariants.{Listed, Refuted, Spent}
 use Rattle.bs_preimage.specs.Asking.{HasAsked, IsTold}
 use Rattle.bs_preimage.specs.Turn.{Extends, Keeps, HasSearched, MayTurn, TurnsTo, HasNext, HasRefutedAll, HasSpent, IsOneOf, block_in, activation_in, steps_after}
 use Rattle.bs_preimage.specs.Finding.{is_inner, HasLogged, IsAgain, IsUnderWay, HasKnown, KeepsLimit, HasEndedSearch, IsSearching, HasComeTo, HasFilled}

@@ -44,12 +44,12 @@ use Rattle.bs_encode.specs.Listing.{IsTidy, PredecessorsAreShown, SolutionsArePr
 use Rattle.bs_report.specs.declared.report.Cand.{Cand}
 use Rattle.bs_report.specs.declared.report.ListEnd.{ListEnd}
 use Rattle.bs_report.specs.declared.report.ListEnd.TheVariants.{Finished, Candidates, Conflicts}
-use Rattle.bs_report_good.specs.Step.{listed, IsCandidate}
-use Rattle.bs_report_good.specs.Valid.{is_right_before, HaveBefores, blocks_due, are_right_blocks, is_right_finish, blocks_in, finishes_in}
-use Rattle.bs_report_good.proofs.ExecutionLemmas.{led_widths}
-use Rattle.bs_report_good.proofs.SortedLemmas.{asc_of_pairs, asc_filter, asc_all_bits, same_lists}
-use Rattle.bs_report_good.proofs.ValidLemmas.{both}
-use Rattle.bs_report_good.proofs.GoodLemmas.{listed_member, filter_member, passing, all_bits_length}
+use Rattle.bs_report.specs.Step.{listed, IsCandidate}
+use Rattle.bs_report.specs.Valid.{is_right_before, HaveBefores, blocks_due, are_right_blocks, is_right_finish, blocks_in, finishes_in}
+use Rattle.bs_report.proofs.ExecutionLemmas.{led_widths}
+use Rattle.bs_report.proofs.SortedLemmas.{asc_of_pairs, asc_filter, asc_all_bits, same_lists}
+use Rattle.bs_report.proofs.ValidLemmas.{both}
+use Rattle.bs_report.proofs.GoodLemmas.{listed_member, filter_member, passing, all_bits_length}
 use Rattle.bs_preimage.specs.declared.listing.Listing.{Listing}
 use Rattle.bs_preimage.specs.Preimage.{next_activation}
 use Rattle.bs_preimage.specs.Rest.{IsAbout, IsAtRest, AreWholeSteps}

@@ -12,9 +12,9 @@ use Rattle.std.proofs.lemmas.List.Sorted.{IsPermutation-map, ranks_by, sorted_fa
 use Rattle.std.proofs.lemmas.Map.Keys.{IsDistinct-head, IsDistinct-tail, IsDistinct-IsPermutation}
 use Rattle.bs_bits.specs.Bits.{bits_eq, bits_cmp}
 use Rattle.bs_report.specs.declared.report.Cand.{Cand}
-use Rattle.bs_report_good.specs.Step.{listed, Ascend}
-use Rattle.bs_report_good.specs.Valid.{no_cand}
-use Rattle.bs_report_good.proofs.ValidLemmas.{state_at_place}
+use Rattle.bs_report.specs.Step.{listed, Ascend}
+use Rattle.bs_report.specs.Valid.{no_cand}
+use Rattle.bs_report.proofs.ValidLemmas.{state_at_place}
 use Rattle.std.proofs.lemmas.List.{length-map}
 use Rattle.std.proofs.lemmas.List.Elements.{All-from_recursion}
 use Rattle.bs_preimage.specs.Order.{IsInOrder}

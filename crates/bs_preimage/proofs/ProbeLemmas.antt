@@ -52,11 +52,11 @@ use Rattle.bs_encode.proofs.LiteralLemmas.{AllTrue, signs_true, bits_shown}
 use Rattle.bs_encode.proofs.FrameLemmas.{length-bits_on, IsIn, raised_in}
 use Rattle.bs_encode.proofs.CycleLemmas.{is_transition}
 use Rattle.bs_report.specs.declared.report.Cand.{Cand}
-use Rattle.bs_report_good.specs.Valid.{is_right_before}
-use Rattle.bs_report_good.proofs.ValidLemmas.{both}
-use Rattle.bs_report_good.proofs.GoodLemmas.{listed_member, filter_member, passing, all_bits_length}
-use Rattle.bs_preimage.specs.declared.turn.TurnEnd.{TurnEnd}
-use Rattle.bs_preimage.specs.declared.turn.TurnEnd.TheVariants.{Listed, Refuted, Spent}
+use Rattle.bs_report.specs.Valid.{is_right_before}
+use Rattle.bs_report.proofs.ValidLemmas.{both}
+use Rattle.bs_report.proofs.GoodLemmas.{listed_member, filter_member, passing, all_bits_length}
+use Rattle.bs_preimage.specs.declared.next_candidate.TurnEnd.{TurnEnd}
+use Rattle.bs_preimage.specs.declared.next_candidate.TurnEnd.TheVariants.{Listed, Refuted, Spent}
 use Rattle.bs_preimage.specs.Preimage.{next_activation}
 use Rattle.bs_preimage.specs.Listed.{IsRightCand}
 use Rattle.bs_preimage.specs.Rest.{IsAbout, made}

@@ -22,13 +22,13 @@ use Rattle.bs_solve_lemmas.proofs.Clauses.{contains_cases, contains_first, cons_
 use Rattle.bs_report.specs.declared.report.Cand.{Cand}
 use Rattle.bs_report.specs.declared.report.ListEnd.{ListEnd}
 use Rattle.bs_report.specs.declared.report.ListEnd.TheVariants.{Finished, Candidates, Conflicts}
-use Rattle.bs_report_good.specs.Step.{listed, IsRightEnd}
-use Rattle.bs_report_good.specs.Valid.{has_clause, blocks_due, are_right_blocks, is_right_finish, blocks_in, finishes_in}
+use Rattle.bs_report.specs.Step.{listed, IsRightEnd}
+use Rattle.bs_report.specs.Valid.{has_clause, blocks_due, are_right_blocks, is_right_finish, blocks_in, finishes_in}
 use Rattle.bs_preimage.specs.Rest.{AreWholeSteps}
 use Rattle.bs_preimage.specs.Finding.{is_inner, EndedBy}
 use Rattle.bs_preimage.specs.Step.{ending_of}
-use Rattle.bs_report_good.proofs.ValidLemmas.{spent_is}
-use Rattle.bs_report_good.proofs.WholeLemmas.{literal_decides}
+use Rattle.bs_report.proofs.ValidLemmas.{spent_is}
+use Rattle.bs_report.proofs.WholeLemmas.{literal_decides}
 use Rattle.bs_preimage.proofs.FindingLemmas.{each_reverse}
 
 -- ---- the lines of a step up to its retire line

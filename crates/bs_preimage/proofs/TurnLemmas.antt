@@ -27,10 +27,10 @@ use Rattle.bs_encode.specs.Cycle.{bits_on}
 use Rattle.bs_bits.specs.Bits.{bits_eq}
 use Rattle.bs_scan.specs.Moments.{is_listed}
 use Rattle.bs_report.specs.declared.report.Cand.{Cand}
-use Rattle.bs_report_good.specs.Step.{listed}
+use Rattle.bs_report.specs.Step.{listed}
 use Rattle.bs_solve.specs.Opening.{HasOpened}
-use Rattle.bs_preimage.specs.declared.turn.TurnEnd.{TurnEnd}
-use Rattle.bs_preimage.specs.declared.turn.TurnEnd.TheVariants.{Listed, Refuted, Spent}
+use Rattle.bs_preimage.specs.declared.next_candidate.TurnEnd.{TurnEnd}
+use Rattle.bs_preimage.specs.declared.next_candidate.TurnEnd.TheVariants.{Listed, Refuted, Spent}
 use Rattle.bs_preimage.specs.Turn.{Extends, HasSearched, MayTurn, TurnsTo, HasShown, HasShownCand, HasListedOne, block_in, activation_in, steps_after}
 use Rattle.bs_preimage.specs.Turn.{HasBlockedState, HasBlockedKnown, HasTakenKnown, GoesTo}
 use Rattle.bs_solve_lemmas.proofs.CallerLemmas.{begun_history, begun_vars, begun_clauses, open_are_lemmas, solved_keeps}

@@ -14,8 +14,8 @@ use Rattle.bs_scan.specs.Moments.{is_listed}
 use Rattle.bs_report.specs.declared.report.Cand.{Cand}
 use Rattle.bs_report.specs.declared.report.ListEnd.{ListEnd}
 use Rattle.bs_report.specs.declared.report.ListEnd.TheVariants.{Finished, Candidates, Conflicts}
-use Rattle.bs_report_good.specs.Step.{listed}
-use Rattle.bs_report_good.specs.Valid.{blocks_due}
+use Rattle.bs_report.specs.Step.{listed}
+use Rattle.bs_report.specs.Valid.{blocks_due}
 use Rattle.bs_solve_lemmas.specs.declared.stage.Stage.TheVariants.{Blocked, Ended, Stopped}
 use Rattle.bs_solve_lemmas.specs.ProofLog.{standing}
 use Rattle.bs_solve_lemmas.specs.Search.{assumed}

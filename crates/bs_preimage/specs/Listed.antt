@@ -15,8 +15,8 @@ use Rattle.bs_scan.specs.Choice.{Chosen}
 use Rattle.bs_solve.specs.Budget.{HasFewLemmas}
 use Rattle.bs_report.specs.declared.report.Cand.{Cand}
 use Rattle.bs_report.specs.declared.report.ListEnd.TheVariants.{Candidates, Conflicts}
-use Rattle.bs_report_good.specs.Step.{listed, Ascend, IsCandidate, IsRightEnd}
-use Rattle.bs_report_good.specs.Valid.{is_right_before, HaveBefores, blocks_due, are_right_blocks, blocks_in, is_right_finish, finishes_in}
+use Rattle.bs_report.specs.Step.{listed, Ascend, IsCandidate, IsRightEnd}
+use Rattle.bs_report.specs.Valid.{is_right_before, HaveBefores, blocks_due, are_right_blocks, blocks_in, is_right_finish, finishes_in}
 use Rattle.bs_preimage.specs.declared.listing.Listing.{Listing}
 use Rattle.bs_preimage.specs.Asking.{HasAsked}
 use Rattle.bs_preimage.specs.Preimage.{PreimageState, encoding_in, next_activation, assumptions_in, GoesOn}

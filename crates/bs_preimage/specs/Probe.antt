@@ -24,8 +24,8 @@ use Rattle.bs_solve_lemmas.specs.Solver.{SolverState, HasEnded}
 use Rattle.bs_preimage.specs.declared.probe.Engine.{Engine}
 use Rattle.bs_preimage.specs.declared.probe.Probed.{Probed}
 use Rattle.bs_preimage.specs.declared.probe.Probed.TheVariants.{Predecessor, NoPredecessor, Unknown}
-use Rattle.bs_preimage.specs.declared.turn.TurnEnd.{TurnEnd}
-use Rattle.bs_preimage.specs.declared.turn.TurnEnd.TheVariants.{Listed, Refuted, Spent}
+use Rattle.bs_preimage.specs.declared.next_candidate.TurnEnd.{TurnEnd}
+use Rattle.bs_preimage.specs.declared.next_candidate.TurnEnd.TheVariants.{Listed, Refuted, Spent}
 use Rattle.bs_preimage.specs.Preimage.{next_activation}
 use Rattle.bs_preimage.specs.Listed.{IsRightCand}
 use Rattle.bs_preimage.specs.Rest.{IsAbout, ActivationsAreRetired, AxiomsStand}

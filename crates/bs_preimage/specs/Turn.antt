@@ -21,7 +21,7 @@ use Rattle.bs_scan.specs.Moments.{is_listed}
 use Rattle.bs_scan.specs.Present.{Present}
 use Rattle.bs_report.specs.declared.report.Before.{Before}
 use Rattle.bs_report.specs.declared.report.Cand.{Cand}
-use Rattle.bs_report_good.specs.Step.{listed}
+use Rattle.bs_report.specs.Step.{listed}
 use Rattle.bs_solve_lemmas.specs.declared.stage.Stage.TheVariants.{Ended, Stopped}
 use Rattle.bs_solve_lemmas.specs.ProofLog.{ProofLog, standing}
 use Rattle.bs_solve_lemmas.specs.Search.{assumed}
@@ -29,8 +29,8 @@ use Rattle.bs_solve_lemmas.specs.Ending.{is_open_lemma}
 use Rattle.bs_solve_lemmas.specs.Stages.{is_begun}
 use Rattle.bs_solve_lemmas.specs.Solver.{SolverState, MaySolve, HasBlocked}
 use Rattle.bs_solve_lemmas.specs.Values.{value_of}
-use Rattle.bs_preimage.specs.declared.turn.TurnEnd.{TurnEnd}
-use Rattle.bs_preimage.specs.declared.turn.TurnEnd.TheVariants.{Listed, Refuted, Spent}
+use Rattle.bs_preimage.specs.declared.next_candidate.TurnEnd.{TurnEnd}
+use Rattle.bs_preimage.specs.declared.next_candidate.TurnEnd.TheVariants.{Listed, Refuted, Spent}
 use Rattle.bs_preimage.specs.Rest.{AxiomsStand}
 
 -- ---- what an assignment shows

@@ -95,7 +95,7 @@ pub(crate) fn candidate(
 }
 
 /// An equal state and input of the cycle before, if there are any.
-fn copied_before(before: &Option<Before>) -> Result<Option<Before>, NoMemory>
+pub fn copied_before(before: &Option<Before>) -> Result<Option<Before>, NoMemory>
     ensures { IfOk result (λ copy. copy ≡ before.now) }
 {
     match before {

@@ -17,7 +17,7 @@ ghost use Rattle.bs_preimage.specs.Listed.{HasListed, HasListedAsking, IsRightCa
 
 use crate::listing::Listing;
 use crate::probe::Probe;
-use crate::source::{Held, Source};
+use crate::source::{KnownBefore, Source};
 use crate::step::{Question, list_step};
 use bs_bits::{Bits, NoMemory};
 use bs_clause::{Clauses, Lits};
@@ -158,7 +158,7 @@ impl<'a> Preimage<'a> {
         ensures stays { self.old.failed ≡ true → (self.new.problem ≡ self.old.problem) × (self.new.history ≡ self.old.history) }
         ensures calls { self.new.calls ≡ self.old.calls + 1 }
     {
-        let mut held = Held { known };
+        let mut held = KnownBefore { known };
         let listing = self.list_asking(alloc, present, stored, older, &mut held, k, b)?;
         Ok(listing)
     }

@@ -10,8 +10,8 @@ ghost use Rattle.bs_preimage.specs.Rest.{IsAbout};
 ghost use Rattle.bs_preimage.specs.Turn.{IsReadable, MayTurn, TurnsTo};
 ghost use Rattle.bs_preimage.specs.Probe.{last_of, probed_of, probing_at, probing_for, HasAnswered, HasProbed, IsPaused, IsProbed, IsQuestion, IsReadyEngine, IsReadyFor, MayProbe};
 
+use crate::next_candidate::{TurnEnd, take_turn};
 use crate::preimage::solver_of;
-use crate::turn::{TurnEnd, take_turn};
 use bs_bits::Bits;
 use bs_clause::{Lit, Lits, NoMemory};
 use bs_encode::{

@@ -42,11 +42,11 @@ fn copied_known(known: &Option<Cand>) -> Result<Option<Cand>, NoMemory>
 
 /// What was known beforehand.
 #[derive(Drop)]
-pub(crate) struct Held<'a> {
+pub(crate) struct KnownBefore<'a> {
     pub(crate) known: &'a Option<Cand>,
 }
 
-impl<'a> Source for Held<'a> {
+impl<'a> Source for KnownBefore<'a> {
     ghost knows = { λ before known _. known ≡ before.known.now };
 
     fn known(&mut self, _alloc: Global) -> Result<Option<Cand>, NoMemory> {

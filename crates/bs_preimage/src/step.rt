@@ -10,7 +10,7 @@ ghost use Rattle.bs_preimage.specs.Rest.{IsAbout, IsAtRest};
 ghost use Rattle.bs_preimage.specs.Turn.{IsReadable, Extends};
 ghost use Rattle.bs_preimage.specs.Step.{ending_of, assumptions_at, HasSought, HasMadeStep};
 
-use crate::finding::find;
+use crate::enumeration::find;
 use crate::listing::Listing;
 use crate::order::ascending;
 use crate::source::Source;

@@ -7,53 +7,53 @@ use Rattle.bs_scan.proofs.SeenLemmas.{whole_where}
 use Rattle.bs_net.specs.Circuit.{Circuit, next}
 use Rattle.bs_scan.specs.Crash.{Recording}
 use Rattle.bs_scan.specs.Moments.{Run, moment, IsMoment, run_of, state_at}
-use Rattle.bs_chip_forward.specs.declared.forward.Aim.{Aim}
-use Rattle.bs_chip_forward.specs.Forward.{Ahead, IsAim, LeadsNowhere, NoneLeadBefore}
+use Rattle.bs_preimage_recorded.specs.declared.forward.PresentHashes.{PresentHashes}
+use Rattle.bs_preimage_recorded.specs.Forward.{Ahead, IsAim, LeadsNowhere, NoneLeadBefore}
 use Rattle.bs_preimage_recorded.specs.Finder.{IsAimed, LeadsAway, LeadsPast, NonePassBefore, StartsBy}
 
 -- the present is as wide as the states
-pub aimed_wide : (r : Recording) (present other : List Bool) (aim : Aim) (forward : Option Ahead) → IfSome forward (IsAimed r present aim) →
+pub aimed_wide : (r : Recording) (present other : List Bool) (aim : PresentHashes) (forward : Option Ahead) → IfSome forward (IsAimed r present aim) →
     length other ≡ length r.circuit.flops → IfSome forward (λ f. length other ≡ length f.circuit.flops)
 aimed_wide r present other aim None is wide = tt
 aimed_wide r present other aim (Some f) is wide = subst (λ (c : Circuit). length other ≡ length c.flops) (sym is.circuit) wide
 
-pub aimed_moment : (r : Recording) (present : List Bool) (aim : Aim) (forward : Option Ahead) (run cycle : ℕ) → IfSome forward (IsAimed r present aim) →
+pub aimed_moment : (r : Recording) (present : List Bool) (aim : PresentHashes) (forward : Option Ahead) (run cycle : ℕ) → IfSome forward (IsAimed r present aim) →
     IsMoment r.runs (moment run cycle) → IfSome forward (λ f. IsMoment f.runs (moment run cycle))
 aimed_moment r present aim None run cycle is there = tt
 aimed_moment r present aim (Some f) run cycle is there = subst (λ (runs : List Run). IsMoment runs (moment run cycle)) (sym is.runs) there
 
-pub aimed_at : (r : Recording) (present : List Bool) (aim : Aim) (forward : Option Ahead) → IfSome forward (IsAimed r present aim) →
+pub aimed_at : (r : Recording) (present : List Bool) (aim : PresentHashes) (forward : Option Ahead) → IfSome forward (IsAimed r present aim) →
     IfSome forward (λ f. IsAim f present aim)
 aimed_at r present aim None is = tt
 aimed_at r present aim (Some f) is = is.aim_is
 
 -- it is where the states of a recording lead
-pub aimed_in : (r other : Recording) (present : List Bool) (aim : Aim) (forward : Option Ahead) → IfSome forward (IsAimed r present aim) → r ≡ other →
+pub aimed_in : (r other : Recording) (present : List Bool) (aim : PresentHashes) (forward : Option Ahead) → IfSome forward (IsAimed r present aim) → r ≡ other →
     IfSome forward (λ f. (f.circuit ≡ other.circuit) × (f.runs ≡ other.runs))
 aimed_in r other present aim None is same = tt
 aimed_in r other present aim (Some f) is same =
     (is.circuit ∙ ap (λ (r : Recording). r.circuit) same, is.runs ∙ ap (λ (r : Recording). r.runs) same)
 
 -- it is aimed at another present
-pub aimed_anew : (r : Recording) (present other : List Bool) (aim next : Aim) (forward : Option Ahead) → IfSome forward (IsAimed r present aim) →
+pub aimed_anew : (r : Recording) (present other : List Bool) (aim next : PresentHashes) (forward : Option Ahead) → IfSome forward (IsAimed r present aim) →
     IfSome forward (λ f. IsAim f other next) → IfSome forward (IsAimed r other next)
 aimed_anew r present other aim next None is new = tt
 aimed_anew r present other aim next (Some f) is new = record { circuit = is.circuit; runs = is.runs; aim_is = new }
 
-away : (r : Recording) (present : Seen) (aim : Aim) (forward : Option Ahead) (run cycle : ℕ) → IfSome forward (IsAimed r present.bits aim) →
+away : (r : Recording) (present : Seen) (aim : PresentHashes) (forward : Option Ahead) (run cycle : ℕ) → IfSome forward (IsAimed r present.bits aim) →
     LeadsAway forward run cycle present → LeadsPast r.circuit (state_at r.circuit (run_of r.runs run) cycle) present
 away r present aim None run cycle is gone = absurd gone
 away r present aim (Some f) run cycle is gone =
     subst (λ (c : Circuit). LeadsPast c (state_at c (run_of r.runs run) cycle) present) is.circuit
     (subst (λ (runs : List Run). LeadsPast f.circuit (state_at f.circuit (run_of runs run) cycle) present) is.runs gone)
 
-pub leads_away : {E : Type 0} (r : Recording) (present : Seen) (aim : Aim) (forward : Option Ahead) (run cycle : ℕ) (result : Result Bool E) →
+pub leads_away : {E : Type 0} (r : Recording) (present : Seen) (aim : PresentHashes) (forward : Option Ahead) (run cycle : ℕ) (result : Result Bool E) →
     IfSome forward (IsAimed r present.bits aim) → IfOk result (λ may. may ≡ false → LeadsAway forward run cycle present) →
     IfOk result (λ may. may ≡ false → LeadsPast r.circuit (state_at r.circuit (run_of r.runs run) cycle) present)
 leads_away r present aim forward run cycle (Ok may) is lead = λ no. away r present aim forward run cycle is (lead no)
 leads_away r present aim forward run cycle (Err want) is lead = tt
 
-pub starts_at : {E : Type 0} (r : Recording) (present : Seen) (aim : Aim) (forward : Option Ahead) (result : Result ℕ E) →
+pub starts_at : {E : Type 0} (r : Recording) (present : Seen) (aim : PresentHashes) (forward : Option Ahead) (result : Result ℕ E) →
     IfSome forward (IsAimed r present.bits aim) → IfOk result (StartsBy forward present) → IfOk result (NonePassBefore r.circuit r.runs present)
 starts_at r present aim None (Ok from) is none = record { each = λ run cycle lt there. absurd (omega (arith, none, lt)) }
 starts_at r present aim (Some f) (Ok from) is none =

@@ -20,7 +20,7 @@ use Rattle.std.proofs.lemmas.List.Elements.{recursion_from_All}
 use Rattle.bs_net.specs.Circuit.{next}
 use Rattle.bs_net.proofs.CallerLemmas.{all_bits_widths}
 use Rattle.bs_scan.proofs.MomentLemmas.{each_member}
-use Rattle.bs_report_good.proofs.GoodLemmas.{listed_member, filter_member, passing, Passing}
+use Rattle.bs_report.proofs.GoodLemmas.{listed_member, filter_member, passing, Passing}
 use Rattle.bs_preimage_recorded.specs.Finder.{LeadsPast, NonePassBefore}
 use Rattle.bs_chip.specs.Lockstep.{IsLongest, IsLowest, NoneAmong, NoneBefore}
 use Rattle.bs_chip.specs.Replay.{lists}
@@ -32,7 +32,7 @@ use Rattle.bs_preimage.specs.Probe.{IsProbed}
 use Rattle.bs_preimage_recorded.specs.declared.search.Recorded.{Recorded}
 use Rattle.bs_preimage_recorded.specs.declared.search.Sought.{Sought}
 use Rattle.bs_preimage_recorded.specs.declared.search.Sought.TheVariants.{Found, NoMoment, Cut, Unsaid}
-use Rattle.bs_preimage_recorded.specs.declared.search.Turn.TheVariants.{GoOn}
+use Rattle.bs_preimage_recorded.specs.declared.search.RunResult.TheVariants.{GoOn}
 use Rattle.bs_preimage_recorded.specs.Search.{asked_in, is_recorded, alike_at, alike_below, alike_before, turn_by, HasTried, HasTurned, IsCutAt, IsUnknownAt}
 use Rattle.bs_preimage_recorded.specs.Search.{IsOpenAt, SoughtAt, SoughtBefore, SoughtSooner, SoughtOfAll, TurnsTo, IsFirstRecorded, StaysOpen}
 

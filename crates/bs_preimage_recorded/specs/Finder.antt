@@ -7,8 +7,8 @@ use Rattle.bs_encode.specs.Assuming.{AreWide}
 use Rattle.bs_scan.specs.Crash.{Recording}
 use Rattle.bs_scan.specs.Moments.{Run, moment, IsMoment, run_of, state_at}
 use Rattle.bs_chip.specs.Hashes.{hash_of}
-use Rattle.bs_chip_forward.specs.declared.forward.Aim.{Aim}
-use Rattle.bs_chip_forward.specs.Forward.{Ahead, IsAim}
+use Rattle.bs_preimage_recorded.specs.declared.forward.PresentHashes.{PresentHashes}
+use Rattle.bs_preimage_recorded.specs.Forward.{Ahead, IsAim}
 use Rattle.bs_preimage.specs.Probe.{Prober}
 
 -- a recording, and the present with a stored signature whose predecessors are looked for
@@ -18,13 +18,13 @@ pub record Seeker : Type 0 where
   pub stored : List Bool
 
 -- where a recording's states lead, and what those are looked up by that lead to a present
-pub record IsAimed (r : Recording) (present : List Bool) (aim : Aim) (f : Ahead) : Type 0 where
+pub record IsAimed (r : Recording) (present : List Bool) (aim : PresentHashes) (f : Ahead) : Type 0 where
   pub circuit : f.circuit ≡ r.circuit
   pub runs : f.runs ≡ r.runs
   pub aim_is : IsAim f present aim
 
 -- the parts of a finder are of the recording's chip
-pub record IsFinder (r : Recording) (p : Prober) (forward : Option Ahead) (present : Seen) (aim : Aim) (stored : List Bool) (hash : ℕ) :
+pub record IsFinder (r : Recording) (p : Prober) (forward : Option Ahead) (present : Seen) (aim : PresentHashes) (stored : List Bool) (hash : ℕ) :
     Type 0 where
   pub prober : p ≡ record { circuit = r.circuit; choice = r.choice }
   pub forward_is : IfSome forward (IsAimed r present.bits aim)

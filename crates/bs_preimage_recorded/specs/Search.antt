@@ -15,8 +15,8 @@ use Rattle.bs_preimage.specs.declared.probe.Probed.TheVariants.{Predecessor, NoP
 use Rattle.bs_preimage_recorded.specs.declared.search.Recorded.{Recorded}
 use Rattle.bs_preimage_recorded.specs.declared.search.Sought.{Sought}
 use Rattle.bs_preimage_recorded.specs.declared.search.Sought.TheVariants.{Found, NoMoment, Cut, Unsaid}
-use Rattle.bs_preimage_recorded.specs.declared.search.Turn.{Turn}
-use Rattle.bs_preimage_recorded.specs.declared.search.Turn.TheVariants.{GoOn, End}
+use Rattle.bs_preimage_recorded.specs.declared.search.RunResult.{RunResult}
+use Rattle.bs_preimage_recorded.specs.declared.search.RunResult.TheVariants.{GoOn, End}
 
 -- the predecessors of a present that agree with its stored signatures
 abbrev pub asked_in : Recording → Seen → List Bool → Option (List Bool) → List (List Bool)
@@ -62,13 +62,13 @@ SoughtAt r present stored older cycle from below (Cut m) = IsOpenAt r (asked_in 
 SoughtAt r present stored older cycle from below (Unsaid m) = IsOpenAt r (asked_in r present stored older) stored cycle from m
 
 -- none is up to a later number, or that is what comes of them
-abbrev pub TurnsTo : Recording → Seen → List Bool → Option (List Bool) → ℕ → ℕ → ℕ → Turn → Type 0
+abbrev pub TurnsTo : Recording → Seen → List Bool → Option (List Bool) → ℕ → ℕ → ℕ → RunResult → Type 0
 TurnsTo r present stored older cycle from below (GoOn run) =
     (from < run) × (run ≤ below) × NoneAmong r.circuit r.runs (asked_in r present stored older) cycle from run
 TurnsTo r present stored older cycle from below (End sought) = SoughtAt r present stored older cycle from below sought
 
 -- what an answer about a run means for the search at its cycle
-abbrev pub turn_by : Probed → ℕ → ℕ → Turn
+abbrev pub turn_by : Probed → ℕ → ℕ → RunResult
 turn_by (Predecessor cand) run cycle = End (Found (record { run = run; cycle = cycle; cand = cand }))
 turn_by NoPredecessor run cycle = GoOn run
 turn_by Unknown run cycle = End (Unsaid (moment run cycle))
@@ -88,7 +88,7 @@ HasTried old new alike before unknown (Cut m) = old ≤ before m
 HasTried old new alike before unknown (Unsaid m) = unknown m
 
 -- the same of one run behind another, where so many are alike up to a run
-abbrev pub HasTurned : ℕ → ℕ → (ℕ → ℕ) → (Moment → Type 0) → ℕ → ℕ → Turn → Type 0
+abbrev pub HasTurned : ℕ → ℕ → (ℕ → ℕ) → (Moment → Type 0) → ℕ → ℕ → RunResult → Type 0
 HasTurned old new alike unknown from below (GoOn run) = old + alike from ≤ new + alike run
 HasTurned old new alike unknown from below (End sought) =
     HasTried (old + alike from) new (alike below) (λ m. alike (m.run - 1)) unknown sought

@@ -2,17 +2,17 @@
 ghost use Rattle.std.specs.Prelude.{◌≡◌, ◌≤◌, [], false, length, option_map, IfOk, IfSome, MatchOption};
 ghost use Rattle.bs_scan.specs.Moments.{IsMoment, moment, run_of, state_at};
 ghost use Rattle.bs_stim.specs.declared.limits.TheConstants.{MAX_CYCLES};
-ghost use Rattle.bs_chip_forward.specs.Forward.{IsAim, LeadsNowhere};
+ghost use Rattle.bs_preimage_recorded.specs.Forward.{IsAim, LeadsNowhere};
 ghost use Rattle.bs_chip.specs.Hashes.{hash_of};
 ghost use Rattle.bs_chip.specs.Lockstep.{IsLongest, ShowsCycle};
 ghost use Rattle.bs_chip.specs.SignatureHashes.{IsNextAlike, NoneAlike};
 ghost use Rattle.bs_preimage.specs.Probe.{IsProbed};
 ghost use Rattle.bs_preimage_recorded.specs.Finder.{IsAsking, LeadsAway, LeadsPast, NonePassBefore, StartsBy};
 
+use crate::forward::{Forward, PresentHashes};
 use crate::own::own_way;
 use bs_bits::{Bits, NoMemory};
 use bs_chip::{Chip, SignatureHashes, hash_of};
-use bs_chip_forward::{Aim, Forward};
 use bs_preimage::{Probe, Probed};
 use bs_scan::Seen;
 use std::alloc::Global;
@@ -80,12 +80,12 @@ fn ask_moment(
 }
 
 /// What recorded states that lead to a present are looked up by, if it is known where they lead.
-fn aim_of(forward: &Option<Forward<'_>>, present: &Bits) -> Aim
+fn aim_of(forward: &Option<Forward<'_>>, present: &Bits) -> PresentHashes
     requires { IfSome forward.now (λ f. length present.now ≡ length f.circuit.flops) }
     ensures { IfSome forward.now (λ f. IsAim f present.now result) }
 {
     match forward {
-        None => Aim { low: 0, high: 0 },
+        None => PresentHashes { low: 0, high: 0 },
         Some(forward) => forward.aim(present),
     }
 }
@@ -96,7 +96,7 @@ fn may_lead_in(
     chip: &Chip<'_>,
     forward: &mut Forward<'_>,
     present: &Bits,
-    aim: Aim,
+    aim: PresentHashes,
     run: u32,
     cycle: u32,
 ) -> Result<bool, NoMemory>
@@ -118,7 +118,7 @@ fn may_lead_seen(
     chip: &Chip<'_>,
     forward: &mut Forward<'_>,
     present: &Seen,
-    aim: Aim,
+    aim: PresentHashes,
     run: u32,
     cycle: u32,
 ) -> Result<bool, NoMemory>
@@ -142,7 +142,7 @@ fn may_lead_by(
     chip: &Chip<'_>,
     forward: &mut Option<Forward<'_>>,
     present: &Seen,
-    aim: Aim,
+    aim: PresentHashes,
     run: u32,
     cycle: u32,
 ) -> Result<bool, NoMemory>
@@ -160,7 +160,11 @@ fn may_lead_by(
 }
 
 /// A cycle before which no state leads to a present. Where some of its bits are not known it is the first one.
-fn start_seen(forward: &mut Forward<'_>, present: &Seen, aim: Aim) -> Result<u32, NoMemory>
+fn start_seen(
+    forward: &mut Forward<'_>,
+    present: &Seen,
+    aim: PresentHashes,
+) -> Result<u32, NoMemory>
     requires { IsAim forward.old present.now.bits aim }
     ensures none { IfOk result (NonePassBefore forward.old.circuit forward.old.runs present.now) }
     ensures kept { forward.new ≡ forward.old }
@@ -172,7 +176,11 @@ fn start_seen(forward: &mut Forward<'_>, present: &Seen, aim: Aim) -> Result<u32
 }
 
 /// A cycle before which no state leads to a present, as far as it is known.
-fn start_by(forward: &mut Option<Forward<'_>>, present: &Seen, aim: Aim) -> Result<u32, NoMemory>
+fn start_by(
+    forward: &mut Option<Forward<'_>>,
+    present: &Seen,
+    aim: PresentHashes,
+) -> Result<u32, NoMemory>
     requires { IfSome forward.old (λ f. IsAim f present.now.bits aim) }
     ensures none { IfOk result (StartsBy forward.old present.now) }
     ensures kept { forward.new ≡ forward.old }
@@ -246,7 +254,7 @@ pub struct Finder<'a, 'p> {
     present: Seen,
     stored: Bits,
     hash: u64,
-    aim: Aim,
+    aim: PresentHashes,
 }
 
 // One function for every place that drops a finder, so that the proof of each such place stays small.
@@ -293,7 +301,7 @@ impl<'a, 'p> Finder<'a, 'p> {
                 present: Seen::whole(alloc, Bits::new(alloc)),
                 stored: Bits::new(alloc),
                 hash: 0,
-                aim: Aim { low: 0, high: 0 },
+                aim: PresentHashes { low: 0, high: 0 },
             }),
             Err(want) => Err(want),
         }

@@ -48,7 +48,7 @@ pub enum Sought {
 
 /// What comes of one run.
 #[derive(Drop)]
-enum Turn {
+enum RunResult {
     /// No run up to this one is in a predecessor.
     GoOn(u32),
     /// The search at the cycle ends.
@@ -64,13 +64,13 @@ struct RunRange {
 }
 
 /// What an answer about a run means for the search at its cycle.
-fn turn_of(said: Probed, run: u32, cycle: u32) -> Turn
+fn turn_of(said: Probed, run: u32, cycle: u32) -> RunResult
     ensures { result ≡ turn_by said run cycle }
 {
     match said {
-        Probed::Predecessor(cand) => Turn::End(Sought::Found(Recorded { run, cycle, cand })),
-        Probed::NoPredecessor => Turn::GoOn(run),
-        Probed::Unknown => Turn::End(Sought::Unsaid(Moment { run, cycle })),
+        Probed::Predecessor(cand) => RunResult::End(Sought::Found(Recorded { run, cycle, cand })),
+        Probed::NoPredecessor => RunResult::GoOn(run),
+        Probed::Unknown => RunResult::End(Sought::Unsaid(Moment { run, cycle })),
     }
 }
 
@@ -83,7 +83,7 @@ fn ask_run(
     span: RunRange,
     run: u32,
     tries: &mut u64,
-) -> Result<Turn, NoMemory>
+) -> Result<RunResult, NoMemory>
     requires next { IsNextAlike chip.old.recording query.now.stored.now span.cycle span.from run }
     requires within { run ≤ span.below }
     requires aimed { finder.old ≡ record { recording = chip.old.recording; present = query.now.present.now; stored = query.now.stored.now } }
@@ -95,7 +95,7 @@ fn ask_run(
 {
     if *tries == 0 {
         let cycle = span.cycle;
-        return Ok(Turn::End(Sought::Cut(Moment { run, cycle })));
+        return Ok(RunResult::End(Sought::Cut(Moment { run, cycle })));
     }
     *tries -= 1;
     let said = finder.ask(alloc, chip, query, run, span.cycle)?;
@@ -111,7 +111,7 @@ fn try_run(
     span: RunRange,
     run: u32,
     tries: &mut u64,
-) -> Result<Turn, NoMemory>
+) -> Result<RunResult, NoMemory>
     requires few { span.cycle ≤ MAX_CYCLES }
     requires next { IsNextAlike chip.old.recording query.now.stored.now span.cycle span.from run }
     requires order { span.from ≤ span.below }
@@ -123,10 +123,10 @@ fn try_run(
     ensures finder { finder.new ≡ finder.old }
 {
     if span.below < run {
-        return Ok(Turn::End(Sought::NoMoment));
+        return Ok(RunResult::End(Sought::NoMoment));
     }
     if !finder.may_lead(alloc, chip, run, span.cycle)? {
-        return Ok(Turn::GoOn(run));
+        return Ok(RunResult::GoOn(run));
     }
     ask_run(alloc, chip, finder, query, span, run, tries)
 }
@@ -139,7 +139,7 @@ fn next_turn(
     query: &Query<'_>,
     span: RunRange,
     tries: &mut u64,
-) -> Result<Turn, NoMemory>
+) -> Result<RunResult, NoMemory>
     requires few { span.cycle ≤ MAX_CYCLES }
     requires order { span.from ≤ span.below }
     requires aimed { finder.old ≡ record { recording = chip.old.recording; present = query.now.present.now; stored = query.now.stored.now } }
@@ -150,7 +150,7 @@ fn next_turn(
     ensures finder { finder.new ≡ finder.old }
 {
     match finder.next_alike(alloc, chip, span.cycle, span.from)? {
-        None => Ok(Turn::End(Sought::NoMoment)),
+        None => Ok(RunResult::End(Sought::NoMoment)),
         Some(run) => try_run(alloc, chip, finder, query, span, run, tries),
     }
 }
@@ -177,8 +177,8 @@ fn lowest_at(
     'runs: for _ in 0..below {
         let span = RunRange { cycle, from, below };
         match next_turn(alloc, chip, finder, query, span, tries)? {
-            Turn::GoOn(run) => from = run,
-            Turn::End(sought) => return Ok(sought),
+            RunResult::GoOn(run) => from = run,
+            RunResult::End(sought) => return Ok(sought),
         }
     }
     Ok(Sought::NoMoment)

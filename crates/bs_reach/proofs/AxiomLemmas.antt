@@ -10,7 +10,7 @@ use Rattle.bs_clause.specs.Range.{IsWithin, HasVariables}
 use Rattle.bs_log.specs.declared.origin.Origin.TheVariants.{Axiom}
 use Rattle.bs_log.specs.History.{Problem, Entry, axioms_from}
 use Rattle.bs_log.specs.Refusal.{entry_of}
-use Rattle.bs_reach.specs.declared.shift.Shift.{Shift}
+use Rattle.bs_reach.specs.declared.offsets.Shift.{Shift}
 use Rattle.bs_reach.specs.Renamed.{new_id, new_clause}
 use Rattle.bs_reach.specs.Widened.{IsWidened}
 use Rattle.bs_reach.proofs.ShiftLemmas.{IsShift, same_test, literal_stays, new_at_front, new_listed, new_behind}

@@ -13,7 +13,7 @@ use Rattle.bs_log.specs.declared.origin.Origin.TheVariants.{Learnt, Blocked, Ret
 use Rattle.bs_log.specs.History.{Problem, History, Entry, axioms_from, step_of, activation_of, added, live, is_deleted}
 use Rattle.bs_log.specs.Refusal.{entry_of}
 use Rattle.bs_log.proofs.Laws.{step_of-positive}
-use Rattle.bs_reach.specs.declared.shift.Shift.{Shift}
+use Rattle.bs_reach.specs.declared.offsets.Shift.{Shift}
 use Rattle.bs_reach.specs.Renamed.{new_id, new_variable, new_literal, new_clause, new_line}
 use Rattle.bs_reach.proofs.ShiftLemmas.{IsShift, same_id, variable_climbs}
 

@@ -11,9 +11,9 @@ use Rattle.bs_reach_unrolled.specs.Unrolled.{next_at, length_assumes}
 use Rattle.bs_log.specs.Refusal.{has_distinct_variables, denies}
 use Rattle.bs_log.specs.Propagation.{hints_are_unit, last_is_false}
 use Rattle.bs_log.specs.Lean.{IsResolventOf}
-use Rattle.bs_reach_implied.specs.declared.failure.Lemma.{Lemma}
-use Rattle.bs_reach_implied.specs.Rows.{Refutes}
-use Rattle.bs_reach_implied.proofs.NamedLemmas.{rows_named}
+use Rattle.bs_reach_unrolled.specs.declared.failure.Lemma.{Lemma}
+use Rattle.bs_reach_unrolled.specs.Rows.{Refutes}
+use Rattle.bs_reach_unrolled.proofs.NamedLemmas.{rows_named}
 use Rattle.bs_solve.specs.declared.failure.FailedAssumption.{FailedAssumption}
 use Rattle.bs_solve.specs.Failure.{FailsBy}
 use Rattle.bs_reach.specs.FailedAssumptions.{AreFailedAssumptions}

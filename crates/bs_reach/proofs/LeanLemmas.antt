@@ -9,7 +9,7 @@ use Rattle.bs_log.specs.Refusal.{NoneRefused, clauses_of, denies, assumptions_of
 use Rattle.bs_log.specs.Lean.{IsContained, IsNew, IsResolventOf, LemmasAreLean}
 use Rattle.bs_solve_lemmas.proofs.Clauses.{nothing_in, contains_first, cons_contains, contains_cases, all_from, filter_cases, map_cases}
 use Rattle.bs_solve_lemmas.proofs.Standing.{axioms_stand_still}
-use Rattle.bs_reach.specs.declared.shift.Shift.{Shift}
+use Rattle.bs_reach.specs.declared.offsets.Shift.{Shift}
 use Rattle.bs_reach.specs.Renamed.{new_literal, new_clause}
 use Rattle.bs_reach.specs.Widened.{IsNewVariable, IsWidened}
 use Rattle.bs_reach.proofs.ShiftLemmas.{variable_place, VariablePlace}

@@ -13,7 +13,7 @@ use Rattle.bs_log.specs.Lean.{IsLean}
 use Rattle.bs_log.specs.LineForms.{IsId, HasVariable, HasText}
 use Rattle.bs_log.specs.Refusal.{NoneRefused, is_complete}
 use Rattle.bs_log.specs.Steps.{block_of_line, HasNoBlock, finished_in}
-use Rattle.bs_reach.specs.declared.shift.Shift.{Shift}
+use Rattle.bs_reach.specs.declared.offsets.Shift.{Shift}
 use Rattle.bs_reach.specs.Renamed.{new_id, new_variable, new_literal, new_clause, new_line, IdFits, LiteralFits, HasRoom}
 use Rattle.bs_reach.specs.Widened.{LogsStayRight}
 use Rattle.bs_reach.proofs.ShiftLemmas.{new_at_most, variable_place, VariablePlace}

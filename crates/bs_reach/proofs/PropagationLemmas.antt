@@ -5,7 +5,7 @@ use Rattle.std.specs.List.{list_any}
 use Rattle.bs_clause.specs.Literal.{Literal, Clause, negation, same_literal, has_literal}
 use Rattle.bs_log.specs.Propagation.{open_literals, sole_unassigned, unit_literal, is_false, after_hints, ends_false, ends_false_after, start_of, hints_are_unit, last_is_false}
 use Rattle.bs_log.specs.Refusal.{has_distinct_variables, denies}
-use Rattle.bs_reach.specs.declared.shift.Shift.{Shift}
+use Rattle.bs_reach.specs.declared.offsets.Shift.{Shift}
 use Rattle.bs_reach.specs.Renamed.{new_literal, new_clause}
 use Rattle.bs_reach.proofs.ShiftLemmas.{same_variable, same_new_literal}
 

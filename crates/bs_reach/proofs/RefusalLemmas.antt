@@ -15,7 +15,7 @@ use Rattle.bs_log.specs.Refusal.{NoneRefused, entry_of, clauses_of, passes, is_l
 use Rattle.bs_log.proofs.Laws.{step_of-positive}
 use Rattle.bs_log.proofs.Tests.{IsRight, right_from_none, none_from_right}
 use Rattle.bs_log.proofs.Histories.{next_given}
-use Rattle.bs_reach.specs.declared.shift.Shift.{Shift}
+use Rattle.bs_reach.specs.declared.offsets.Shift.{Shift}
 use Rattle.bs_reach.specs.Renamed.{new_id, new_variable, new_literal, new_clause, new_line}
 use Rattle.bs_reach.specs.Widened.{IsWidened}
 use Rattle.bs_reach.proofs.ShiftLemmas.{IsShift, same_test, less_id, variable_place, VariablePlace, same_new_literal}

@@ -8,7 +8,7 @@ use Rattle.bs_clause.specs.Literal.{Literal, Clause, negation}
 use Rattle.bs_log.specs.Propagation.{unit_literal, start_of}
 use Rattle.bs_log.specs.Lean.{implied_by, IsContained, IsResolventOf}
 use Rattle.bs_solve_lemmas.proofs.Clauses.{all_from, map_cases, map_contains}
-use Rattle.bs_reach.specs.declared.shift.Shift.{Shift}
+use Rattle.bs_reach.specs.declared.offsets.Shift.{Shift}
 use Rattle.bs_reach.specs.Renamed.{new_variable, new_literal, new_clause}
 use Rattle.bs_reach.proofs.ShiftLemmas.{variable_back, literal_back}
 use Rattle.bs_reach.proofs.PropagationLemmas.{new_unit, new_start}

@@ -19,7 +19,7 @@ use Rattle.bs_log.proofs.Histories.{added_ids, in_range, next_given, solve_is_in
 use Rattle.bs_log.proofs.Tests.{right_from_none}
 use Rattle.bs_solve_lemmas.proofs.Clauses.{all_from}
 use Rattle.bs_solve_lemmas.proofs.Entries.{found_id, some_entry}
-use Rattle.bs_reach.specs.declared.shift.Shift.{Shift}
+use Rattle.bs_reach.specs.declared.offsets.Shift.{Shift}
 use Rattle.bs_reach.specs.Renamed.{IdFits, LiteralFits, HasRoom}
 use Rattle.bs_reach.specs.Widened.{LogsHaveRoom}
 use Rattle.bs_reach.proofs.ResolventLemmas.{one_of}

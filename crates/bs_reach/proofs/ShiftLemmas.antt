@@ -4,7 +4,7 @@ use Rattle.std.specs.Bool.{beq}
 use Rattle.std.proofs.lemmas.Bool.{cases_lt, eqb-true, eq-eqb, ltb-true, lt-ltb, leb-true, leb-false, false_from_ne_true, both_ways}
 use Rattle.bs_clause.specs.Literal.{Literal, same_literal}
 use Rattle.bs_clause.proofs.Literals.{literal_from_parts}
-use Rattle.bs_reach.specs.declared.shift.Shift.{Shift}
+use Rattle.bs_reach.specs.declared.offsets.Shift.{Shift}
 use Rattle.bs_reach.specs.Renamed.{new_id, new_variable, new_literal}
 
 -- two tests that say the same

@@ -10,7 +10,7 @@ use Rattle.bs_log.specs.History.{Problem, History, Entry, axioms_from, live, is_
 use Rattle.bs_log.specs.Refusal.{NoneRefused, entry_of, clauses_of, in_solve, is_between_steps}
 use Rattle.bs_log.proofs.Tests.{right_from_none}
 use Rattle.bs_log.proofs.Histories.{next_given}
-use Rattle.bs_reach.specs.declared.shift.Shift.{Shift}
+use Rattle.bs_reach.specs.declared.offsets.Shift.{Shift}
 use Rattle.bs_reach.specs.Renamed.{new_id, new_clause}
 use Rattle.bs_reach.specs.Widened.{IsWidened}
 use Rattle.bs_reach.proofs.ShiftLemmas.{IsShift, new_behind}

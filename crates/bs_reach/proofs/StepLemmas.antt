@@ -12,7 +12,7 @@ use Rattle.bs_log.specs.History.{Problem, History, Entry, axioms_from, live, ste
 use Rattle.bs_log.specs.Refusal.{is_lemma}
 use Rattle.bs_log.specs.Kept.{has_retired_activation, is_free_lemma, is_long, newer_long, is_kept, kept_lemmas}
 use Rattle.bs_log.specs.Lean.{is_block, LeavesKept, StepsLeaveKept}
-use Rattle.bs_reach.specs.declared.shift.Shift.{Shift}
+use Rattle.bs_reach.specs.declared.offsets.Shift.{Shift}
 use Rattle.bs_reach.specs.Renamed.{new_id, new_variable, new_literal, new_clause}
 use Rattle.bs_reach.specs.Widened.{IsWidened}
 use Rattle.bs_reach.proofs.ShiftLemmas.{IsShift, same_test, less_id, variable_place, VariablePlace}

@@ -23,7 +23,7 @@ use Rattle.bs_reach_unrolled.specs.Unrolled.{base_of, frame_of, states_at, next_
 use Rattle.bs_reach_unrolled.specs.Room.{IsUnrollable}
 use Rattle.bs_reach_unrolled.proofs.UnrollLemmas.{frames_fit}
 use Rattle.bs_reach_unrolled.proofs.UnrolledLemmas.{unrolled_range}
-use Rattle.bs_reach.specs.declared.shift.Shift.{Shift}
+use Rattle.bs_reach.specs.declared.offsets.Shift.{Shift}
 use Rattle.bs_reach.specs.Renamed.{new_variable, new_literal, new_clause}
 use Rattle.bs_reach.specs.Widened.{IsNewVariable, IsWidened}
 use Rattle.bs_reach.proofs.ShiftLemmas.{variable_climbs}

@@ -23,7 +23,7 @@ use Rattle.bs_reach_unrolled.specs.declared.limits.TheConstants.{MAX_FRAMES}
 use Rattle.bs_reach_unrolled.specs.Execution.{NotBefore, IsExecution}
 use Rattle.bs_reach_unrolled.specs.Room.{IsUnrollable}
 use Rattle.bs_reach_unrolled.specs.Unrolled.{length_assumes, reach_problem}
-use Rattle.bs_reach.specs.declared.shift.Shift.{Shift}
+use Rattle.bs_reach.specs.declared.offsets.Shift.{Shift}
 use Rattle.bs_reach.specs.Renamed.{new_line, HasRoom}
 use Rattle.bs_reach.specs.Widened.{IsWidened, StaysRight, LogsStayRight, LogsHaveRoom}
 use Rattle.bs_reach.proofs.EntryLemmas.{new_lines}

@@ -4,12 +4,12 @@ use Rattle.bs_scan.specs.declared.seen.Seen.{Seen}
 use Rattle.bs_log.specs.declared.line.Line.{Line}
 use Rattle.bs_net.specs.Circuit.{Circuit}
 use Rattle.bs_encode.specs.Encoded.{Encoded}
-use Rattle.bs_reach.specs.declared.shift.Shift.{Shift}
+use Rattle.bs_reach.specs.declared.offsets.Shift.{Shift}
 use Rattle.bs_reach.specs.declared.reach.Outcome.{Outcome}
 use Rattle.bs_reach.specs.declared.reach.Outcome.TheVariants.{Reached, Unreached, Unknown}
 use Rattle.bs_reach.specs.declared.wider.TheConstants.{ID_ROOM}
-use Rattle.bs_reach.specs.declared.wider.Look.{Look}
-use Rattle.bs_reach.specs.declared.wider.Look.TheVariants.{Verdict, More, Whole}
+use Rattle.bs_reach.specs.declared.wider.FewFrames.{FewFrames}
+use Rattle.bs_reach.specs.declared.wider.FewFrames.TheVariants.{Verdict, More, Whole}
 use Rattle.bs_reach.specs.Reach.{IsReach}
 
 -- where the unrolled clauses of j cycles, and what a log adds to them, stand in the list of k cycles
@@ -34,7 +34,7 @@ is_reached Unreached = false
 is_reached (Unknown j) = false
 
 -- what is told is a right answer
-abbrev pub LookFits : Circuit → Seen → ℕ → ℕ → Look → Type 0
+abbrev pub LookFits : Circuit → Seen → ℕ → ℕ → FewFrames → Type 0
 LookFits c p k b (Verdict r) = IsReach c p k b r
 LookFits c p k b More = Unit {0}
 LookFits c p k b Whole = Unit {0}

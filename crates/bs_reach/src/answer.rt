@@ -24,8 +24,7 @@ use bs_clause::NoMemory;
 use bs_encode::Encoding;
 use bs_log::Log;
 use bs_net::Netlist;
-use bs_reach_implied::Implied;
-use bs_reach_unrolled::{netlists_unroll, unroll, unrolled_clauses_are_executions};
+use bs_reach_unrolled::{Implied, netlists_unroll, unroll, unrolled_clauses_are_executions};
 use bs_scan::Seen;
 use bs_solve::{FailedAssumption, Solver};
 use std::alloc::Global;
@@ -33,7 +32,7 @@ use std::collections::VecDeque;
 
 /// A search that begins: a solver, and the lemmas of the first lengths.
 #[derive(Drop)]
-struct Start {
+struct SearchStart {
     solver: Solver,
     failed_assumptions: VecDeque<FailedAssumption>,
 }
@@ -58,7 +57,7 @@ fn start_of(
     implied: &Implied,
     state: &Seen,
     k: u32,
-) -> Result<Start, NoMemory>
+) -> Result<SearchStart, NoMemory>
     requires some { 1 ≤ k }
     requires unrollable { IsUnrollable encoding.now k }
     requires starts { length encoding.now.states ≡ length reset.now }
@@ -68,7 +67,7 @@ fn start_of(
 {
     let failed_assumptions = first_failed_assumptions(alloc, encoding, reset, implied, state, k)?;
     let solver = solver_over(alloc, encoding, reset, k)?;
-    Ok(Start {
+    Ok(SearchStart {
         solver,
         failed_assumptions,
     })

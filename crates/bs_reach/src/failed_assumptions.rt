@@ -3,14 +3,14 @@ ghost use Rattle.std.specs.Prelude.{◌≡◌, ◌+◌, ◌*◌, ◌<◌, length
 ghost use Rattle.bs_reach_unrolled.specs.Room.{IsUnrollable};
 ghost use Rattle.bs_encode.specs.Assuming.{signed_seen};
 ghost use Rattle.bs_reach_unrolled.specs.Unrolled.{length_assumes, next_at, unrolled};
-ghost use Rattle.bs_reach_implied.specs.Rows.{Refutes};
+ghost use Rattle.bs_reach_unrolled.specs.Rows.{Refutes};
 ghost use Rattle.bs_solve.specs.Failure.{FailsBy};
 ghost use Rattle.bs_reach.specs.FailedAssumptions.{AreFailedAssumptions};
 
 use bs_bits::Bits;
 use bs_clause::NoMemory;
 use bs_encode::Encoding;
-use bs_reach_implied::{Implied, Lemma, Places, failed_assumption};
+use bs_reach_unrolled::{Implied, Lemma, Places, failed_assumption};
 use bs_scan::Seen;
 use bs_solve::FailedAssumption;
 use std::alloc::Global;

@@ -3,7 +3,7 @@ use bs_bits::{Bits, List};
 use bs_log::Log;
 
 /// Whether a state is reached. A length is a number of cycles.
-#[derive(Clone, Copy, Debug, PartialEq, Eq)]
+#[derive(Clone, Copy)]
 pub enum Outcome {
     /// It is reached in so many cycles, and in no fewer.
     Reached(u64),

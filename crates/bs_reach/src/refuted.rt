@@ -13,12 +13,13 @@ use bs_bits::Bits;
 use bs_clause::NoMemory;
 use bs_encode::Encoding;
 use bs_log::{Line, Log};
-use bs_reach_implied::{Implied, Places};
+use bs_reach_unrolled::{Implied, Places};
 use bs_scan::Seen;
 use bs_solve::FailedAssumption;
 use std::alloc::Global;
 
 /// A time frame's clauses and flip-flops are at most so many where those of all time frames are counted.
+/// So no product of them with the time frames wraps. No encoding comes near.
 const COUNT_ROOM: u64 = 1 << 40;
 
 /// So many times a number.

@@ -2,7 +2,7 @@
 ghost use Rattle.std.specs.Prelude.{◌≡◌, ◌≤◌, map, All, IfOk};
 ghost use Rattle.bs_reach.specs.Renamed.{new_id, new_literal, new_clause, new_line, IdFits, LiteralFits, HasRoom};
 
-use crate::shift::Shift;
+use crate::offsets::Shift;
 use bs_bits::List;
 use bs_clause::{Lit, Lits, NoMemory, Var};
 use bs_log::{Line, Log};

@@ -20,8 +20,7 @@ use bs_encode::Encoding;
 use bs_log::{Line, Log};
 use bs_net::Netlist;
 use bs_reach_execution::{Execution, execution_of};
-use bs_reach_implied::Implied;
-use bs_reach_unrolled::{netlists_unroll, unrolled_clauses_are_executions};
+use bs_reach_unrolled::{Implied, netlists_unroll, unrolled_clauses_are_executions};
 use bs_scan::Seen;
 use std::alloc::Global;
 

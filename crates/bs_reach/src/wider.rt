@@ -13,25 +13,25 @@ ghost use Rattle.bs_reach.specs.Reach.{IsReach};
 ghost use Rattle.bs_reach.specs.Wider.{shift_between, has_small_ids, is_reached, LookFits};
 
 use crate::answer::look_over;
+use crate::offsets::Shift;
 use crate::reach::{Outcome, Reach};
 use crate::renaming::renamed;
 use crate::renaming_law::renamed_logs_stay_right;
-use crate::shift::Shift;
 use bs_clause::NoMemory;
 use bs_encode::Encoding;
 use bs_log::Log;
 use bs_net::Netlist;
-use bs_reach_implied::Implied;
-use bs_reach_unrolled::netlists_unroll;
+use bs_reach_unrolled::{Implied, netlists_unroll};
 use bs_scan::Seen;
 use std::alloc::Global;
 
 /// The clauses and flip-flops of a time frame and the lines of a log are at most so many where the log is renamed.
+/// So no new id wraps. No search comes near.
 pub(crate) const ID_ROOM: u64 = 1 << 40;
 
 /// What fewer time frames tell.
 #[derive(Drop)]
-pub(crate) enum Look {
+pub(crate) enum FewFrames {
     /// The answer.
     Verdict(Reach),
     /// The state is not reached within them.
@@ -156,7 +156,7 @@ fn told_of(
     reach: Reach,
     j: u32,
     k: u32,
-) -> Result<Look, NoMemory>
+) -> Result<FewFrames, NoMemory>
     requires encoded { encoding.now ≡ encoding_of (circuit net.now) [] }
     requires some { 1 ≤ j }
     requires fewer { j ≤ k }
@@ -167,11 +167,11 @@ fn told_of(
 {
     if is_reached(reach.outcome) && has_small_ids(encoding, &reach.log) {
         let told = widened(alloc, net, encoding, state, reach, j, k)?;
-        return Ok(Look::Verdict(told));
+        return Ok(FewFrames::Verdict(told));
     }
     Ok(match reach.outcome {
-        Outcome::Unreached => Look::More,
-        _ => Look::Whole,
+        Outcome::Unreached => FewFrames::More,
+        _ => FewFrames::Whole,
     })
 }
 
@@ -185,7 +185,7 @@ fn look_within(
     j: u32,
     k: u32,
     b: u64,
-) -> Result<Look, NoMemory>
+) -> Result<FewFrames, NoMemory>
     requires encoded { encoding.now ≡ encoding_of (circuit net.now) [] }
     requires width { length state.now.bits ≡ length (circuit net.now).flops }
     requires some { 1 ≤ j }
@@ -239,9 +239,9 @@ pub(crate) fn look_wider(
     let mut j = first_frames(implied, k);
     'sizes: while j < k {
         match look_within(alloc, net, encoding, implied, state, j, k, b)? {
-            Look::Verdict(reach) => return Ok(reach),
-            Look::More => j = 4 * j,
-            Look::Whole => break,
+            FewFrames::Verdict(reach) => return Ok(reach),
+            FewFrames::More => j = 4 * j,
+            FewFrames::Whole => break,
         }
     }
     look_over(alloc, net, encoding, implied, state, k, b)

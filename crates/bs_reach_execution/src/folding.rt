@@ -1,7 +1,7 @@
 //! The clauses of all time frames, with what is known put in: constants, and one variable for those that are equal.
 use crate::classes::{Classes, classes_of};
 use crate::numbers::{FALSE, NONE, TRUE, literal_of, number_or, write};
-use crate::scene::{Scene, begin_frame, known_term, term_of};
+use crate::scene::{FrameTerms, begin_frame, known_term, term_of};
 use crate::template::{Template, template_of};
 use bs_bits::Bits;
 use bs_clause::{Clauses, Lit, Lits, NoMemory};
@@ -10,6 +10,7 @@ use bs_scan::Seen;
 use std::alloc::Global;
 
 /// A clause has at most so many literals where clauses are folded.
+/// Where one has more, no execution is looked for.
 pub(crate) const MAX_WIDE: usize = 32;
 
 /// The folded clauses over the variables 1 to `vars`, as codes with the end of each, and what the inputs of each time frame stand for,
@@ -41,7 +42,7 @@ fn has_code(codes: &[u32], from: usize, code: u32) -> bool {
 }
 
 /// Whether a literal of the clause is true.
-fn is_met(scene: &Scene, classes: &Classes, clause: &[Lit]) -> bool {
+fn is_met(scene: &FrameTerms, classes: &Classes, clause: &[Lit]) -> bool {
     for l in clause {
         if known_term(scene, classes, *l) == TRUE {
             return true;
@@ -65,7 +66,7 @@ fn push_code(codes: &mut Vec<u32>, from: usize, code: u32) -> Result<bool, NoMem
 /// Puts what the literals of a clause stand for at the end. Whether two of them are one the other's negation.
 fn push_terms(
     codes: &mut Vec<u32>,
-    scene: &mut Scene,
+    scene: &mut FrameTerms,
     classes: &Classes,
     clause: &[Lit],
 ) -> Result<bool, NoMemory> {
@@ -83,7 +84,7 @@ fn push_terms(
 /// Puts a clause with what its literals stand for at the end, unless it is met.
 fn add_clause(
     into: &mut Folded,
-    scene: &mut Scene,
+    scene: &mut FrameTerms,
     classes: &Classes,
     clause: &[Lit],
 ) -> Result<(), NoMemory> {
@@ -95,7 +96,11 @@ fn add_clause(
 }
 
 /// Puts the clauses of the present time frame at the end.
-fn add_clauses(into: &mut Folded, scene: &mut Scene, parts: &Parts<'_>) -> Result<(), NoMemory> {
+fn add_clauses(
+    into: &mut Folded,
+    scene: &mut FrameTerms,
+    parts: &Parts<'_>,
+) -> Result<(), NoMemory> {
     for at in parts.classes.clauses.as_slice() {
         let place = *at as usize;
         if place < parts.clauses.len() {
@@ -109,7 +114,7 @@ fn add_clauses(into: &mut Folded, scene: &mut Scene, parts: &Parts<'_>) -> Resul
 /// Notes what the inputs of the present time frame stand for.
 fn add_inputs(
     into: &mut Vec<u32>,
-    scene: &Scene,
+    scene: &FrameTerms,
     classes: &Classes,
     inputs: &[Lit],
 ) -> Result<(), NoMemory> {
@@ -120,7 +125,7 @@ fn add_inputs(
 }
 
 /// The flip-flops stand for what the present time frame leads to.
-fn lead(scene: &mut Scene, classes: &Classes, next: &[Lit]) {
+fn lead(scene: &mut FrameTerms, classes: &Classes, next: &[Lit]) {
     for f in 0..next.len() {
         let term = term_of(scene, classes, next[f]);
         write(&mut scene.present, f, term);
@@ -130,7 +135,7 @@ fn lead(scene: &mut Scene, classes: &Classes, next: &[Lit]) {
 /// One time frame more.
 fn add_frame(
     into: &mut Folded,
-    scene: &mut Scene,
+    scene: &mut FrameTerms,
     parts: &Parts<'_>,
     encoding: &Encoding,
 ) -> Result<(), NoMemory> {
@@ -149,7 +154,7 @@ fn add_frame(
 /// So many time frames.
 fn add_frames(
     into: &mut Folded,
-    scene: &mut Scene,
+    scene: &mut FrameTerms,
     parts: &Parts<'_>,
     encoding: &Encoding,
     cycles: u32,
@@ -161,7 +166,7 @@ fn add_frames(
 }
 
 /// The flip-flops have these bits.
-fn set_state(scene: &mut Scene, bits: &Bits) {
+fn set_state(scene: &mut FrameTerms, bits: &Bits) {
     for f in 0..bits.len() {
         let term = if bits.get(f) { TRUE } else { FALSE };
         write(&mut scene.present, f, term);
@@ -186,7 +191,7 @@ fn wanted(code: u32, bit: bool) -> u32 {
 }
 
 /// The flip-flops are to have these bits, as far as they are known.
-fn add_goal(into: &mut Folded, scene: &Scene, state: &Seen) -> Result<(), NoMemory> {
+fn add_goal(into: &mut Folded, scene: &FrameTerms, state: &Seen) -> Result<(), NoMemory> {
     for f in 0..state.bits.len() {
         if !state.is_free(f) {
             let term = number_or(scene.present.as_slice(), f, FALSE);
@@ -205,7 +210,7 @@ fn fold_by(
     state: &Seen,
     cycles: u32,
 ) -> Result<Folded, NoMemory> {
-    let mut scene = Scene::new(alloc, encoding.vars(), encoding.states().len())?;
+    let mut scene = FrameTerms::new(alloc, encoding.vars(), encoding.states().len())?;
     let mut folded = Folded {
         codes: Vec::new(alloc),
         ends: Vec::new(alloc),

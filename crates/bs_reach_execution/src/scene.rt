@@ -8,19 +8,19 @@ use std::alloc::Global;
 /// The terms of a time frame's variables: a constant, the code of a literal, or none yet. The literals that are true in the order in
 /// which they came to be, and the terms of the flip-flops.
 #[derive(Drop)]
-pub(crate) struct Scene {
+pub(crate) struct FrameTerms {
     pub(crate) terms: Vec<u32>,
     pub(crate) trail: Vec<Lit>,
     pub(crate) present: Vec<u32>,
     pub(crate) last: u32,
 }
 
-impl Scene {
+impl FrameTerms {
     /// Nothing stands for anything, and each flip-flop for nothing.
-    pub(crate) fn new(alloc: Global, vars: u32, flops: usize) -> Result<Scene, NoMemory> {
+    pub(crate) fn new(alloc: Global, vars: u32, flops: usize) -> Result<FrameTerms, NoMemory> {
         let terms = filled(alloc, NONE, vars as usize + 1)?;
         let present = filled(alloc, NONE, flops)?;
-        Ok(Scene {
+        Ok(FrameTerms {
             terms,
             trail: Vec::new(alloc),
             present,
@@ -36,7 +36,7 @@ fn term_in(terms: &[u32], l: Lit) -> u32 {
 }
 
 /// Makes a literal true.
-fn assign(scene: &mut Scene, l: Lit) -> Result<(), NoMemory> {
+fn assign(scene: &mut FrameTerms, l: Lit) -> Result<(), NoMemory> {
     write(&mut scene.terms, l.var().0 as usize, turned(TRUE, l));
     scene.trail.push(l)?;
     Ok(())
@@ -60,7 +60,7 @@ fn open_in(terms: &[u32], clause: &[Lit]) -> Option<Lit> {
 }
 
 /// Makes the one literal that a clause leaves open true.
-fn imply(scene: &mut Scene, clauses: &[Lits], at: usize) -> Result<(), NoMemory> {
+fn imply(scene: &mut FrameTerms, clauses: &[Lits], at: usize) -> Result<(), NoMemory> {
     if at >= clauses.len() {
         return Ok(());
     }
@@ -71,7 +71,12 @@ fn imply(scene: &mut Scene, clauses: &[Lits], at: usize) -> Result<(), NoMemory>
 }
 
 /// A literal is false.
-fn deny(scene: &mut Scene, clauses: &[Lits], template: &Template, l: Lit) -> Result<(), NoMemory> {
+fn deny(
+    scene: &mut FrameTerms,
+    clauses: &[Lits],
+    template: &Template,
+    l: Lit,
+) -> Result<(), NoMemory> {
     let code = l.code() as usize;
     let start = number_or(template.starts.as_slice(), code, 0);
     let end = number_or(template.starts.as_slice(), code + 1, 0);
@@ -84,7 +89,7 @@ fn deny(scene: &mut Scene, clauses: &[Lits], template: &Template, l: Lit) -> Res
 
 /// All that follows from what is true, where there are so many variables.
 fn follow(
-    scene: &mut Scene,
+    scene: &mut FrameTerms,
     clauses: &[Lits],
     template: &Template,
     vars: u32,
@@ -100,7 +105,7 @@ fn follow(
 }
 
 /// The clauses of one literal make it true.
-fn assign_units(scene: &mut Scene, clauses: &[Lits], units: &[u32]) -> Result<(), NoMemory> {
+fn assign_units(scene: &mut FrameTerms, clauses: &[Lits], units: &[u32]) -> Result<(), NoMemory> {
     for at in units {
         imply(scene, clauses, *at as usize)?;
     }
@@ -108,7 +113,7 @@ fn assign_units(scene: &mut Scene, clauses: &[Lits], units: &[u32]) -> Result<()
 }
 
 /// A flip-flop stands for what the time frame before leads to.
-fn assign_state(scene: &mut Scene, state: Lit, f: usize) -> Result<(), NoMemory> {
+fn assign_state(scene: &mut FrameTerms, state: Lit, f: usize) -> Result<(), NoMemory> {
     let term = number_or(scene.present.as_slice(), f, NONE);
     if term == TRUE {
         return assign(scene, state);
@@ -121,7 +126,7 @@ fn assign_state(scene: &mut Scene, state: Lit, f: usize) -> Result<(), NoMemory>
 }
 
 /// All flip-flops stand for what the time frame before leads to.
-fn assign_states(scene: &mut Scene, states: &[Lit]) -> Result<(), NoMemory> {
+fn assign_states(scene: &mut FrameTerms, states: &[Lit]) -> Result<(), NoMemory> {
     for f in 0..states.len() {
         assign_state(scene, states[f], f)?;
     }
@@ -130,7 +135,7 @@ fn assign_states(scene: &mut Scene, states: &[Lit]) -> Result<(), NoMemory> {
 
 /// The constants of the next time frame.
 pub(crate) fn begin_frame(
-    scene: &mut Scene,
+    scene: &mut FrameTerms,
     clauses: &[Lits],
     template: &Template,
     states: &[Lit],
@@ -144,7 +149,7 @@ pub(crate) fn begin_frame(
 }
 
 /// What a literal stands for, by itself or by its root; none where nothing asked for it yet.
-pub(crate) fn known_term(scene: &Scene, classes: &Classes, l: Lit) -> u32 {
+pub(crate) fn known_term(scene: &FrameTerms, classes: &Classes, l: Lit) -> u32 {
     let own = term_in(scene.terms.as_slice(), l);
     if own != NONE {
         return own;
@@ -158,7 +163,7 @@ pub(crate) fn known_term(scene: &Scene, classes: &Classes, l: Lit) -> u32 {
 }
 
 /// What a literal stands for, a literal of its own where nothing asked for it yet.
-pub(crate) fn term_of(scene: &mut Scene, classes: &Classes, l: Lit) -> u32 {
+pub(crate) fn term_of(scene: &mut FrameTerms, classes: &Classes, l: Lit) -> u32 {
     let known = known_term(scene, classes, l);
     if known != NONE {
         return known;

@@ -15,6 +15,7 @@ use bs_solve_lemmas::{Answer, Solution};
 use std::alloc::Global;
 
 /// There are at most so many variables where clauses are searched.
+/// Half of those that a literal may have, so that the solver has room for its own.
 const MAX_VARIABLES: u32 = 1 << 29;
 
 /// Whether the clause is over the variables 1 to a number.

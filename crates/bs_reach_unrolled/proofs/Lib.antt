@@ -5,3 +5,8 @@ pub mod UnrolledLemmas
 pub mod SolutionLemmas
 pub mod ReachedLemmas
 pub mod RefutedLemmas
+pub mod RowLemmas
+pub mod NamedLemmas
+pub mod FailedAssumptionLemmas
+pub mod Reading
+pub mod Chains

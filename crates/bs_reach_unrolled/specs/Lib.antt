@@ -3,3 +3,5 @@ pub mod Execution
 pub mod Unrolled
 pub mod Room
 pub mod Laws
+pub mod Rows
+pub mod Chain

@@ -3,7 +3,7 @@ use Rattle.std.proofs.Common.{◌≡◌, ℕ, ◌==◌, Bool, true, false, List,
 use Rattle.std.specs.Prelude.{if◌then◌else◌}
 use Rattle.bs_report.specs.declared.fault.ReportFault.{ReportFault}
 use Rattle.bs_report.specs.declared.fault.ReportFault.TheVariants as faults
-use Rattle.bs_report.specs.declared.place.Place.{Place}
+use Rattle.bs_report.specs.declared.place.NextLine.{NextLine}
 use Rattle.bs_report.specs.declared.report.Report.{Report}
 use Rattle.bs_report.specs.Reading.{end_fault, ended, is_done}
 
@@ -22,9 +22,9 @@ by_wrong true false r fault e = cc
 by_wrong false empty r fault e = cc
 
 -- nothing is wrong, and the report is whole
-pub ended_right : (place : Place) (rest : List ℕ) (r : Report) → end_fault place rest ≡ None → Ok r ≡ ended place r rest
+pub ended_right : (place : NextLine) (rest : List ℕ) (r : Report) → end_fault place rest ≡ None → Ok r ≡ ended place r rest
 ended_right place rest r e = by_right (is_done place) (length rest == 0) r e
 
 -- what is wrong
-pub ended_wrong : (place : Place) (rest : List ℕ) (r : Report) (fault : ReportFault) → end_fault place rest ≡ Some fault → Err fault ≡ ended place r rest
+pub ended_wrong : (place : NextLine) (rest : List ℕ) (r : Report) (fault : ReportFault) → end_fault place rest ≡ Some fault → Err fault ≡ ended place r rest
 ended_wrong place rest r fault e = by_wrong (is_done place) (length rest == 0) r fault e

@@ -18,8 +18,8 @@ use Rattle.bs_scan.specs.Seen.{whole}
 use Rattle.bs_report.specs.declared.fault.ReportFault.{ReportFault}
 use Rattle.bs_report.specs.declared.fault.ReportFault.TheVariants as faults
 use Rattle.bs_report.specs.declared.place.PartialStep.{PartialStep}
-use Rattle.bs_report.specs.declared.place.Place.{Place}
-use Rattle.bs_report.specs.declared.place.Place.TheVariants as places
+use Rattle.bs_report.specs.declared.place.NextLine.{NextLine}
+use Rattle.bs_report.specs.declared.place.NextLine.TheVariants as places
 use Rattle.bs_report.specs.declared.report.Cand.{Cand}
 use Rattle.bs_report.specs.declared.report.ListEnd.{ListEnd}
 use Rattle.bs_report.specs.declared.report.ListEnd.TheVariants as ends
@@ -37,11 +37,11 @@ use Rattle.bs_report.proofs.SpelledLemmas.{Fits, line_fits, done_is, done_is_rep
 -- ---- whole lines
 
 -- what whole lines give from a place on; none where one of them is of a form that its place does not allow
-abbrev lines_on : Place → Report → List (List ℕ) → Option Reached
+abbrev lines_on : NextLine → Report → List (List ℕ) → Option Reached
 lines_on place r [] = Some (place, r)
 lines_on place r (a ∷ ls) = option_and_then (λ (y : Reached). lines_on y.0 y.1 ls) (taken place r a)
 
-lines_on_append : (place : Place) (r : Report) (ls bs : List (List ℕ)) (y : Reached) → lines_on place r ls ≡ Some y →
+lines_on_append : (place : NextLine) (r : Report) (ls bs : List (List ℕ)) (y : Reached) → lines_on place r ls ≡ Some y →
     lines_on place r (ls ++ bs) ≡ lines_on y.0 y.1 bs
 lines_on_append place r [] bs y e = let same : (place, r) ≡ y = cc in ap (λ (y : Reached). lines_on y.0 y.1 bs) same
 lines_on_append place r (a ∷ ls) bs y e = by (taken place r a) e (λ (z : Reached) f. lines_on_append z.0 z.1 ls bs y f)
@@ -52,7 +52,7 @@ lines_on_append place r (a ∷ ls) bs y e = by (taken place r a) e (λ (z : Reac
     by None e on = cc
     by (Some z) e on = on z e
 
-lines_fit : (ls : List (List ℕ)) (place : Place) (r : Report) (text : List ℕ) (y : Reached) → Fits place r text → lines_on place r ls ≡ Some y →
+lines_fit : (ls : List (List ℕ)) (place : NextLine) (r : Report) (text : List ℕ) (y : Reached) → Fits place r text → lines_on place r ls ≡ Some y →
     Fits y.0 y.1 (text ++ flat_map line ls)
 lines_fit [] place r text y h e =
     let same : (place, r) ≡ y = cc in
@@ -66,19 +66,19 @@ lines_fit (a ∷ ls) place r text y h e = by (taken place r a) refl e (λ (z : R
     by (Some z) t e on = subst (λ (t : List ℕ). Fits y.0 y.1 t) (append_assoc text (line a) (flat_map line ls)) (on z (line_fits place r text a z h t) e)
 
 -- nothing is allowed behind the end
-undone : (place : Place) (r : Report) (a : List ℕ) (y : Reached) → taken place r a ≡ Some y → is_done place ≡ false
+undone : (place : NextLine) (r : Report) (a : List ℕ) (y : Reached) → taken place r a ≡ Some y → is_done place ≡ false
 undone place r a y e = by (is_done place) refl
   where
     by : (b : Bool) → is_done place ≡ b → is_done place ≡ false
     by false f = f
-    by true f = let t : taken places.Done r a ≡ Some y = ap (λ (p : Place). taken p r a) (sym (done_is place f)) ∙ e in cc
+    by true f = let t : taken places.Done r a ≡ Some y = ap (λ (p : NextLine). taken p r a) (sym (done_is place f)) ∙ e in cc
 
-reads : (n : ℕ) (place : Place) (r : Report) (a : List ℕ) (y : Reached) → taken place r a ≡ Some y → followed n place r a ≡ Ok y
+reads : (n : ℕ) (place : NextLine) (r : Report) (a : List ℕ) (y : Reached) → taken place r a ≡ Some y → followed n place r a ≡ Ok y
 reads n place r a y e =
     ap (λ (b : Bool). cond {A = Result Reached ReportFault} b (Err faults.Extra) (line_or_fault n (taken place r a))) (undone place r a y e)
     ∙ ap (line_or_fault n) e
 
-one_line : (n : ℕ) (place : Place) (r : Report) (a : List ℕ) (tail : List (List ℕ)) → 0 < length tail →
+one_line : (n : ℕ) (place : NextLine) (r : Report) (a : List ℕ) (tail : List (List ℕ)) → 0 < length tail →
     report_from n place r (a ∷ tail) ≡ ◌>>=◌ (followed n place r a) (λ (y : Reached). report_from (n + 1) y.0 y.1 tail)
 one_line n place r a [] h = absurd (omega (arith, h))
 one_line n place r a (q ∷ qs) h = refl
@@ -87,7 +87,7 @@ some_more : (ls : List (List ℕ)) (p : List ℕ) (ps : List (List ℕ)) → 0 <
 some_more ls p ps = omega (arith, length-append ls (p ∷ ps))
 
 -- reading goes on behind whole lines
-through : (n : ℕ) (place : Place) (r : Report) (ls : List (List ℕ)) (p : List ℕ) (ps : List (List ℕ)) (y : Reached) → lines_on place r ls ≡ Some y →
+through : (n : ℕ) (place : NextLine) (r : Report) (ls : List (List ℕ)) (p : List ℕ) (ps : List (List ℕ)) (y : Reached) → lines_on place r ls ≡ Some y →
     report_from n place r (ls ++ p ∷ ps) ≡ report_from (n + length ls) y.0 y.1 (p ∷ ps)
 through n place r [] p ps y e =
     let same : (place, r) ≡ y = cc in
@@ -106,11 +106,11 @@ through n place r (a ∷ ls) p ps y e = by (taken place r a) refl e (λ (z : Rea
         ∙ (on z e ∙ ap (λ (m : ℕ). report_from m y.0 y.1 (p ∷ ps)) count))
 
 -- the whole lines of a text that is a report's are each allowed
-record Passed (place : Place) (r : Report) (ls : List (List ℕ)) : Type 0 where
+record Passed (place : NextLine) (r : Report) (ls : List (List ℕ)) : Type 0 where
   reached : Reached
   by_lines : lines_on place r ls ≡ Some reached
 
-passes : (n : ℕ) (place : Place) (r : Report) (ls : List (List ℕ)) (p : List ℕ) (ps : List (List ℕ)) (all : Report) →
+passes : (n : ℕ) (place : NextLine) (r : Report) (ls : List (List ℕ)) (p : List ℕ) (ps : List (List ℕ)) (all : Report) →
     report_from n place r (ls ++ p ∷ ps) ≡ Ok all → Passed place r ls
 passes n place r [] p ps all e = record { reached = (place, r); by_lines = refl }
 passes n place r (a ∷ ls) p ps all e =
@@ -134,7 +134,7 @@ Here answer n y piece [] = ended y.0 y.1 piece ≡ answer
 Here (Ok all) n y piece (q ∷ qs) = ⊥
 Here (Err fault) n y piece (q ∷ qs) = followed n y.0 y.1 piece ≡ Err fault
 
-record Settled (answer : Result Report ReportFault) (n : ℕ) (place : Place) (r : Report) (pieces : List (List ℕ)) : Type 0 where
+record Settled (answer : Result Report ReportFault) (n : ℕ) (place : NextLine) (r : Report) (pieces : List (List ℕ)) : Type 0 where
   before : List (List ℕ)
   reached : Reached
   piece : List ℕ
@@ -145,7 +145,7 @@ record Settled (answer : Result Report ReportFault) (n : ℕ) (place : Place) (r
   counted : number ≡ n + length before
   here : Here answer number reached piece behind
 
-settled : (n : ℕ) (place : Place) (r : Report) (piece : List ℕ) (ps : List (List ℕ)) (answer : Result Report ReportFault) →
+settled : (n : ℕ) (place : NextLine) (r : Report) (piece : List ℕ) (ps : List (List ℕ)) (answer : Result Report ReportFault) →
     report_from n place r (piece ∷ ps) ≡ answer → Settled answer n place r (piece ∷ ps)
 settled n place r piece [] answer e =
     record { before = []; reached = (place, r); piece = piece; behind = []; number = n; parts = refl; passed = refl; counted = omega arith; here = e }
@@ -189,12 +189,12 @@ settled n place r piece (q ∷ qs) answer e =
 
 -- ---- lines that end a report from any place
 
-record Completes (place : Place) (r : Report) : Type 0 where
+record Completes (place : NextLine) (r : Report) : Type 0 where
   more : List (List ℕ)
   all : Report
   to_end : lines_on place r more ≡ Some (places.Done, all)
 
-by_line : (place : Place) (r : Report) (a : List ℕ) (y : Reached) → taken place r a ≡ Some y → Completes y.0 y.1 → Completes place r
+by_line : (place : NextLine) (r : Report) (a : List ℕ) (y : Reached) → taken place r a ≡ Some y → Completes y.0 y.1 → Completes place r
 by_line place r a y e c =
     record { more = a ∷ c.more; all = c.all; to_end = ap (option_and_then (λ (y : Reached). lines_on y.0 y.1 c.more)) e ∙ c.to_end }
 
@@ -213,7 +213,7 @@ from_lines (suc left) r =
     let here : log_place (suc left) ≡ places.Lines (suc left) =
     ap (λ (b : Bool). cond b places.End (places.Lines (suc left))) (ne_eqb (suc left) 0 (λ e. omega (arith, e))) in
     let fewer : left ≡ suc left - 1 = omega arith in
-    subst (λ (place : Place). Completes place r) (sym here)
+    subst (λ (place : NextLine). Completes place r) (sym here)
     (by_line (places.Lines (suc left)) r (codes "s") (log_place (suc left - 1), with_solve r) refl
     (subst (λ (k : ℕ). Completes (log_place k) (with_solve r)) fewer (from_lines left (with_solve r))))
 
@@ -235,7 +235,7 @@ from_moves (suc left) r =
     let here : behind_state (suc left) ≡ places.Input (suc left) =
     ap (λ (b : Bool). cond b places.Log (places.Input (suc left))) (ne_eqb (suc left) 0 (λ e. omega (arith, e))) in
     let fewer : left ≡ suc left - 1 = omega arith in
-    subst (λ (place : Place). Completes place r) (sym here)
+    subst (λ (place : NextLine). Completes place r) (sym here)
     (by_line (places.Input (suc left)) r (codes "input .") (places.State (suc left - 1), with_input r) refl
     (subst (λ (k : ℕ). Completes (places.State k) (with_input r)) fewer
     (by_line (places.State left) (with_input r) (codes "state .") (behind_state left, with_state (with_input r)) refl
@@ -280,7 +280,7 @@ with_least r = record r { budgets = record { steps = 1; candidates = 1; conflict
 from_asked : (r : Report) → Completes places.Asked r
 from_asked r = by_line places.Asked r (codes "asked 1 candidates 1 conflicts 1") (places.Turn, with_least r) refl (from_turn (with_least r))
 
-completes : (place : Place) (r : Report) → Completes place r
+completes : (place : NextLine) (r : Report) → Completes place r
 completes places.Title r =
     by_line places.Title r (codes "backspace 1") (places.Asked, record r { depth = 1 }) refl (from_asked (record r { depth = 1 }))
 completes places.Asked r = from_asked r
@@ -621,7 +621,7 @@ extra text e =
         lines_on places.Title nothing_read before ≡ Some y → is_done y.0 ≡ true → glued (piece ∷ behind) ≢ [] → HasExtra text
     whole before y piece behind parts passed done some =
         let fits : Fits y.0 y.1 (flat_map line before) = lines_fit before places.Title nothing_read [] y (refl, refl) passed in
-        let f = done_is_report y.1 (flat_map line before) (subst (λ (p : Place). Fits p y.1 (flat_map line before)) (done_is y.0 done) fits) in
+        let f = done_is_report y.1 (flat_map line before) (subst (λ (p : NextLine). Fits p y.1 (flat_map line before)) (done_is y.0 done) fits) in
         record {
           report = y.1;
           has_text = f.0;

@@ -21,8 +21,8 @@ use Rattle.bs_log.proofs.RoundTrip.{lines_read_back}
 use Rattle.bs_report.specs.declared.fault.ReportFault.{ReportFault}
 use Rattle.bs_scan.specs.DumpText.{signature_text}
 use Rattle.bs_report.specs.declared.place.PartialStep.{PartialStep}
-use Rattle.bs_report.specs.declared.place.Place.{Place}
-use Rattle.bs_report.specs.declared.place.Place.TheVariants as places
+use Rattle.bs_report.specs.declared.place.NextLine.{NextLine}
+use Rattle.bs_report.specs.declared.place.NextLine.TheVariants as places
 use Rattle.bs_report.specs.declared.report.Budgets.{Budgets}
 use Rattle.bs_report.specs.declared.report.Cand.{Cand}
 use Rattle.bs_report.specs.declared.report.HitLine.{HitLine}
@@ -47,18 +47,18 @@ use Rattle.bs_report.proofs.ReadingLemmas.{line_from}
 -- ---- lines one after another
 
 -- reading goes on from one place to another
-record Goes (place : Place) (r : Report) (text : List ℕ) (next : Place) (after : Report) (rest : List ℕ) : Type 0 where
+record Goes (place : NextLine) (r : Report) (text : List ℕ) (next : NextLine) (after : Report) (rest : List ℕ) : Type 0 where
   to : (n : ℕ) → (m : ℕ) × (report_from n place r (pieces_of text) ≡ report_from m next after (pieces_of rest))
 
-stays : (place : Place) (r : Report) (text : List ℕ) → Goes place r text place r text
+stays : (place : NextLine) (r : Report) (text : List ℕ) → Goes place r text place r text
 stays place r text = record { to = λ n. (n, refl) }
 
-on : {place next last : Place} {r after end : Report} {text rest behind : List ℕ} → Goes place r text next after rest → Goes next after rest last end behind →
+on : {place next last : NextLine} {r after end : Report} {text rest behind : List ℕ} → Goes place r text next after rest → Goes next after rest last end behind →
     Goes place r text last end behind
 on g h = record { to = λ n. let a = g.to n in let b = h.to a.0 in (b.0, a.1 ∙ b.1) }
 
 -- one line
-one : (place next : Place) (r after : Report) (a rest : List ℕ) → Lacks 10 a → is_done place ≡ false → taken place r a ≡ Some (next, after) →
+one : (place next : NextLine) (r after : Report) (a rest : List ℕ) → Lacks 10 a → is_done place ≡ false → taken place r a ≡ Some (next, after) →
     Goes place r (line a ++ rest) next after rest
 one place next r after a rest lacks undone t =
     record {
@@ -76,7 +76,7 @@ one place next r after a rest lacks undone t =
     extra = Rattle.bs_report.specs.declared.fault.ReportFault.TheVariants.Extra
 
 -- one line of more
-one_of : (place next : Place) (r after : Report) (a b rest : List ℕ) → Lacks 10 a → is_done place ≡ false → taken place r a ≡ Some (next, after) →
+one_of : (place next : NextLine) (r after : Report) (a b rest : List ℕ) → Lacks 10 a → is_done place ≡ false → taken place r a ≡ Some (next, after) →
     Goes place r ((line a ++ b) ++ rest) next after (b ++ rest)
 one_of place next r after a b rest lacks undone t =
     subst (λ (text : List ℕ). Goes place r text next after (b ++ rest)) (sym (append_assoc (line a) b rest))
@@ -97,7 +97,7 @@ older_goes r p s older b rest h = by (r.depth == 1) refl
         (sym (h (eqb-true r.depth 1 z))) (stays (places.Listing (begun p s None) []) r (b ++ rest))
     by false z =
         one_of (places.Older p s) (places.Listing (begun p s older) []) r r (codes "older " ++ signature_text older) b rest (older_lacks older) refl
-        (ap (λ (o : Option (Option (List Bool))). option_map (λ (place : Place). (place, r))
+        (ap (λ (o : Option (Option (List Bool))). option_map (λ (place : NextLine). (place, r))
         (option_map (λ (older : Option (List Bool)). places.Listing (begun p s older) []) o)) (older_again older))
 
 cands_go : (h : PartialStep) (done cands : List Cand) (r : Report) (rest : List ℕ) → Each (λ cand. IsOfDepth r.depth cand.before) cands →
@@ -107,7 +107,7 @@ cands_go h done [] r rest of = subst (λ (cs : List Cand). Goes (places.Listing 
 cands_go h done (c ∷ cs) r rest of =
     on
     (one_of (places.Listing h done) (places.Listing h (done ++ c ∷ [])) r r (cand_words c) (flat_map cand_text cs) rest (cand_lacks c) refl
-    (ap (λ (o : Option Cand). option_map (λ (place : Place). (place, r)) (more_listed h done (cand_words c) o)) (cand_again r.depth c of.0)))
+    (ap (λ (o : Option Cand). option_map (λ (place : NextLine). (place, r)) (more_listed h done (cand_words c) o)) (cand_again r.depth c of.0)))
     (subst (λ (all : List Cand). Goes (places.Listing h (done ++ c ∷ [])) r (flat_map cand_text cs ++ rest) (places.Listing h all) r rest)
     (append_assoc done (c ∷ []) cs)
     (cands_go h (done ++ c ∷ []) cs r rest of.1))
@@ -116,7 +116,7 @@ list_goes : (head : PartialStep) (cands : List Cand) (e : ListEnd) (r : Report) 
     Goes (places.Listing head cands) r ((line (codes "list " ++ end_word e) ++ b) ++ rest) (places.Hit head cands e) r (b ++ rest)
 list_goes head cands e r b rest h =
     one_of (places.Listing head cands) (places.Hit head cands e) r r (codes "list " ++ end_word e) b rest (lacks e h) refl
-    (ap (λ (o : Option ListEnd). option_map (λ (place : Place). (place, r)) (option_map (λ (ended : ListEnd). places.Hit head cands ended) o)) (end_again e h))
+    (ap (λ (o : Option ListEnd). option_map (λ (place : NextLine). (place, r)) (option_map (λ (ended : ListEnd). places.Hit head cands ended) o)) (end_again e h))
   where
     lacks : (e : ListEnd) → HasEndText e → Lacks 10 (codes "list " ++ end_word e)
     lacks (Finished id) h = (
@@ -156,14 +156,14 @@ step_goes r number step rest h e small =
     (one_of places.Present (places.Stored step.present) r r (codes "present " ++ seen_text step.present) rest2 rest
     (lacks_append 10 (codes "present ") (seen_text step.present) (refl, (refl, (refl, (refl, (refl, (refl, (refl, (refl, tt))))))))
     (seen_lacks 10 step.present (omega arith))) refl
-    (ap (λ (o : Option Seen). option_map (λ (place : Place). (place, r)) (option_map (λ (s : Seen). places.Stored s) o))
+    (ap (λ (o : Option Seen). option_map (λ (place : NextLine). (place, r)) (option_map (λ (s : Seen). places.Stored s) o))
     (seen_line_again (codes "present") (codes "present " ++ seen_text step.present) step.present h.present
     (words_of_seen (codes "present") step.present refl) refl)))
     (on
     (one_of (places.Stored step.present) (behind_stored r.depth step.present step.stored) r r (codes "stored " ++ bits_text step.stored) rest3 rest
     (lacks_append 10 (codes "stored ") (bits_text step.stored) (refl, (refl, (refl, (refl, (refl, (refl, (refl, tt)))))))
     (bits_lack 10 step.stored (omega arith))) refl
-    (ap (λ (o : Option (List Bool)). option_map (λ (place : Place). (place, r))
+    (ap (λ (o : Option (List Bool)). option_map (λ (place : NextLine). (place, r))
     (option_map (λ (s : List Bool). behind_stored r.depth step.present s) o))
     (bits_line_again (codes "stored") (codes "stored " ++ bits_text step.stored) step.stored (words_of_bits (codes "stored") step.stored refl) refl)))
     (on (older_goes r step.present step.stored step.older rest4 rest h.older)
@@ -218,7 +218,7 @@ steps_go r number (s ∷ ss) rest h e few =
 abbrev with_trace : Report → List (List Bool) → List (List Bool) → List Bool → Report
 with_trace r states inputs free = record r { states = states; inputs = inputs; free = free }
 
-state_goes : (r : Report) (s : Seen) (left : ℕ) (next : Place) (rest : List ℕ) → IsSeen s → may_stand left s ≡ true → behind_state left ≡ next →
+state_goes : (r : Report) (s : Seen) (left : ℕ) (next : NextLine) (rest : List ℕ) → IsSeen s → may_stand left s ≡ true → behind_state left ≡ next →
     Goes (places.State left) r (state_text s ++ rest) next (with_state r s) rest
 state_goes r s left next rest sound may e =
     one (places.State left) next r (with_state r s) (codes "state " ++ seen_text s) rest
@@ -226,7 +226,7 @@ state_goes r s left next rest sound may e =
     (ap (λ (o : Option Seen). option_map (λ (s : Seen). (behind_state left, with_state r s)) (standing left o))
     (seen_line_again (codes "state") (codes "state " ++ seen_text s) s sound (words_of_seen (codes "state") s refl) refl)
     ∙ (ap (λ (b : Bool). option_map (λ (s : Seen). (behind_state left, with_state r s)) (cond {A = Option Seen} b (Some s) None)) may
-    ∙ ap (λ (place : Place). Some (place, with_state r s)) e))
+    ∙ ap (λ (place : NextLine). Some (place, with_state r s)) e))
 
 input_goes : (r : Report) (x : List Bool) (left : ℕ) (b rest : List ℕ) →
     Goes (places.Input left) r ((line (codes "input " ++ bits_text x) ++ b) ++ rest) (places.State (left - 1))
@@ -259,7 +259,7 @@ moves_go r [] [] rest e h =
 moves_go r [] (s ∷ ss) rest e h = absurd (omega (arith, e))
 moves_go r (x ∷ xs) [] rest e h = absurd (omega (arith, e))
 moves_go r (x ∷ xs) (s ∷ ss) rest e h =
-    subst (λ (place : Place). Goes place r (moves_text (x ∷ xs) (s ∷ ss) ++ rest) places.Log end rest)
+    subst (λ (place : NextLine). Goes place r (moves_text (x ∷ xs) (s ∷ ss) ++ rest) places.Log end rest)
     (sym (behind_move (length xs)))
     (subst (λ (text : List ℕ). Goes (places.Input (suc (length xs))) r text places.Log end rest)
     (sym (append_assoc (line (codes "input " ++ bits_text x) ++ state_text s) (moves_text xs ss) rest))
@@ -328,7 +328,7 @@ log_goes : (r : Report) (log : List Line) (rest : List ℕ) → Each HasText log
     Goes (log_place (length log)) r (flat_map (λ l. line (line_text l)) log ++ rest) places.End (with_log r (r.log ++ log)) rest
 log_goes r [] rest h = subst (λ (log : List Line). Goes places.End r rest places.End (with_log r log) rest) (sym (append-nil r.log)) (stays places.End r rest)
 log_goes r (l ∷ ls) rest h =
-    subst (λ (place : Place). Goes place r (flat_map (λ l. line (line_text l)) (l ∷ ls) ++ rest) places.End (with_log r (r.log ++ l ∷ ls)) rest)
+    subst (λ (place : NextLine). Goes place r (flat_map (λ l. line (line_text l)) (l ∷ ls) ++ rest) places.End (with_log r (r.log ++ l ∷ ls)) rest)
     (sym (behind_line (length ls)))
     (on
     (one_of (places.Lines (suc (length ls))) (log_place (length ls)) r (with_log r (r.log ++ l ∷ [])) (line_text l)
@@ -431,7 +431,7 @@ trace_goes q r rest no_states no_inputs e last few =
     (on
     (one_of places.Trace (places.State n) q q (codes "trace " ++ decimal n) (state_text f.first ++ moves_text r.inputs f.others) rest
     (lacks_append 10 (codes "trace ") (decimal n) (refl, (refl, (refl, (refl, (refl, (refl, tt)))))) (number_lacks 10 n (omega arith) few)) refl
-    (ap (λ (o : Option ℕ). option_map (λ (place : Place). (place, q)) (option_map (λ (n : ℕ). places.State n) o))
+    (ap (λ (o : Option ℕ). option_map (λ (place : NextLine). (place, q)) (option_map (λ (n : ℕ). places.State n) o))
     (count_again (codes "trace") (codes "trace " ++ decimal n) n (words_of_count (codes "trace") n refl few) refl few)))
     (subst (λ (t : List ℕ). Goes (places.State n) q t places.Log (with_trace q r.states r.inputs r.free) rest)
     (sym (append_assoc (state_text f.first) (moves_text r.inputs f.others) rest))
@@ -450,7 +450,7 @@ tail_goes q r h no_states no_inputs no_log =
     (one places.Log (log_place n) (with_trace q r.states r.inputs r.free) (with_trace q r.states r.inputs r.free) (codes "log " ++ decimal n)
     (flat_map (λ l. line (line_text l)) r.log ++ line (codes "end"))
     (lacks_append 10 (codes "log ") (decimal n) (refl, (refl, (refl, (refl, tt)))) (number_lacks 10 n (omega arith) h.few_lines)) undone
-    (ap (λ (o : Option ℕ). option_map (λ (place : Place). (place, with_trace q r.states r.inputs r.free)) (option_map (λ (n : ℕ). log_place n) o))
+    (ap (λ (o : Option ℕ). option_map (λ (place : NextLine). (place, with_trace q r.states r.inputs r.free)) (option_map (λ (n : ℕ). log_place n) o))
     (count_again (codes "log") (codes "log " ++ decimal n) n (words_of_count (codes "log") n refl h.few_lines) refl h.few_lines)))
     (on
     (subst (λ (log : List Line). Goes (log_place n) (with_trace q r.states r.inputs r.free)

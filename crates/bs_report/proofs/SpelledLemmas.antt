@@ -23,8 +23,8 @@ use Rattle.bs_report.specs.declared.fault.ReportFault.TheVariants.{Extra as extr
 use Rattle.bs_scan.specs.Choice.{IsDepth}
 use Rattle.bs_scan.specs.DumpText.{signature_text}
 use Rattle.bs_report.specs.declared.place.PartialStep.{PartialStep}
-use Rattle.bs_report.specs.declared.place.Place.{Place}
-use Rattle.bs_report.specs.declared.place.Place.TheVariants as places
+use Rattle.bs_report.specs.declared.place.NextLine.{NextLine}
+use Rattle.bs_report.specs.declared.place.NextLine.TheVariants as places
 use Rattle.bs_report.specs.declared.report.Budgets.{Budgets}
 use Rattle.bs_report.specs.declared.report.Cand.{Cand}
 use Rattle.bs_report.specs.declared.report.HitLine.{HitLine}
@@ -133,7 +133,7 @@ pub record InList (depth : ℕ) (h : PartialStep) (cands : List Cand) : Type 0 w
   pub befores : Each (λ cand. IsOfDepth depth cand.before) cands
 
 -- what is read, and the text of it
-abbrev pub Fits : Place → Report → List ℕ → Type 0
+abbrev pub Fits : NextLine → Report → List ℕ → Type 0
 Fits places.Title r text = (r ≡ nothing_read) × (text ≡ [])
 Fits places.Asked r text = (r ≡ titled r.depth) × IsDepth r.depth × (text ≡ title_line r.depth)
 Fits places.Turn r text = HasHead r × NoTail r × (text ≡ top r)
@@ -308,26 +308,26 @@ at_turn r text a y h e = by (stop_in a) refl e
 
 at_present : (r : Report) (text a : List ℕ) (y : Reached) → Fits places.Present r text → taken places.Present r a ≡ Some y → Next y text a
 at_present r text a y h e =
-    let m = unmap (λ (place : Place). (place, r)) (option_map (λ (s : Seen). places.Stored s) (seen_in (codes "present") a)) y e in
+    let m = unmap (λ (place : NextLine). (place, r)) (option_map (λ (s : Seen). places.Stored s) (seen_in (codes "present") a)) y e in
     let k = unmap (λ (s : Seen). places.Stored s) (seen_in (codes "present") a) m.value m.is in
     let gives : Some (m.value, r) ≡ Some y = m.gives in
     let gives_place : Some (places.Stored k.value) ≡ Some m.value = k.gives in
     let place : places.Stored k.value ≡ m.value = cc in
     let reached : (m.value, r) ≡ y = cc in
-    let same : (places.Stored k.value, r) ≡ y = ap (λ (p : Place). (p, r)) place ∙ reached in
+    let same : (places.Stored k.value, r) ≡ y = ap (λ (p : NextLine). (p, r)) place ∙ reached in
     let l = seen_line_is (codes "present") a k.value k.is in
     subst (λ (y : Reached). Next y text a) same
     (h.0, l.0, two text (top r) (step_line r) (line a) h.1 ∙ ap (λ t. top r ++ (step_line r ++ line t)) l.1)
 
 at_stored : (p : Seen) (r : Report) (text a : List ℕ) (y : Reached) → Fits (places.Stored p) r text → taken (places.Stored p) r a ≡ Some y → Next y text a
 at_stored p r text a y h e =
-    let m = unmap (λ (place : Place). (place, r)) (option_map (λ (s : List Bool). behind_stored r.depth p s) (bits_in (codes "stored") a)) y e in
+    let m = unmap (λ (place : NextLine). (place, r)) (option_map (λ (s : List Bool). behind_stored r.depth p s) (bits_in (codes "stored") a)) y e in
     let k = unmap (λ (s : List Bool). behind_stored r.depth p s) (bits_in (codes "stored") a) m.value m.is in
     let gives : Some (m.value, r) ≡ Some y = m.gives in
     let gives_place : Some (behind_stored r.depth p k.value) ≡ Some m.value = k.gives in
     let place : behind_stored r.depth p k.value ≡ m.value = cc in
     let reached : (m.value, r) ≡ y = cc in
-    let same : (behind_stored r.depth p k.value, r) ≡ y = ap (λ (p : Place). (p, r)) place ∙ reached in
+    let same : (behind_stored r.depth p k.value, r) ≡ y = ap (λ (p : NextLine). (p, r)) place ∙ reached in
     let is_text : text ++ line a ≡ top r ++ (step_line r ++ (present_line p ++ stored_line k.value)) =
     three text (top r) (step_line r) (present_line p) (line a) h.2
     ∙ ap (λ t. top r ++ (step_line r ++ (present_line p ++ line t))) (bits_line_is (codes "stored") a k.value k.is) in
@@ -348,14 +348,14 @@ at_stored p r text a y h e =
 at_older : (p : Seen) (s : List Bool) (r : Report) (text a : List ℕ) (y : Reached) → Fits (places.Older p s) r text → taken (places.Older p s) r a ≡ Some y →
     Next y text a
 at_older p s r text a y h e =
-    let m = unmap (λ (place : Place). (place, r))
+    let m = unmap (λ (place : NextLine). (place, r))
     (option_map (λ (older : Option (List Bool)). places.Listing (begun p s older) []) (older_in a)) y e in
     let k = unmap (λ (older : Option (List Bool)). places.Listing (begun p s older) []) (older_in a) m.value m.is in
     let gives : Some (m.value, r) ≡ Some y = m.gives in
     let gives_place : Some (places.Listing (begun p s k.value) []) ≡ Some m.value = k.gives in
     let place : places.Listing (begun p s k.value) [] ≡ m.value = cc in
     let reached : (m.value, r) ≡ y = cc in
-    let same : (places.Listing (begun p s k.value) [], r) ≡ y = ap (λ (p : Place). (p, r)) place ∙ reached in
+    let same : (places.Listing (begun p s k.value) [], r) ≡ y = ap (λ (p : NextLine). (p, r)) place ∙ reached in
     let older : line a ≡ older_text r.depth k.value =
     ap line (older_is a k.value k.is) ∙ ap (λ (b : Bool). cond {A = List ℕ} b [] (line (codes "older " ++ signature_text k.value))) (sym h.2) in
     let no_cands : line a ≡ older_text r.depth k.value ++ [] = older ∙ sym (append-nil (older_text r.depth k.value)) in
@@ -370,15 +370,15 @@ at_listing : (b : PartialStep) (cands : List Cand) (r : Report) (text a : List �
     taken (places.Listing b cands) r a ≡ Some y → Next y text a
 at_listing b cands r text a y h e = by (cand_in r.depth a) refl e
   where
-    by : (o : Option Cand) → cand_in r.depth a ≡ o → option_map (λ (place : Place). (place, r)) (more_listed b cands a o) ≡ Some y → Next y text a
+    by : (o : Option Cand) → cand_in r.depth a ≡ o → option_map (λ (place : NextLine). (place, r)) (more_listed b cands a o) ≡ Some y → Next y text a
     by None c e =
-        let m = unmap (λ (place : Place). (place, r)) (option_map (λ (ended : ListEnd). places.Hit b cands ended) (end_in a)) y e in
+        let m = unmap (λ (place : NextLine). (place, r)) (option_map (λ (ended : ListEnd). places.Hit b cands ended) (end_in a)) y e in
         let k = unmap (λ (ended : ListEnd). places.Hit b cands ended) (end_in a) m.value m.is in
         let gives : Some (m.value, r) ≡ Some y = m.gives in
         let gives_place : Some (places.Hit b cands k.value) ≡ Some m.value = k.gives in
         let place : places.Hit b cands k.value ≡ m.value = cc in
         let reached : (m.value, r) ≡ y = cc in
-        let same : (places.Hit b cands k.value, r) ≡ y = ap (λ (p : Place). (p, r)) place ∙ reached in
+        let same : (places.Hit b cands k.value, r) ≡ y = ap (λ (p : NextLine). (p, r)) place ∙ reached in
         let l = end_is a k.value k.is in
         subst (λ (y : Reached). Next y text a) same (
           h.0,
@@ -438,13 +438,13 @@ at_hit b cands e r text a y h t =
 
 at_trace : (r : Report) (text a : List ℕ) (y : Reached) → Fits places.Trace r text → taken places.Trace r a ≡ Some y → Next y text a
 at_trace r text a y h e =
-    let m = unmap (λ (place : Place). (place, r)) (option_map (λ (n : ℕ). places.State n) (count_in (codes "trace") a)) y e in
+    let m = unmap (λ (place : NextLine). (place, r)) (option_map (λ (n : ℕ). places.State n) (count_in (codes "trace") a)) y e in
     let k = unmap (λ (n : ℕ). places.State n) (count_in (codes "trace") a) m.value m.is in
     let gives : Some (m.value, r) ≡ Some y = m.gives in
     let gives_place : Some (places.State k.value) ≡ Some m.value = k.gives in
     let place : places.State k.value ≡ m.value = cc in
     let reached : (m.value, r) ≡ y = cc in
-    let same : (places.State k.value, r) ≡ y = ap (λ (p : Place). (p, r)) place ∙ reached in
+    let same : (places.State k.value, r) ≡ y = ap (λ (p : NextLine). (p, r)) place ∙ reached in
     let c = count_is (codes "trace") a k.value k.is in
     let none : length r.inputs ≡ 0 = ap length h.1.inputs in
     let nothing : woven (wholes r.states) r.inputs ≡ [] = ap (λ (ss : List (List Bool)). woven (wholes ss) r.inputs) h.1.states in
@@ -571,13 +571,13 @@ lines_left left r text b each small t = by (left == 0) refl
 
 at_log : (r : Report) (text a : List ℕ) (y : Reached) → Fits places.Log r text → taken places.Log r a ≡ Some y → Next y text a
 at_log r text a y h e =
-    let m = unmap (λ (place : Place). (place, r)) (option_map (λ (n : ℕ). log_place n) (count_in (codes "log") a)) y e in
+    let m = unmap (λ (place : NextLine). (place, r)) (option_map (λ (n : ℕ). log_place n) (count_in (codes "log") a)) y e in
     let k = unmap (λ (n : ℕ). log_place n) (count_in (codes "log") a) m.value m.is in
     let gives : Some (m.value, r) ≡ Some y = m.gives in
     let gives_place : Some (log_place k.value) ≡ Some m.value = k.gives in
     let place : log_place k.value ≡ m.value = cc in
     let reached : (m.value, r) ≡ y = cc in
-    let same : (log_place k.value, r) ≡ y = ap (λ (p : Place). (p, r)) place ∙ reached in
+    let same : (log_place k.value, r) ≡ y = ap (λ (p : NextLine). (p, r)) place ∙ reached in
     let c = count_is (codes "log") a k.value k.is in
     let none : length r.log ≡ 0 = ap length h.1 in
     let nothing : lines_text r.log ≡ [] = ap lines_text h.1 in
@@ -626,7 +626,7 @@ at_end r text a y h e =
           (same_text a (codes "end") z.0),
     )
 
-pub line_fits : (place : Place) (r : Report) (text a : List ℕ) (y : Reached) → Fits place r text → taken place r a ≡ Some y → Next y text a
+pub line_fits : (place : NextLine) (r : Report) (text a : List ℕ) (y : Reached) → Fits place r text → taken place r a ≡ Some y → Next y text a
 line_fits places.Title r text a y h e = at_title r text a y h e
 line_fits places.Asked r text a y h e = at_asked r text a y h e
 line_fits places.Turn r text a y h e = at_turn r text a y h e
@@ -674,7 +674,7 @@ glued_pieces (b ∷ bs) = by (b == 10) refl (glued_pieces bs)
     by true z rest = glue_empty bs ∙ (ap (λ t. 10 ∷ t) rest ∙ ap (λ c. c ∷ bs) (sym (eqb-true b 10 z)))
     by false z rest = glue_first b (pieces_of bs) ∙ ap (λ t. b ∷ t) rest
 
-pub done_is : (place : Place) → is_done place ≡ true → place ≡ places.Done
+pub done_is : (place : NextLine) → is_done place ≡ true → place ≡ places.Done
 done_is places.Title e = absurd (false≢true e)
 done_is places.Asked e = absurd (false≢true e)
 done_is places.Turn e = absurd (false≢true e)
@@ -691,7 +691,7 @@ done_is (places.Lines left) e = absurd (false≢true e)
 done_is places.End e = absurd (false≢true e)
 done_is places.Done e = refl
 
-at_text_end : (place : Place) (r : Report) (text rest : List ℕ) (all : Report) → Fits place r text → ended place r rest ≡ Ok all →
+at_text_end : (place : NextLine) (r : Report) (text rest : List ℕ) (all : Report) → Fits place r text → ended place r rest ≡ Ok all →
     Fits places.Done all (text ++ rest)
 at_text_end place r text rest all h e = by (is_done place) refl (length rest == 0) refl e
   where
@@ -702,11 +702,11 @@ at_text_end place r text rest all h e = by (is_done place) refl (length rest == 
         let same : r ≡ all = cc in
         let no_rest : text ++ rest ≡ text = ap (λ t. text ++ t) (nothing_left rest n) ∙ append-nil text in
         subst (λ (t : List ℕ). Fits places.Done all t) (sym no_rest)
-        (subst (λ (all : Report). Fits places.Done all text) same (subst (λ (p : Place). Fits p r text) (done_is place d) h))
+        (subst (λ (all : Report). Fits places.Done all text) same (subst (λ (p : NextLine). Fits p r text) (done_is place d) h))
     by true d false n e = cc
     by false d n nn e = cc
 
-pieces_fit : (pieces : List (List ℕ)) (n : ℕ) (place : Place) (r : Report) (text : List ℕ) (all : Report) → Fits place r text →
+pieces_fit : (pieces : List (List ℕ)) (n : ℕ) (place : NextLine) (r : Report) (text : List ℕ) (all : Report) → Fits place r text →
     report_from n place r pieces ≡ Ok all → Fits places.Done all (text ++ glued pieces)
 pieces_fit [] n place r text all h e = at_text_end place r text [] all h e
 pieces_fit (rest ∷ []) n place r text all h e = at_text_end place r text rest all h e

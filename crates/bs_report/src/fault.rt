@@ -6,7 +6,7 @@ use std::fmt::Display;
 use thiserror::Error;
 
 /// Why a text is no report (docs/FORMATS.md, "Report"). A line counts from 1.
-#[derive(Clone, Copy, Debug, PartialEq, Eq, Error)]
+#[derive(Clone, Copy, Debug, Error)]
 pub enum ReportFault {
     #[error("line {0} is not of a form that its place allows")]
     Line(u64),

@@ -21,7 +21,7 @@ pub fn is_text(line: &[u8], text: &[u8]) -> bool
 }
 
 /// The number from `low` to `high` that a word is.
-fn read_within(low: u64, high: u64, word: &[u8]) -> Option<u64>
+pub fn read_within(low: u64, high: u64, word: &[u8]) -> Option<u64>
     ensures value { result ≡ number_within low high word.now }
     ensures range { IfSome result (λ n. (low ≤ n) × (n ≤ high)) }
 {
@@ -38,7 +38,7 @@ fn read_within(low: u64, high: u64, word: &[u8]) -> Option<u64>
 }
 
 /// The word behind this one, which comes first.
-fn word_behind<'a>(words: &mut Words<'a>, tag: &[u8]) -> Option<&'a [u8]>
+pub fn word_behind<'a>(words: &mut Words<'a>, tag: &[u8]) -> Option<&'a [u8]>
     ensures { MatchOption result (behind tag.now words.old ≡ None) (λ word. behind tag.now words.old ≡ Some (word.now, words.new)) }
 {
     let first = words.next()?;
@@ -50,7 +50,7 @@ fn word_behind<'a>(words: &mut Words<'a>, tag: &[u8]) -> Option<&'a [u8]>
 }
 
 /// The number behind this word.
-fn read_behind<'a>(words: &mut Words<'a>, tag: &[u8], low: u64, high: u64) -> Option<u64>
+pub fn read_behind<'a>(words: &mut Words<'a>, tag: &[u8], low: u64, high: u64) -> Option<u64>
     ensures value { MatchOption result (number_behind tag.now low high words.old ≡ None) (λ n. number_behind tag.now low high words.old ≡ Some (n, words.new)) }
     ensures range { IfSome result (λ n. (low ≤ n) × (n ≤ high)) }
 {
@@ -97,7 +97,7 @@ fn read_bits_next<'a>(alloc: Global, words: &mut Words<'a>) -> Result<Option<Bit
 }
 
 /// The value, where no word is left.
-fn at_end<'a, T: Drop>(words: &mut Words<'a>, value: T) -> Option<T>
+pub fn at_end<'a, T: Drop>(words: &mut Words<'a>, value: T) -> Option<T>
     ensures { result ≡ at_end_of words.old value }
 {
     if words.end() { Some(value) } else { None }

@@ -8,7 +8,7 @@ ghost use Rattle.bs_report.specs.Reading.{behind_state as behind_state_of, behin
 ghost use Rattle.bs_report.specs.Reading.{end_fault, followed, line_or_fault, is_done as is_done_place, listed_place, log_place as log_place_of, older_place};
 ghost use Rattle.bs_report.specs.Reading.{present_place, step_of, stored_place, taken};
 ghost use Rattle.bs_report.specs.declared.fault.ReportFault.TheVariants.{NoMemory as Want};
-ghost use Rattle.bs_report.specs.declared.place.Place.TheVariants as places;
+ghost use Rattle.bs_report.specs.declared.place.NextLine.TheVariants as places;
 
 use crate::fault::ReportFault;
 use crate::forms::{
@@ -31,7 +31,7 @@ pub struct PartialStep {
 
 /// What the next line of a report may be, with what is read of the step under way.
 #[derive(Drop)]
-pub enum Place {
+pub enum NextLine {
     /// `backspace 1` or `backspace 2`
     Title,
     /// the budgets
@@ -75,84 +75,84 @@ fn begins_step(line: &[u8], number: u64) -> bool
 }
 
 /// The place behind a state of the trace, where so many inputs are left.
-fn behind_state(left: u64) -> Place
+fn behind_state(left: u64) -> NextLine
     ensures { result ≡ behind_state_of left }
 {
     if left == 0 {
-        Place::Log
+        NextLine::Log
     } else {
-        Place::Input(left)
+        NextLine::Input(left)
     }
 }
 
 /// The place of a log line, where so many are left.
-fn log_place(left: u64) -> Place
+fn log_place(left: u64) -> NextLine
     ensures { result ≡ log_place_of left }
 {
     if left == 0 {
-        Place::End
+        NextLine::End
     } else {
-        Place::Lines(left)
+        NextLine::Lines(left)
     }
 }
 
 /// The first line.
-fn take_title(report: &mut Report, line: &[u8]) -> Option<Place>
+fn take_title(report: &mut Report, line: &[u8]) -> Option<NextLine>
     ensures { option_map (λ place. (place, report.new)) result ≡ taken places.Title report.old line.now }
 {
     match read_depth(line) {
         None => None,
         Some(depth) => {
             report.depth = depth;
-            Some(Place::Asked)
+            Some(NextLine::Asked)
         }
     }
 }
 
 /// The line of the budgets.
-fn take_budgets(report: &mut Report, line: &[u8]) -> Option<Place>
+fn take_budgets(report: &mut Report, line: &[u8]) -> Option<NextLine>
     ensures { option_map (λ place. (place, report.new)) result ≡ taken places.Asked report.old line.now }
 {
     match read_budgets(line) {
         None => None,
         Some(budgets) => {
             report.budgets = budgets;
-            Some(Place::Turn)
+            Some(NextLine::Turn)
         }
     }
 }
 
 /// The first line of a step, or that of the cause.
-fn take_turn(report: &mut Report, line: &[u8]) -> Option<Place>
+fn take_turn(report: &mut Report, line: &[u8]) -> Option<NextLine>
     ensures { option_map (λ place. (place, report.new)) result ≡ taken places.Turn report.old line.now }
 {
     match read_stop(line) {
         None => {
             if begins_step(line, report.steps.slice().len() as u64 + 1) {
-                Some(Place::Present)
+                Some(NextLine::Present)
             } else {
                 None
             }
         }
         Some(stop) => {
             report.stop = stop;
-            Some(Place::Trace)
+            Some(NextLine::Trace)
         }
     }
 }
 
 /// The present state of a step.
-fn take_present(alloc: Global, line: &[u8]) -> Result<Option<Place>, NoMemory>
+fn take_present(alloc: Global, line: &[u8]) -> Result<Option<NextLine>, NoMemory>
     ensures { IfOk result (λ next. next ≡ present_place line.now) }
 {
     match read_seen(alloc, line, b"present")? {
         None => Ok(None),
-        Some(present) => Ok(Some(Place::Stored(present))),
+        Some(present) => Ok(Some(NextLine::Stored(present))),
     }
 }
 
 /// The place behind a stored signature.
-fn behind_stored(alloc: Global, depth: u8, present: Seen, stored: Bits) -> Place
+fn behind_stored(alloc: Global, depth: u8, present: Seen, stored: Bits) -> NextLine
     ensures { result ≡ behind_stored_of depth present stored }
 {
     if depth == 1 {
@@ -161,9 +161,9 @@ fn behind_stored(alloc: Global, depth: u8, present: Seen, stored: Bits) -> Place
             stored,
             older: None,
         };
-        Place::Listing(begun, List::new(alloc))
+        NextLine::Listing(begun, List::new(alloc))
     } else {
-        Place::Older(present, stored)
+        NextLine::Older(present, stored)
     }
 }
 
@@ -173,7 +173,7 @@ fn take_stored(
     depth: u8,
     present: Seen,
     line: &[u8],
-) -> Result<Option<Place>, NoMemory>
+) -> Result<Option<NextLine>, NoMemory>
     ensures { IfOk result (λ next. next ≡ stored_place depth present line.now) }
 {
     match read_bits(alloc, line, b"stored")? {
@@ -188,7 +188,7 @@ fn behind_older(
     present: Seen,
     stored: Bits,
     older: Option<Option<Bits>>,
-) -> Option<Place>
+) -> Option<NextLine>
     ensures { result ≡ option_map (λ older. places.Listing (begun_of present stored older) []) older }
 {
     match older {
@@ -199,7 +199,7 @@ fn behind_older(
                 stored,
                 older,
             };
-            Some(Place::Listing(begun, List::new(alloc)))
+            Some(NextLine::Listing(begun, List::new(alloc)))
         }
     }
 }
@@ -210,7 +210,7 @@ fn take_older(
     present: Seen,
     stored: Bits,
     line: &[u8],
-) -> Result<Option<Place>, NoMemory>
+) -> Result<Option<NextLine>, NoMemory>
     ensures { IfOk result (λ next. next ≡ older_place present stored line.now) }
 {
     let older = read_older(alloc, line)?;
@@ -218,22 +218,26 @@ fn take_older(
 }
 
 /// The place behind the end of a list, where a line says it.
-fn behind_list(begun: PartialStep, cands: List<Cand>, ended: Option<ListEnd>) -> Option<Place>
+fn behind_list(begun: PartialStep, cands: List<Cand>, ended: Option<ListEnd>) -> Option<NextLine>
     ensures { result ≡ option_map (λ ended. places.Hit begun cands ended) ended }
 {
     match ended {
         None => None,
-        Some(ended) => Some(Place::Hit(begun, cands, ended)),
+        Some(ended) => Some(NextLine::Hit(begun, cands, ended)),
     }
 }
 
 /// The place behind a candidate.
-fn behind_cand(begun: PartialStep, cands: List<Cand>, cand: Cand) -> Result<Option<Place>, NoMemory>
+fn behind_cand(
+    begun: PartialStep,
+    cands: List<Cand>,
+    cand: Cand,
+) -> Result<Option<NextLine>, NoMemory>
     ensures { IfOk result (λ next. next ≡ Some (places.Listing begun (cands ++ cand ∷ []))) }
 {
     let mut cands = cands;
     cands.push(cand)?;
-    Ok(Some(Place::Listing(begun, cands)))
+    Ok(Some(NextLine::Listing(begun, cands)))
 }
 
 /// A candidate, or how the list ended.
@@ -243,7 +247,7 @@ fn take_listed(
     begun: PartialStep,
     cands: List<Cand>,
     line: &[u8],
-) -> Result<Option<Place>, NoMemory>
+) -> Result<Option<NextLine>, NoMemory>
     ensures { IfOk result (λ next. next ≡ listed_place depth begun cands line.now) }
 {
     match read_cand(alloc, depth, line)? {
@@ -267,12 +271,12 @@ fn whole_step(begun: PartialStep, cands: List<Cand>, ended: ListEnd, hit: Option
 }
 
 /// Puts a step behind those of the report.
-fn put_step(report: &mut Report, step: Step) -> Result<Option<Place>, NoMemory>
+fn put_step(report: &mut Report, step: Step) -> Result<Option<NextLine>, NoMemory>
     ensures next { IfOk result (λ next. next ≡ Some places.Turn) }
     ensures put { OnOk result (report.new ≡ with_put report.old step) }
 {
     report.steps.push(step)?;
-    Ok(Some(Place::Turn))
+    Ok(Some(NextLine::Turn))
 }
 
 /// The hit, with which the step is whole.
@@ -283,7 +287,7 @@ fn take_hit(
     ended: ListEnd,
     report: &mut Report,
     line: &[u8],
-) -> Result<Option<Place>, NoMemory>
+) -> Result<Option<NextLine>, NoMemory>
     ensures { IfOk result (λ next. option_map (λ place. (place, report.new)) next ≡ taken (places.Hit begun cands ended) report.old line.now) }
 {
     match read_hit(alloc, line)? {
@@ -293,11 +297,11 @@ fn take_hit(
 }
 
 /// The number of inputs in the trace.
-fn take_trace(line: &[u8]) -> Option<Place>
+fn take_trace(line: &[u8]) -> Option<NextLine>
     ensures { result ≡ option_map (λ n. places.State n) (count_in (codes "trace") line.now) }
 {
     let count = read_count(line, b"trace")?;
-    Some(Place::State(count))
+    Some(NextLine::State(count))
 }
 
 /// Whether a state of the trace may stand where so many inputs are left: in the last one alone some bits may not be known.
@@ -308,7 +312,7 @@ fn may_stand(left: u64, seen: &Seen) -> bool
 }
 
 /// Puts a state of the trace behind the others.
-fn put_state(left: u64, report: &mut Report, seen: Seen) -> Result<Option<Place>, NoMemory>
+fn put_state(left: u64, report: &mut Report, seen: Seen) -> Result<Option<NextLine>, NoMemory>
     ensures next { IfOk result (λ next. next ≡ Some (behind_state_of left)) }
     ensures put { OnOk result (report.new ≡ with_state report.old seen) }
 {
@@ -323,7 +327,7 @@ fn take_state(
     left: u64,
     report: &mut Report,
     line: &[u8],
-) -> Result<Option<Place>, NoMemory>
+) -> Result<Option<NextLine>, NoMemory>
     ensures { IfOk result (λ next. option_map (λ place. (place, report.new)) next ≡ taken (places.State left) report.old line.now) }
 {
     match read_seen(alloc, line, b"state")? {
@@ -344,20 +348,20 @@ fn take_input(
     left: u64,
     report: &mut Report,
     line: &[u8],
-) -> Result<Option<Place>, NoMemory>
+) -> Result<Option<NextLine>, NoMemory>
     ensures { IfOk result (λ next. option_map (λ place. (place, report.new)) next ≡ taken (places.Input left) report.old line.now) }
 {
     match read_bits(alloc, line, b"input")? {
         None => Ok(None),
         Some(input) => {
             report.inputs.push(input)?;
-            Ok(Some(Place::State(left.saturating_sub(1))))
+            Ok(Some(NextLine::State(left.saturating_sub(1))))
         }
     }
 }
 
 /// The number of log lines.
-fn take_log(line: &[u8]) -> Option<Place>
+fn take_log(line: &[u8]) -> Option<NextLine>
     ensures { result ≡ option_map (λ n. log_place_of n) (count_in (codes "log") line.now) }
 {
     let count = read_count(line, b"log")?;
@@ -370,7 +374,7 @@ fn take_log_line(
     left: u64,
     report: &mut Report,
     line: &[u8],
-) -> Result<Option<Place>, NoMemory>
+) -> Result<Option<NextLine>, NoMemory>
     ensures { IfOk result (λ next. option_map (λ place. (place, report.new)) next ≡ taken (places.Lines left) report.old line.now) }
 {
     match Line::read(alloc, line)? {
@@ -383,11 +387,11 @@ fn take_log_line(
 }
 
 /// The last line.
-fn take_end(line: &[u8]) -> Option<Place>
+fn take_end(line: &[u8]) -> Option<NextLine>
     ensures { result ≡ (if bytes_eq line.now (codes "end") then Some places.Done else None) }
 {
     if is_text(line, b"end") {
-        Some(Place::Done)
+        Some(NextLine::Done)
     } else {
         None
     }
@@ -396,37 +400,37 @@ fn take_end(line: &[u8]) -> Option<Place>
 /// The place behind a line, which is one of a form that its own place allows.
 fn take(
     alloc: Global,
-    place: Place,
+    place: NextLine,
     report: &mut Report,
     line: &[u8],
-) -> Result<Option<Place>, NoMemory>
+) -> Result<Option<NextLine>, NoMemory>
     ensures { IfOk result (λ next. option_map (λ place. (place, report.new)) next ≡ taken place report.old line.now) }
 {
     match place {
-        Place::Title => Ok(take_title(report, line)),
-        Place::Asked => Ok(take_budgets(report, line)),
-        Place::Turn => Ok(take_turn(report, line)),
-        Place::Present => take_present(alloc, line),
-        Place::Stored(present) => take_stored(alloc, report.depth, present, line),
-        Place::Older(present, stored) => take_older(alloc, present, stored, line),
-        Place::Listing(begun, cands) => take_listed(alloc, report.depth, begun, cands, line),
-        Place::Hit(begun, cands, ended) => take_hit(alloc, begun, cands, ended, report, line),
-        Place::Trace => Ok(take_trace(line)),
-        Place::State(left) => take_state(alloc, left, report, line),
-        Place::Input(left) => take_input(alloc, left, report, line),
-        Place::Log => Ok(take_log(line)),
-        Place::Lines(left) => take_log_line(alloc, left, report, line),
-        Place::End => Ok(take_end(line)),
-        Place::Done => Ok(None),
+        NextLine::Title => Ok(take_title(report, line)),
+        NextLine::Asked => Ok(take_budgets(report, line)),
+        NextLine::Turn => Ok(take_turn(report, line)),
+        NextLine::Present => take_present(alloc, line),
+        NextLine::Stored(present) => take_stored(alloc, report.depth, present, line),
+        NextLine::Older(present, stored) => take_older(alloc, present, stored, line),
+        NextLine::Listing(begun, cands) => take_listed(alloc, report.depth, begun, cands, line),
+        NextLine::Hit(begun, cands, ended) => take_hit(alloc, begun, cands, ended, report, line),
+        NextLine::Trace => Ok(take_trace(line)),
+        NextLine::State(left) => take_state(alloc, left, report, line),
+        NextLine::Input(left) => take_input(alloc, left, report, line),
+        NextLine::Log => Ok(take_log(line)),
+        NextLine::Lines(left) => take_log_line(alloc, left, report, line),
+        NextLine::End => Ok(take_end(line)),
+        NextLine::Done => Ok(None),
     }
 }
 
 /// Whether nothing may follow.
-fn is_done(place: &Place) -> bool
+fn is_done(place: &NextLine) -> bool
     ensures { result ≡ is_done_place place.now }
 {
     match place {
-        Place::Done => true,
+        NextLine::Done => true,
         _ => false,
     }
 }
@@ -435,10 +439,10 @@ fn is_done(place: &Place) -> bool
 fn follow_on(
     alloc: Global,
     number: u64,
-    place: Place,
+    place: NextLine,
     report: &mut Report,
     line: &[u8],
-) -> Result<Place, ReportFault>
+) -> Result<NextLine, ReportFault>
     ensures { Answers Want (λ next. (next, report.new)) result (line_or_fault number (taken place report.old line.now)) }
 {
     match take(alloc, place, report, line)? {
@@ -451,10 +455,10 @@ fn follow_on(
 pub fn follow(
     alloc: Global,
     number: u64,
-    place: Place,
+    place: NextLine,
     report: &mut Report,
     line: &[u8],
-) -> Result<Place, ReportFault>
+) -> Result<NextLine, ReportFault>
     ensures { Answers Want (λ next. (next, report.new)) result (followed number place report.old line.now) }
 {
     if is_done(&place) {
@@ -465,7 +469,7 @@ pub fn follow(
 }
 
 /// What is wrong with a text that ends at a place with these bytes behind its last line.
-fn end_fault(place: &Place, rest: &[u8]) -> Option<ReportFault>
+fn end_fault(place: &NextLine, rest: &[u8]) -> Option<ReportFault>
     ensures { result ≡ end_fault place.now rest.now }
 {
     if !is_done(place) {
@@ -479,7 +483,7 @@ fn end_fault(place: &Place, rest: &[u8]) -> Option<ReportFault>
 
 /// The report, where the text ends behind its last line.
 #[tactic(auto, using(crate::proofs::EndLemmas::ended_right, crate::proofs::EndLemmas::ended_wrong))]
-pub fn finish(place: &Place, report: Report, rest: &[u8]) -> Result<Report, ReportFault>
+pub fn finish(place: &NextLine, report: Report, rest: &[u8]) -> Result<Report, ReportFault>
     ensures { result ≡ ended place.now report rest.now }
 {
     match end_fault(place, rest) {

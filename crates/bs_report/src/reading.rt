@@ -6,7 +6,7 @@ ghost use Rattle.bs_report.specs.declared.fault.ReportFault.TheVariants.{NoMemor
 
 use crate::fault::ReportFault;
 use crate::limits::MAX_REPORT_BYTES;
-use crate::place::{Place, finish, follow};
+use crate::place::{NextLine, finish, follow};
 use crate::report::{Budgets, Report, Stop};
 use bs_bits::{Bits, List, whole_line};
 use bs_log::Log;
@@ -38,7 +38,7 @@ fn read_lines(alloc: Global, bytes: &[u8]) -> Result<Report, ReportFault>
     ensures { Answers Want (λ report. report) result (report_in bytes.now) }
 {
     let mut report = nothing(alloc);
-    let mut place = Place::Title;
+    let mut place = NextLine::Title;
     let mut number = 1u64;
     let mut rest = bytes;
     'lines: while let Some((line, behind)) = whole_line(rest) {

@@ -5,7 +5,7 @@ use bs_log::Log;
 use bs_scan::{HasState, Seen};
 
 /// Why a backtrace stopped (docs/DEFINITIONS.md, "Stop").
-#[derive(Clone, Copy, Debug, PartialEq, Eq)]
+#[derive(Clone, Copy, PartialEq, Eq)]
 pub enum Stop {
     /// The last present state has no stored signature.
     Reset,
@@ -46,7 +46,7 @@ impl HasState for Cand {
 }
 
 /// How a list of candidates ended.
-#[derive(Clone, Copy, Debug, PartialEq, Eq)]
+#[derive(Clone, Copy)]
 pub enum ListEnd {
     /// There is no further candidate; the number is that of the lemma that refutes one.
     Finished(u64),
@@ -77,7 +77,7 @@ pub struct Step {
 }
 
 /// The budgets of a backtrace: so many steps, so many candidates in a step, so many lemmas in a solve.
-#[derive(Clone, Copy, Debug, PartialEq, Eq)]
+#[derive(Clone, Copy)]
 pub struct Budgets {
     pub steps: u64,
     pub candidates: u64,

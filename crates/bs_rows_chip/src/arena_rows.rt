@@ -34,10 +34,11 @@ fn killed(arena: &mut Arena, renaming: &mut Renaming) -> Result<Option<Killed>, 
     }
     arena.compact(renaming);
     let sizes = [whole, less, sizes_of(arena)];
-    let (stays, goes) = (
-        renaming.get(first) == Some(first),
-        renaming.get(second).is_none(),
-    );
+    let stays = match renaming.get(first) {
+        Some(moved) => arena.id(moved) == 10,
+        None => false,
+    };
+    let goes = renaming.get(second).is_none();
     let (id, is_same) = match renaming.get(third) {
         Some(moved) => (arena.id(moved), arena.lits(moved) == &[4][..]),
         None => (0, false),

@@ -1,8 +1,9 @@
 //! Calls on files in memory, each of which is given once. Each value that is made has a function of its own, which lends it to the
 //! next one.
 
+use bs_call::answer_words;
 use bs_outside::{MemSink, NoMemory, OnceShelf};
-use bs_top::{Status, backspace_noted};
+use bs_top::{Backspace, Status};
 use std::alloc::Global;
 
 /// How an output fails: the number of the put that fails, after how many bytes it does, and the room. The number 0 is that of no put.
@@ -30,7 +31,7 @@ fn call(
     out: &mut MemSink,
     notes: &mut MemSink,
 ) -> Result<Status, NoMemory> {
-    backspace_noted(alloc, words, shelf, out, notes)
+    answer_words(&Backspace, alloc, words, shelf, out, notes)
 }
 
 /// An answer of these bytes.

@@ -1,16 +1,16 @@
 //! Limits that no row comes to are these numbers, so that a change of one is seen here.
 ghost use Rattle.std.specs.Prelude.{◌≡◌};
-ghost use Rattle.bs_inspect_lists.specs.declared.counting.TheConstants.{MAX_LEMMAS, MAX_LISTED, MAX_TRY_LEMMAS, MAX_TRY_LISTED};
-ghost use Rattle.bs_inspect_lists.specs.declared.lists.TheConstants.{MAX_LISTED_BITS, MAX_TRY_WIDTH, OTHERS_PART};
-ghost use Rattle.bs_inspect_lists.specs.declared.spread.TheConstants.{FRONT_PART, MAX_MOMENTS, MAX_TRY_MOMENTS};
-ghost use Rattle.bs_inspect_lists.specs.declared.deck.TheConstants.{FEW_ITEMS, WEIGHT};
+ghost use Rattle.bs_inspect_signature.specs.declared.counting.TheConstants.{MAX_LEMMAS, MAX_LISTED, MAX_TRY_LEMMAS, MAX_TRY_LISTED};
+ghost use Rattle.bs_inspect_signature.specs.declared.lists.TheConstants.{MAX_LISTED_BITS, MAX_TRY_WIDTH, OTHERS_PART};
+ghost use Rattle.bs_inspect_signature.specs.declared.spread.TheConstants.{FRONT_PART, MAX_MOMENTS, MAX_TRY_MOMENTS};
+ghost use Rattle.bs_inspect_signature.specs.declared.deck.TheConstants.{FEW_ITEMS, WEIGHT};
 ghost use Rattle.bs_encode.specs.declared.encoding.TheConstants.{MAX_ACTIVATIONS};
 ghost use Rattle.bs_solve_lemmas.specs.declared.rule.TheConstants.{SHORT, MOST_LONG};
 ghost use Rattle.bs_preimage.specs.declared.probe.TheConstants.{MAX_PROBES};
 ghost use Rattle.bs_preimage_recorded.specs.declared.search.TheConstants.{MAX_ASKS};
 ghost use Rattle.bs_chip.specs.declared.index.TheConstants.{MAX_HASHES};
-ghost use Rattle.bs_chip.specs.declared.replay.TheConstants.{MAX_TRACK_BYTES};
-ghost use Rattle.bs_chip_forward.specs.declared.split.TheConstants.{MAX_TRIED};
+ghost use Rattle.bs_chip.specs.declared.first_hit.TheConstants.{MAX_TRACK_BYTES};
+ghost use Rattle.bs_preimage_recorded.specs.declared.split.TheConstants.{MAX_TRIED};
 ghost use Rattle.bs_flat_meaning.specs.declared.limits.TheConstants.{MAX_DEPTH, MAX_PATHS, MAX_OWN_NETS, MAX_PARTS, MAX_TERMINALS, MAX_KEY_BYTES};
 ghost use Rattle.bs_clause.specs.declared.literal.TheConstants.{VARIABLE_LIMIT};
 

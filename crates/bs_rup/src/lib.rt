@@ -5,6 +5,9 @@
 //! a mark for usual variables, a search tree for great ones), `live_clauses` (by id; literals are
 //! lent), `line_forms`, `problem`. Used above: `check`, clause `first`: the verdict's line is
 //! `first_refused`. A rule: bs_log's `specs/Refusal`, then `checker`.
+//!
+//! Why: unusual variables stand in a search tree. Marks by number would take gigabytes for a lemma over variable 2^30
+//! - 1, and a hostile log could slow down a hash table.
 #![tactic(auto)]
 
 mod checker;

@@ -14,7 +14,7 @@ use bs_log::{Line, Log, Why};
 use std::alloc::Global;
 
 /// What the checker says of a log.
-#[derive(Clone, Copy, Debug, PartialEq, Eq)]
+#[derive(Clone, Copy, PartialEq, Eq)]
 pub enum Verdict {
     /// No line is refused.
     Accepted,

@@ -16,12 +16,15 @@ use std::alloc::Global;
 use std::marker::Model;
 
 /// The greatest number of items.
+/// A limit of the format (docs/FORMATS.md, "Signature").
 pub const MAX_ITEMS: u32 = 256;
 
 /// The greatest number of flip-flop numbers in all items.
+/// A signature file cannot name more, since each name takes a byte.
 pub const MAX_ITEM_FLOPS: u32 = 1_048_576;
 
 /// The greatest number of bytes of a signature file.
+/// A limit of the format (docs/FORMATS.md, "Statuses").
 pub const MAX_SIGNATURE_BYTES: u32 = 1_048_576;
 
 /// What a signature is taken of: items, each a list of flip-flop numbers. The depth is the number of states whose

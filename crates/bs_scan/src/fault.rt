@@ -6,7 +6,7 @@ use std::fmt::Display;
 use thiserror::Error;
 
 /// Why a dump's text is refused (docs/FORMATS.md, "Dump"). A line counts from 1.
-#[derive(Clone, Copy, Debug, PartialEq, Eq, Error)]
+#[derive(Clone, Copy, Debug, Error)]
 pub enum DumpFault {
     #[error("line {0} is not of its form")]
     Line(u32),
@@ -30,7 +30,7 @@ impl From<NoMemory> for DumpFault {
 }
 
 /// Why a signature file is refused (docs/FORMATS.md, "Signature"). A line counts from 1.
-#[derive(Clone, Copy, Debug, PartialEq, Eq, Error)]
+#[derive(Clone, Copy, Debug, Error)]
 pub enum ChoiceFault {
     #[error("line {0} is not of its form")]
     Line(u32),

@@ -3,7 +3,7 @@
 //!
 //! Modules: `choice` and `choice_text` (a signature's items and its file), with `words`, `flops`
 //! and `flop_keys` (flip-flops by name), `register` (`SigReg`), `chain` (a ring over the captured bits), `dump` and
-//! `dump_text`, `moment`, `shown` (`HasState`). Used above: `Recording`, `Crash` and `DumpFits`
+//! `dump_text`, `moment`, `listed`, `shown` (`HasState`). Used above: `Recording`, `Crash` and `DumpFits`
 //! (`specs/Crash`), `signature`, `stored_at` and `first_moment`. What a register keeps: `depth_of` in
 //! `specs/Choice`, `agrees` and `predecessors` in `specs/Signature`, `specs/Register`, `specs/DumpText`. The
 //! signature file: `specs/ChoiceText`.
@@ -23,6 +23,7 @@ mod fault;
 mod flop_keys;
 mod flops;
 mod law;
+mod listed;
 mod moment;
 mod register;
 mod seen;
@@ -40,6 +41,7 @@ pub use flops::FlopNames;
 pub use law::{
     dump_texts_are_exact, dumps_read_back, first_moment_is_the_least, full_shifts_unload,
 };
+pub use listed::is_listed;
 pub use moment::Moment;
 pub use register::SigReg;
 pub use seen::Seen;

@@ -1,2 +1,4 @@
 pub mod SourceLemmas
 pub mod EventLemmas
+pub mod MarkLemmas
+pub mod StayLemmas

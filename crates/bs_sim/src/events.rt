@@ -9,9 +9,8 @@ ghost use Rattle.bs_net.specs.Steps.{run, gate_write};
 ghost use Rattle.bs_sim.specs.Events.{IsReady, FitsSome, Settles};
 ghost use Rattle.bs_sim.specs.Work.{has_change, changed_gates};
 
-use crate::valuation::{
-    assign, gate_bit, load, settle, show_constants, show_nets, show_state, zero_table, zeros,
-};
+use crate::simulator::Sim;
+use crate::valuation::{assign, gate_bit, load, show_constants, show_nets, show_state, zero_table};
 use bs_bits::{Bits, NoMemory};
 use bs_net::{Gate, NetId, Netlist};
 use std::alloc::Global;
@@ -113,22 +112,6 @@ fn settle_events(
     settle_changed(values, before, raw.gates.slice(), net.order().slice())
 }
 
-/// The nets of a state and an input, settled.
-fn settled_at(
-    alloc: Global,
-    net: &Netlist,
-    state: &Bits,
-    input: &Bits,
-) -> Result<Vec<bool>, NoMemory>
-    requires state_fits { length state.now ≡ length (circuit net.now).flops }
-    requires input_fits { length input.now ≡ length (circuit net.now).inputs }
-    ensures { IfOk result (λ v. Fits (circuit net.now) state.now input.now v.items) }
-{
-    let mut values = zero_table(alloc, net.raw().names.len() as usize)?;
-    settle(values.as_mut_slice(), net, state, input);
-    Ok(values)
-}
-
 impl<'a> Event<'a> {
     /// At reset, with the input of zeros settled.
     pub fn new(alloc: Global, net: &'a Netlist) -> Result<Event<'a>, NoMemory>
@@ -137,17 +120,30 @@ impl<'a> Event<'a> {
         ensures fits { IfOk result (λ s. Fits (circuit net.now) s.state (replicate (length (circuit net.now).inputs) false) s.values) }
         ensures work { IfOk result (λ s. s.work ≡ 0) }
     {
-        let state = net.reset().copy()?;
-        let input = zeros(alloc, net.data_inputs().len())?;
-        let values = settled_at(alloc, net, &state, &input)?;
         let before = zero_table(alloc, net.raw().names.len() as usize)?;
-        Ok(Event {
+        let sim = Sim::new(alloc, net)?;
+        Ok(Event::at_rest(net, sim, before))
+    }
+
+    /// In a simulator's state, with the nets that it shows.
+    fn at_rest(net: &'a Netlist, sim: Sim<'a>, before: Vec<bool>) -> Event<'a>
+        requires net { sim.net ≡ net.now }
+        requires state { sim.state ≡ reset_state (circuit net.now) }
+        requires fits { Fits (circuit net.now) sim.state (replicate (length (circuit net.now).inputs) false) sim.values }
+        requires same { length before.items ≡ (circuit net.now).nets }
+        ensures net { result.net ≡ net.now }
+        ensures state { result.state ≡ sim.entry.state }
+        ensures values { result.values ≡ sim.entry.values }
+        ensures work { result.work ≡ 0 }
+    {
+        let (state, values) = sim.into_parts();
+        Event {
             net,
             state,
             values,
             before,
             work: 0,
-        })
+        }
     }
 
     /// The present state.

@@ -42,6 +42,20 @@ impl<'a> Sim<'a> {
         Ok(sim)
     }
 
+    /// The present state, and the bits that the nets show.
+    pub(crate) fn into_parts(self) -> (Bits, Vec<bool>)
+        ensures state { result.0 ≡ self.entry.state }
+        ensures values { result.1.items ≡ self.entry.values }
+        ensures wide { length self.entry.state ≡ length (circuit self.entry.net).flops }
+    {
+        let Sim {
+            net: _,
+            state,
+            values,
+        } = self;
+        (state, values)
+    }
+
     /// The present state.
     pub fn state(&self) -> &Bits
         ensures { result.now ≡ self.now.state }

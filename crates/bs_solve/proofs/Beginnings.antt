@@ -33,7 +33,7 @@ use Rattle.bs_solve_lemmas.proofs.Clauses.{contains_first, map_contains, any_fir
 use Rattle.bs_solve_lemmas.proofs.Entries.{found_stands}
 use Rattle.bs_solve_lemmas.proofs.Places.{sound_grows}
 use Rattle.bs_solve.specs.declared.database.Database.{Database}
-use Rattle.bs_solve.specs.declared.first_level.Start.TheVariants.{Failed, Clash, Assigned}
+use Rattle.bs_solve.specs.declared.first_level.LevelStart.TheVariants.{Failed, Clash, Assigned}
 use Rattle.bs_solve.specs.Database.{entries, is_live, id_in, HoldsEntries}
 use Rattle.bs_solve.specs.Ground.{HasAdded, IsGround}
 use Rattle.bs_solve.specs.Seen.{seen_place, seen}
@@ -43,7 +43,7 @@ use Rattle.bs_solve.specs.Learning.{IsAtRest}
 use Rattle.bs_solve.specs.Pausing.{IsSomePause}
 use Rattle.bs_solve.specs.Searching.{IsSomeFirstConflict, IsFailedAssumption, HasEndedBy}
 use Rattle.bs_solve.proofs.Entries.{clauses_in, stands_grown}
-use Rattle.bs_solve.specs.declared.first_level.Start.{Start}
+use Rattle.bs_solve.specs.declared.first_level.LevelStart.{LevelStart}
 use Rattle.bs_solve_lemmas.proofs.Searching.{learnt_range}
 use Rattle.bs_watch.proofs.Literals.{negation-negation}
 use Rattle.bs_solve.proofs.Seens.{literals_seen_take, length_seen, grows_seen}
@@ -373,7 +373,7 @@ learnt_unit es id e x lits ids found sole lits_is ids_is =
 
 -- ---- how the level begins
 
-pub begun_vars : (w new : WatchState) (clauses : List Held) (shorts : List ℕ) (a : Clause) (s : Start) → HasBegunLevel (decided w) new clauses shorts a s →
+pub begun_vars : (w new : WatchState) (clauses : List Held) (shorts : List ℕ) (a : Clause) (s : LevelStart) → HasBegunLevel (decided w) new clauses shorts a s →
     new.trail.vars ≡ w.trail.vars
 begun_vars w new clauses shorts a s h = h.grown.vars ∙ h.assumes.vars
 

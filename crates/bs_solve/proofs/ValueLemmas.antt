@@ -6,7 +6,7 @@ use Rattle.std.proofs.lemmas.List.{length_push}
 use Rattle.std.proofs.lemmas.Option.{get_or_from_slice_get}
 use Rattle.bs_clause.specs.Literal.{code_of, has_literal}
 use Rattle.bs_clause.proofs.Literals.{Contains-from_has}
-use Rattle.bs_watch.specs.declared.span.Span.{Span}
+use Rattle.bs_watch.specs.declared.false_span.FalseSpan.{FalseSpan}
 use Rattle.bs_watch.specs.Places.{Place, TrailState, AreApart, literals_of}
 use Rattle.bs_watch.specs.Spans.{negative, IsSpan}
 use Rattle.bs_watch.specs.Tables.{HasValues as HasTrailValues}
@@ -40,7 +40,7 @@ between_more trues first n values b low a is = record {
 }
 
 -- a variable of the span is false
-in_span : (t : TrailState) (s : Span) (v : ℕ) → AreApart t.places → IsSpan t s → s.first ≤ v → v < s.past →
+in_span : (t : TrailState) (s : FalseSpan) (v : ℕ) → AreApart t.places → IsSpan t s → s.first ≤ v → v < s.past →
     has_literal (literals_of t.places) (positive v) ≡ false
 in_span t s v apart is from' past =
     let (k, before, place) = is.lost v from' past in
@@ -53,7 +53,7 @@ in_span t s v apart is from' past =
     ]
 
 -- the values before a span, in it and behind it are those of the trail
-pub shown : (trues : List Bool) (t : TrailState) (s : Span) (vars : ℕ) (front back : List Bool) → t.vars ≡ vars →
+pub shown : (trues : List Bool) (t : TrailState) (s : FalseSpan) (vars : ℕ) (front back : List Bool) → t.vars ≡ vars →
     HasTrailValues trues (literals_of t.places) → AreApart t.places → IsSpan t s → AreBetween trues 1 s.first front →
     AreBetween trues s.past (vars + 1) back → HasValues (literals_of t.places) vars (values_of front (s.past - s.first) back)
 shown trues t s vars front back same h apart is f b = record {

@@ -11,8 +11,8 @@ use Rattle.bs_watch.specs.Look.{HasTrue}
 use Rattle.bs_watch.specs.Scene.{Grows}
 use Rattle.bs_watch.specs.Watch.{WatchState, KeepsService}
 use Rattle.bs_solve_lemmas.specs.Reasons.{IsConflictAt}
-use Rattle.bs_solve.specs.declared.first_level.Start.{Start}
-use Rattle.bs_solve.specs.declared.first_level.Start.TheVariants.{Failed, Clash, Assigned}
+use Rattle.bs_solve.specs.declared.first_level.LevelStart.{LevelStart}
+use Rattle.bs_solve.specs.declared.first_level.LevelStart.TheVariants.{Failed, Clash, Assigned}
 
 -- some of the assumptions took places
 pub record HasAssumed (old new : WatchState) (assumptions : Clause) : Type 0 where
@@ -63,14 +63,14 @@ AssignsShorts clauses w shorts Quiet = AllSatisfied clauses w shorts
 AssignsShorts clauses w shorts (Conflict r) = IsConflictAt clauses (literals_of w.trail.places) r
 
 -- an assumption is false, or a short clause, or all of both are true
-abbrev pub Starts : List Held → WatchState → WatchState → List ℕ → Clause → Start → Type 0
+abbrev pub Starts : List Held → WatchState → WatchState → List ℕ → Clause → LevelStart → Type 0
 Starts clauses mid new shorts assumptions (Failed l) = Contains assumptions l × IsFalseOn (literals_of mid.trail.places) l
 Starts clauses mid new shorts assumptions (Clash r) = All (IsTrueOn (literals_of mid.trail.places)) assumptions ×
     IsConflictAt clauses (literals_of new.trail.places) r
 Starts clauses mid new shorts assumptions Assigned = All (IsTrueOn (literals_of mid.trail.places)) assumptions × AllSatisfied clauses new shorts
 
 -- the assumptions came, and then the literals of the short clauses
-pub record HasBegunLevel (old new : WatchState) (clauses : List Held) (shorts : List ℕ) (assumptions : Clause) (start : Start) : Type 0 where
+pub record HasBegunLevel (old new : WatchState) (clauses : List Held) (shorts : List ℕ) (assumptions : Clause) (start : LevelStart) : Type 0 where
   pub middle : WatchState
   pub assumes : HasAssumed old middle assumptions
   pub apart : AreApart middle.trail.places

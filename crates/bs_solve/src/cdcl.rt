@@ -16,7 +16,7 @@ ghost use Rattle.bs_watch.specs.Places.{IsImpliedBy, HasNoReason, literals_of};
 ghost use Rattle.bs_watch.specs.Watch.{Serves};
 
 use crate::database::{Database, add_clause};
-use crate::first_level::{Start, begin_level};
+use crate::first_level::{LevelStart, begin_level};
 use crate::learning::{ids_of, learn};
 use crate::value::values;
 use bs_arena::{Arena, Ref};
@@ -270,15 +270,15 @@ fn begin(
     ensures lemmas { SomeLemmas proof.old proof.new }
 {
     match begin_level(watch, arena, database.shorts.as_slice(), assumptions) {
-        Start::Failed(l) => {
+        LevelStart::Failed(l) => {
             let id = deny(alloc, proof, watch, arena, database, l)?;
             Ok(Answer::Refuted(id))
         }
-        Start::Clash(r) => {
+        LevelStart::Clash(r) => {
             let id = refute(alloc, proof, watch, arena, database, marks, r)?;
             Ok(Answer::Refuted(id))
         }
-        Start::Assigned => resume(alloc, proof, watch, arena, database, marks, limit),
+        LevelStart::Assigned => resume(alloc, proof, watch, arena, database, marks, limit),
     }
 }
 

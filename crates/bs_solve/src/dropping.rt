@@ -13,7 +13,7 @@ use bs_solve_lemmas::{Activations, Leaving, LoggedClause, compact_all, count_lon
 use bs_watch::Watch;
 
 /// How many of the first rows are of lemmas that name no activation literal, and how many of these are long. The rest is not known.
-#[derive(Clone, Copy, Debug, PartialEq, Eq)]
+#[derive(Clone, Copy)]
 pub struct CountedRows {
     pub rows: usize,
     pub long: usize,

@@ -12,7 +12,7 @@ use bs_clause::Lit;
 use bs_watch::{Outcome, Watch};
 
 /// How a first level begins.
-pub enum Start {
+pub enum LevelStart {
     /// This assumption is false.
     Failed(Lit),
     /// This short clause is false.
@@ -86,7 +86,7 @@ pub fn assign_shorts(watch: &mut Watch, arena: &Arena, shorts: &[Ref]) -> Outcom
 }
 
 // Assigns the assumptions, and then the literals of the short clauses from a place on.
-fn assign_level(watch: &mut Watch, arena: &Arena, shorts: &[Ref], assumptions: &[Lit]) -> Start
+fn assign_level(watch: &mut Watch, arena: &Arena, shorts: &[Ref], assumptions: &[Lit]) -> LevelStart
     requires short { AreShort watch.old.trail.vars arena.now.clauses shorts.now }
     requires range { HasVariables watch.old.trail.vars assumptions.now }
     ensures { HasBegunLevel watch.old watch.new arena.now.clauses shorts.now assumptions.now result }
@@ -94,17 +94,22 @@ fn assign_level(watch: &mut Watch, arena: &Arena, shorts: &[Ref], assumptions: &
     let denied = assume(watch, assumptions);
     watch.holds_levels();
     match denied {
-        Some(literal) => Start::Failed(literal),
+        Some(literal) => LevelStart::Failed(literal),
         None => match assign_shorts(watch, arena, shorts) {
-            Outcome::Conflict(r) => Start::Clash(r),
-            Outcome::Quiet => Start::Assigned,
+            Outcome::Conflict(r) => LevelStart::Clash(r),
+            Outcome::Quiet => LevelStart::Assigned,
         },
     }
 }
 
 /// Begins the first level behind what stands on the trail: the assumptions, and the literals of the short clauses that do not
 /// stand there.
-pub fn begin_level(watch: &mut Watch, arena: &Arena, shorts: &[Ref], assumptions: &[Lit]) -> Start
+pub fn begin_level(
+    watch: &mut Watch,
+    arena: &Arena,
+    shorts: &[Ref],
+    assumptions: &[Lit],
+) -> LevelStart
     requires levels { watch.old.levels ≡ [] }
     requires low { length watch.old.trail.places ≤ length shorts.now }
     requires short { AreShort watch.old.trail.vars arena.now.clauses shorts.now }

@@ -18,6 +18,9 @@
 //! rule), `selection` (`find_leaving`), `removal` (`take_out`: from the arena, the watch lists, the rows),
 //! `compaction` (`compact_all`). Used above: `find_leaving` notes exactly the rows that bs_log's `is_kept`
 //! does not keep, ids ascending; the other two take no memory.
+//!
+//! Why: analysis marks variables along the trail, and builds the learnt clause once. Whole resolvents would cost a
+//! clause of thousands of literals for each of thousands of hints.
 #![tactic(auto)]
 
 mod analysis;

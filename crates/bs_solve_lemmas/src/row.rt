@@ -2,7 +2,7 @@
 use bs_arena::Ref;
 
 /// A lemma or a block, by its id in the log and its clause in the arena.
-#[derive(Clone, Copy, Debug, PartialEq, Eq)]
+#[derive(Clone, Copy)]
 pub struct LoggedClause {
     pub id: u64,
     pub clause: Ref,

@@ -8,12 +8,14 @@ use crate::row::LoggedClause;
 use bs_arena::Arena;
 
 /// A lemma with more literals than this is a long one.
+/// Short lemmas exclude most and cost least: so all of these are kept.
 pub const SHORT: usize = 8;
 /// How many long lemmas are kept.
+/// More slow down propagation. The newest are kept, because the next step is near to the last.
 pub const MOST_LONG: usize = 20_000;
 
 /// The activation literals of the steps that have ended: so many variables above the first `own`.
-#[derive(Clone, Copy, Debug, PartialEq, Eq)]
+#[derive(Clone, Copy)]
 pub struct Activations {
     pub own: u32,
     pub steps: u32,

@@ -5,7 +5,7 @@ ghost use Rattle.bs_solve_lemmas.specs.Stages.{is_begun, stage_of};
 use crate::answer::Answer;
 
 /// Where a solver stands.
-#[derive(Clone, Copy, Debug, PartialEq, Eq)]
+#[derive(Clone, Copy)]
 pub enum Stage {
     /// No step is under way.
     Idle,

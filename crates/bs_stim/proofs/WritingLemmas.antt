@@ -1,8 +1,8 @@
 -- What stays of a text where more is appended.
 use Rattle.std.proofs.Common.{◌≡◌, ℕ, suc, zero, ◌<◌, ◌≤◌, ◌+◌, Bool, false, List, [], ◌∷◌, ◌++◌, map, length, take, get_or, refl, arith, ap, sym}
 use Rattle.std.proofs.Common.{◌∙◌, append_assoc, append-nil}
-use Rattle.std.specs.List.{All}
-use Rattle.std.proofs.lemmas.List.{map-append, take_all}
+use Rattle.std.specs.List.{All, flat_map}
+use Rattle.std.proofs.lemmas.List.{flat_map_more, map-append, take_all, take_more}
 use Rattle.std.proofs.lemmas.Grind.{flat_map-append}
 use Rattle.bs_bits.specs.Lines.{line}
 use Rattle.bs_bits.specs.Text.{bits_text, digit_of}
@@ -72,3 +72,11 @@ all_taken (b ∷ row) k le some = ap (map digit_of) (take_all k (b ∷ row) le)
 pub whole_row : (rows : List (List Bool)) (k n width : ℕ) → All (λ (row : List Bool). length row ≡ width) rows → k < length rows → width ≤ n →
     0 < width → map digit_of (take n (get_or rows k [])) ≡ bits_text (get_or rows k [])
 whole_row rows k n width each lt le some = all_taken (get_or rows k []) n (omega (arith, each k [] lt, le)) (omega (arith, each k [] lt, some))
+
+-- a text after one piece more
+pub one_more_piece : {X : Type 0} (f : X → List ℕ) (xs : List X) (k : ℕ) (x : X) (old mid new : List ℕ) → k < length xs → x ≡ get_or xs k x →
+    mid ≡ old ++ flat_map f (take k xs) → new ≡ mid ++ f x → new ≡ old ++ flat_map f (take (k + 1) xs)
+one_more_piece f xs k x old mid new lt is e put =
+    put
+    ∙ (ap (λ t. t ++ f x) e
+    ∙ (flat_map_more f old (take k xs) x ∙ ap (λ ys. old ++ flat_map f ys) (ap (λ y. take k xs ++ y ∷ []) is ∙ sym (take_more xs k x lt))))

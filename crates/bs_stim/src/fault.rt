@@ -6,7 +6,7 @@ use std::fmt::Display;
 use thiserror::Error;
 
 /// Why a stimulus text is refused (docs/FORMATS.md, "Stimulus"). A line counts from 1.
-#[derive(Clone, Copy, Debug, PartialEq, Eq, Error)]
+#[derive(Clone, Copy, Debug, Error)]
 pub enum StimFault {
     #[error("line {0} is not of its form")]
     Line(u32),

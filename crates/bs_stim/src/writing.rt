@@ -58,7 +58,7 @@ fn push_input(inputs: &Inputs, cycle: usize, into: &mut Vec<u8>) -> Result<(), N
 }
 
 /// Appends the input lines of a run.
-#[tactic(auto, using(crate::proofs::WritingLemmas::begins_after, crate::proofs::WritingLemmas::one_more_line))]
+#[tactic(auto, using(crate::proofs::WritingLemmas::begins_after))]
 fn push_inputs(inputs: &Inputs, into: &mut Vec<u8>) -> Result<(), NoMemory>
     ensures ok { OnOk result (into.new.items ≡ into.old.items ++ inputs_text inputs.now.rows) }
     ensures err { OnErr result (Begins into.old.items into.new.items) }

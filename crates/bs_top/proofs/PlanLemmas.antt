@@ -2,7 +2,7 @@
 use Rattle.std.proofs.Common.{◌≡◌, ◌<◌, ◌≤◌, ℕ, Bool, true, false, List, length, codes, Option, Some, None, Ok, refl, sym, ◌∙◌, ap}
 use Rattle.std.specs.Prelude.{nat_lt, if◌then◌else◌}
 use Rattle.std.proofs.lemmas.Bool.{le-ltb, lt-ltb}
-use Rattle.bs_top_files.specs.Refusals.{Case}
+use Rattle.bs_top_files.specs.Causes.{Case}
 use Rattle.bs_report.specs.declared.report.Budgets.{Budgets}
 use Rattle.bs_report.specs.declared.report.Report.{Report}
 use Rattle.bs_outside.specs.declared.file.File.{File}
@@ -61,7 +61,7 @@ told_end_refused told (fetch w next) f file why h =
 
 -- the file of the report, where the shelf tells it
 report_end : (told : Tells) (name text : List ℕ) → told name ≡ Some text → length text ≤ MAX_REPORT_BYTES → (report : Report) →
-    report_read text ≡ Ok report → told_end told (report_of name) ≡ Some (ready_in Case Report report)
+    report_read name text ≡ Ok report → told_end told (report_of name) ≡ Some (ready_in Case Report report)
 report_end told name text tells within report read =
     rw (tells, le-ltb MAX_REPORT_BYTES (length text) within, read) refl
 
@@ -87,7 +87,7 @@ follows told run name crash_files text came accepted tells = record {
         told_end_then told (audit_files_of (run_names run) run.dump name) (λ (audit_files : AuditFiles). end (to_audit audit_files)) (claim crash_files accepted.report)
         (told_end_then told (crash_files_of (run_names run) run.dump) (λ (c : CrashFiles). report_of name >>= (λ (r : Report). end (claim c r))) crash_files came
         ∙ told_end_then told (report_of name) (λ (r : Report). end (claim crash_files r)) accepted.report
-        (report_end told name text tells few accepted.report accepted.read));
+        (report_end told name text tells few accepted.report (accepted.read name)));
     accepted = accepted.accepted;
   };
   beyond = λ many.

@@ -14,7 +14,7 @@ use Rattle.bs_scan.specs.Crash.{Crash, DumpFits, Recording, recording_of}
 use Rattle.bs_report.specs.declared.report.Budgets.{Budgets}
 use Rattle.bs_report.specs.declared.report.Report.{Report}
 use Rattle.bs_report.specs.Text.{report_text}
-use Rattle.bs_report_good.specs.declared.part.Part.{Part}
+use Rattle.bs_report.specs.declared.part.Part.{Part}
 use Rattle.bs_loop.specs.Searched.{TellsCut}
 use Rattle.bs_reach.specs.declared.reach.Reach.{Reach}
 use Rattle.bs_reach.specs.Reach.{IsReach}
@@ -23,10 +23,10 @@ use Rattle.bs_wave.specs.declared.wave.Wave.{Wave}
 use Rattle.bs_wave.specs.Wave.{IsWaveOf}
 use Rattle.bs_wave.specs.WaveText.{wave_text}
 use Rattle.bs_note_calls.specs.Stops.{cut_lists}
-use Rattle.bs_top_answer.specs.declared.note.Note.TheVariants.{Wanting}
-use Rattle.bs_top_answer.specs.declared.note.Response.{Response}
-use Rattle.bs_top_answer.specs.Endings.{is_looked, miss_text_of, rejected_text_if, run_text}
-use Rattle.bs_top_answer.specs.Note.{DueText, SureText}
+use Rattle.bs_call.specs.declared.note.Note.TheVariants.{Wanting}
+use Rattle.bs_call.specs.declared.note.Response.{Response}
+use Rattle.bs_call.specs.Endings.{is_searched, miss_text_of, rejected_text_if, run_text}
+use Rattle.bs_call.specs.Note.{DueText, SureText}
 use Rattle.bs_top_files.specs.Entry.{CrashFiles, recording_in}
 use Rattle.bs_outside.specs.declared.status.Status.TheVariants.{Done}
 use Rattle.bs_top.specs.Drawn.{IsDrawn, IsTraceWave}
@@ -75,7 +75,7 @@ pub reports_said : (budgets : Budgets) (crash_files : CrashFiles) (report : Repo
     before ≡ recording_in crash_files.setup → chip ≡ recording_in crash_files.setup → TellsCut before budgets.conflicts report.steps cut →
     IfOk r (λ a. a.reply.text.items ≡ report_text report) →
     IfOk r (λ a. DueText (run_text chip crash_files.dump crash_files.setup.runs (length report.steps) report.stop cut (cut_lists report.steps)) a.note) →
-    IfOk r (λ a. is_looked (length report.steps) report.stop ≡ false → a.note ≢ Wanting) →
+    IfOk r (λ a. is_searched (length report.steps) report.stop ≡ false → a.note ≢ Wanting) →
     IfOk r (λ a. RunSaid budgets crash_files a.reply.text.items a.note)
 reports_said budgets crash_files report cut (Ok a) before chip was is tells text says sure = record {
   report = report;

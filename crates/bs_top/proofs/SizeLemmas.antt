@@ -12,8 +12,8 @@ use Rattle.bs_report.specs.declared.report.ListEnd.TheVariants.{Finished, Candid
 use Rattle.bs_report.specs.declared.report.Step.{Step}
 use Rattle.bs_report.specs.declared.report.Report.{Report}
 use Rattle.bs_scan.specs.Crash.{Crash}
-use Rattle.bs_report_good.specs.Step.{asked_of, IsRightEnd}
-use Rattle.bs_report_good.specs.Good.{IsGood}
+use Rattle.bs_report.specs.Step.{asked_of, IsRightEnd}
+use Rattle.bs_report.specs.Good.{IsGood}
 
 few_cands : (asked : List (List Bool)) (k b : ℕ) (lines : List Line) (cands : List Cand) (end : ListEnd) → IsRightEnd asked k b lines cands end →
     length cands ≤ k

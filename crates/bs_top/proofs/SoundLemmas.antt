@@ -9,13 +9,13 @@ use Rattle.bs_encode.specs.Depth.{basis_of}
 use Rattle.bs_report.specs.declared.report.Budgets.{Budgets}
 use Rattle.bs_report.specs.declared.report.Report.{Report}
 use Rattle.bs_report.specs.Text.{HasReportText}
-use Rattle.bs_report_good.specs.Chain.{present_of}
-use Rattle.bs_report_good.specs.Good.{IsGood}
-use Rattle.bs_report_good.specs.Progress.{GoesBack}
-use Rattle.bs_report_good.specs.Valid.{first_failing, IsValid}
-use Rattle.bs_report_good.proofs.EndLemmas.{unhit_is_first, finished_reach_reset}
-use Rattle.bs_report_good.proofs.ProgressLemmas.{progress}
-use Rattle.bs_report_good.proofs.ExecutionLemmas.{executed}
+use Rattle.bs_report.specs.Chain.{present_of}
+use Rattle.bs_report.specs.Good.{IsGood}
+use Rattle.bs_report.specs.Progress.{GoesBack}
+use Rattle.bs_report.specs.Valid.{first_failing, IsValid}
+use Rattle.bs_report.proofs.TraceEndLemmas.{unhit_is_first, finished_reach_reset}
+use Rattle.bs_report.proofs.ProgressLemmas.{progress}
+use Rattle.bs_report.proofs.ExecutionLemmas.{executed}
 use Rattle.bs_loop.specs.Bound.{HasBound}
 use Rattle.bs_loop.specs.HitInput.{TakesRecorded}
 use Rattle.bs_loop.specs.Searched.{WereSearched}

@@ -8,22 +8,20 @@ use Rattle.std.specs.Str.{bytes_eq}
 use Rattle.std.specs.declared.alloc.Global.{Global}
 use Rattle.bs_outside.specs.Files.{Files, held_in}
 use Rattle.bs_net.specs.Parts.{Parts}
-use Rattle.bs_outside.specs.declared.walk.JobFault.{JobFault}
-use Rattle.bs_outside.specs.declared.walk.JobFault.TheVariants.{NoMemory}
+use Rattle.bs_outside.specs.declared.file_fetch.JobFault.{JobFault}
+use Rattle.bs_outside.specs.declared.file_fetch.JobFault.TheVariants.{NoMemory}
 use Rattle.bs_outside.specs.declared.file.File.TheVariants as files
 use Rattle.bs_outside.specs.Plan.{Tells, Plan, Reason, AllTold, with_texts, end, fetched, read_as, ◌>>=◌}
 use Rattle.bs_outside.specs.Walks.{Walks, WalksAlone}
 use Rattle.bs_outside.proofs.AskingLemmas.{along_none}
 use Rattle.bs_outside.proofs.Walking.{told_then, told_fetched, told_read, walks_alone, sure_shelf}
 use Rattle.bs_outside.specs.Memory.{sure_files, sure_held, sure_faults, sure_leads}
-use Rattle.bs_outside.specs.declared.sure.SureShelf.{SureShelf}
+use Rattle.bs_outside.specs.declared.never_failing.SureShelf.{SureShelf}
 use Rattle.bs_stim.specs.Runs.{Stimulus}
 use Rattle.bs_scan.specs.Choice.{Chosen}
 use Rattle.bs_scan.specs.Moments.{Moment}
 use Rattle.bs_gen.specs.Job.{netlist_for, signature_text, stimulus_for}
 use Rattle.bs_top_files.specs.Entry.{Setup, MomentFiles, moment_files_of, input_width}
-use Rattle.bs_top_files.specs.Looking.{moment_files_looked}
-use Rattle.bs_top_files.specs.Noting.{netlist_noted, signature_noted, stimulus_noted, moment_noted}
 use Rattle.bs_top_files.specs.Readings.{netlist_in, signature_in, stimulus_in, moment_in}
 use Rattle.bs_top.specs.declared.budgets.TheConstants.{DEMO_RUN, DEMO_CYCLE}
 use Rattle.bs_top.specs.Demo.{demo_names, demo_told, told_of}
@@ -107,16 +105,11 @@ all_told {Q} nets items runs moments netlist signature stimulus =
         (λ choice. told_then told (runs_by raw) (λ (r : Stimulus). end record { raw = raw; choice = choice; runs = r })
         (run raw) (λ r. tt)))
 
--- the texts of a generated job are told to each plan over them
-pub told_line : (number : ℕ) → AllTold (demo_told number) (moment_files_of demo_names DEMO_RUN DEMO_CYCLE)
-told_line number =
-    all_told netlist_in signature_in (λ raw bytes. stimulus_in (input_width raw) bytes) (λ runs. moment_in runs DEMO_RUN DEMO_CYCLE)
-    (netlist_for number) signature_text (stimulus_for number)
-
-pub told_note : (number : ℕ) → AllTold (demo_told number) (moment_files_looked demo_names DEMO_RUN DEMO_CYCLE)
-told_note number =
-    all_told (λ bytes. netlist_noted (codes "netlist") bytes) (λ raw bytes. signature_noted raw (codes "signature") bytes)
-    (λ raw bytes. stimulus_noted (input_width raw) (codes "stimulus") bytes) (λ runs. moment_noted runs DEMO_RUN DEMO_CYCLE)
+-- the texts of a generated job are told to the plan over them
+pub texts_told : (number : ℕ) → AllTold (demo_told number) (moment_files_of demo_names DEMO_RUN DEMO_CYCLE)
+texts_told number =
+    all_told (λ bytes. netlist_in (codes "netlist") bytes) (λ raw bytes. signature_in raw (codes "signature") bytes)
+    (λ raw bytes. stimulus_in (input_width raw) (codes "stimulus") bytes) (λ runs. moment_in runs DEMO_RUN DEMO_CYCLE)
     (netlist_for number) signature_text (stimulus_for number)
 
 -- a walk over a shelf of the texts is one that asks no shelf

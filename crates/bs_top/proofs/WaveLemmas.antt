@@ -18,9 +18,9 @@ use Rattle.bs_flat_meaning.proofs.NamedLemmas.{flat_nets_are_named}
 use Rattle.bs_top_files.specs.Entry.{FileNames, Setup, CrashFiles, AuditFiles, netlist_of, signature_of, stimulus_of, dump_of, setup_of, crash_files_of, report_of}
 use Rattle.bs_top_files.specs.Entry.{audit_files_of, drawn_of}
 use Rattle.bs_top_files.specs.Readings.{checked_of, netlist_in, size_in, text_in}
-use Rattle.bs_top_files.specs.Refusals.{Case, check_reason, text_reason, with_reason}
+use Rattle.bs_top_files.specs.Causes.{Case, check_reason, text_reason, with_reason}
 use Rattle.bs_top_files.proofs.TextLemmas.{parts_answer}
-use Rattle.bs_report_good.specs.declared.part.Part.{Part}
+use Rattle.bs_report.specs.declared.part.Part.{Part}
 use Rattle.bs_report.specs.declared.report.Report.{Report}
 use Rattle.bs_wave.specs.declared.value.Value.{Value}
 use Rattle.bs_wave.specs.declared.wave.Wave.{Wave}
@@ -101,22 +101,22 @@ abbrev WorkNamed : Work → Type 0
 WorkNamed (to_wave audit_files) = AuditFilesNamed audit_files
 WorkNamed _ = ⊤
 
-checked_named : {F : Type 0} (reason : F → Reason Case) (r : Result Parts F) → ((raw : Parts) → r ≡ Ok raw → PartsNamed raw) →
-    EndsIn PartsNamed (read_as files.Netlist (checked_of (with_reason reason r)))
-checked_named reason (Ok raw) named =
-    cond_both (passes raw) (Ok raw) (Err (check_reason raw)) (λ (x : Result Parts (Reason Case)). EndsIn PartsNamed (read_as files.Netlist x))
+checked_named : {F : Type 0} (path text : List ℕ) (reason : F → Reason Case) (r : Result Parts F) → ((raw : Parts) → r ≡ Ok raw → PartsNamed raw) →
+    EndsIn PartsNamed (read_as files.Netlist (checked_of path text (with_reason reason r)))
+checked_named path text reason (Ok raw) named =
+    cond_both (passes raw) (Ok raw) (Err (check_reason path text raw)) (λ (x : Result Parts (Reason Case)). EndsIn PartsNamed (read_as files.Netlist x))
     (λ _. named raw refl) (λ _. tt)
-checked_named reason (Err fault) named = tt
+checked_named path text reason (Err fault) named = tt
 
-read_named : (bytes : List ℕ) → EndsIn PartsNamed (read_as files.Netlist (netlist_in bytes))
-read_named bytes = checked_named (text_reason bytes) (text_in bytes) (λ raw e. flat_nets_are_named bytes raw (parts_answer bytes raw e))
+read_named : (path text : List ℕ) → EndsIn PartsNamed (read_as files.Netlist (netlist_in path text))
+read_named path text = checked_named path text (text_reason path text) (text_in text) (λ raw e. flat_nets_are_named text raw (parts_answer text raw e))
 
 setup_named : (names : FileNames) → EndsIn SetupNamed (setup_of names)
 setup_named names =
     ends_then PartsNamed SetupNamed (netlist_of names.netlist)
     (λ raw. signature_of raw names.signature
     >>= (λ choice. stimulus_of raw names.stimulus >>= (λ runs. end record { raw = raw; choice = choice; runs = runs })))
-    (λ bytes. read_named bytes)
+    (λ text. read_named names.netlist text)
     (λ raw h. ends_after SetupNamed (signature_of raw names.signature)
     (λ choice. stimulus_of raw names.stimulus >>= (λ runs. end record { raw = raw; choice = choice; runs = runs }))
     (λ choice. ends_after SetupNamed (stimulus_of raw names.stimulus) (λ runs. end record { raw = raw; choice = choice; runs = runs }) (λ runs. h)))
@@ -136,8 +136,8 @@ audit_files_named names dump report =
 drawn_named : (names : FileNames) (dump report : List ℕ) → EndsIn AuditFilesNamed (drawn_of names dump report)
 drawn_named names dump report =
     ends_then AuditFilesNamed AuditFilesNamed (audit_files_of names dump report)
-    (λ audit_files. read_as files.Report (size_in audit_files.crash_files.setup.raw audit_files.report) >>= (λ fits. end audit_files)) (audit_files_named names dump report)
-    (λ audit_files h. ends_after AuditFilesNamed (read_as files.Report (size_in audit_files.crash_files.setup.raw audit_files.report)) (λ fits. end audit_files) (λ fits. h))
+    (λ audit_files. read_as files.Report (size_in report audit_files.crash_files.setup.raw audit_files.report) >>= (λ fits. end audit_files)) (audit_files_named names dump report)
+    (λ audit_files h. ends_after AuditFilesNamed (read_as files.Report (size_in report audit_files.crash_files.setup.raw audit_files.report)) (λ fits. end audit_files) (λ fits. h))
 
 work_named : (job : AuditJob) → EndsIn WorkNamed (plan_of (WaveWords job))
 work_named job =

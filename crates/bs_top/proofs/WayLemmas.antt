@@ -12,12 +12,12 @@ use Rattle.bs_report.specs.declared.report.Cand.{Cand}
 use Rattle.bs_report.specs.declared.report.HitLine.{HitLine}
 use Rattle.bs_report.specs.declared.report.Step.{Step}
 use Rattle.bs_report.specs.declared.report.Report.{Report}
-use Rattle.bs_report_good.specs.Step.{stored_of, listed, IsRightStep, IsCandidate}
-use Rattle.bs_report_good.specs.Trace.{hit_state, input_for, trace_end}
-use Rattle.bs_report_good.specs.Good.{IsGood}
-use Rattle.bs_report_good.proofs.ProgressLemmas.{hit_at}
-use Rattle.bs_report_good.proofs.ExecutionLemmas.{cand_for, led_widths}
-use Rattle.bs_report_good.proofs.WideLemmas.{end_width}
+use Rattle.bs_report.specs.Step.{stored_of, listed, IsRightStep, IsCandidate}
+use Rattle.bs_report.specs.Trace.{hit_state, input_for, trace_end}
+use Rattle.bs_report.specs.Good.{IsGood}
+use Rattle.bs_report.proofs.ProgressLemmas.{hit_at}
+use Rattle.bs_report.proofs.ExecutionLemmas.{cand_for, led_widths}
+use Rattle.bs_report.proofs.WideLemmas.{end_width}
 use Rattle.bs_wave.specs.Wave.{IsWayOf}
 
 -- as many states as inputs, each of its width

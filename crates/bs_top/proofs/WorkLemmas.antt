@@ -6,20 +6,20 @@ use Rattle.bs_bits.specs.declared.memory.NoMemory.{NoMemory}
 use Rattle.bs_outside.specs.Calls.{FetchCall}
 use Rattle.bs_report.specs.declared.report.Stop.{Stop}
 use Rattle.bs_report.specs.declared.report.Stop.TheVariants.{Reset, Length, Nohit, Empty, Candidates, Conflicts}
-use Rattle.bs_report_good.specs.declared.part.Part.{Part}
+use Rattle.bs_report.specs.declared.part.Part.{Part}
 use Rattle.bs_top.specs.Rejected.{finding_status}
 use Rattle.bs_outside.specs.declared.status.Status.{Status}
 use Rattle.bs_note_calls.specs.Words.{IsWordsNote}
-use Rattle.bs_top_answer.specs.declared.note.Response.{Response}
-use Rattle.bs_top_answer.specs.Note.{Sure}
-use Rattle.bs_top_answer.specs.Prepared.{PreparedNoted}
-use Rattle.bs_top_answer.proofs.AnswerLemmas.{noted_nothing, noted_words}
+use Rattle.bs_call.specs.declared.note.Response.{Response}
+use Rattle.bs_call.specs.Note.{Sure}
+use Rattle.bs_call.specs.Prepared.{PreparedNoted}
+use Rattle.bs_call.proofs.AnswerLemmas.{noted_nothing, noted_words}
 use Rattle.bs_outside.specs.Answers.{RefusesWords}
 use Rattle.bs_outside.specs.PlanFiles.{is_work_status}
 use Rattle.bs_outside.specs.Plan.{Tells, Counts, Plan}
 use Rattle.bs_outside.specs.Prepared.{IsWork}
 use Rattle.bs_top_words.specs.Job.{Job}
-use Rattle.bs_top_files.specs.Refusals.{Case, CheckSays}
+use Rattle.bs_top_files.specs.Causes.{Case, CheckSays}
 use Rattle.bs_top.specs.Work.{Work, to_run, to_audit, to_dump, to_demo, to_wave, to_reach, plan_of}
 use Rattle.bs_reach.specs.declared.reach.Outcome.{Outcome}
 use Rattle.bs_reach.specs.declared.reach.Outcome.TheVariants.{Reached, Unreached, Unknown}

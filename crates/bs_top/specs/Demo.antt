@@ -5,9 +5,7 @@ use Rattle.bs_gen.specs.Job.{netlist_for, signature_text, stimulus_for}
 use Rattle.bs_outside.specs.Plan.{Tells, Plan, with_texts}
 use Rattle.bs_top.specs.declared.budgets.TheConstants.{DEMO_RUN, DEMO_CYCLE}
 use Rattle.bs_top_files.specs.Entry.{FileNames, MomentFiles, moment_files_of}
-use Rattle.bs_top_files.specs.Looking.{moment_files_looked}
-use Rattle.bs_top_files.specs.NoteCases.{NoteCase}
-use Rattle.bs_top_files.specs.Refusals.{Case}
+use Rattle.bs_top_files.specs.Causes.{Case}
 
 abbrev pub demo_names : FileNames
 demo_names = record { netlist = codes "netlist"; signature = codes "signature"; stimulus = codes "stimulus" }
@@ -26,7 +24,3 @@ demo_told number = told_of (netlist_for number) signature_text (stimulus_for num
 -- they make a setup ready, and the moment of DEMO_RUN at DEMO_CYCLE
 abbrev pub demo_of : ℕ → Plan Case MomentFiles
 demo_of number = with_texts (demo_told number) (moment_files_of demo_names DEMO_RUN DEMO_CYCLE)
-
--- the same as the notes see it
-abbrev pub demo_looked : ℕ → Plan NoteCase MomentFiles
-demo_looked number = with_texts (demo_told number) (moment_files_looked demo_names DEMO_RUN DEMO_CYCLE)

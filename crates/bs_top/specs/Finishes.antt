@@ -10,9 +10,9 @@ use Rattle.bs_report.specs.declared.report.Stop.{Stop}
 use Rattle.bs_report.specs.declared.report.Stop.TheVariants.{Reset, Length, Nohit, Empty, Candidates, Conflicts}
 use Rattle.bs_scan.specs.Crash.{Crash, Recording, crash_of, dump_at}
 use Rattle.bs_report.specs.Text.{report_text, HasReportText}
-use Rattle.bs_report_good.specs.declared.part.Part.{Part}
-use Rattle.bs_report_good.specs.Progress.{GoesBack}
-use Rattle.bs_report_good.specs.Valid.{first_failing}
+use Rattle.bs_report.specs.declared.part.Part.{Part}
+use Rattle.bs_report.specs.Progress.{GoesBack}
+use Rattle.bs_report.specs.Valid.{first_failing}
 use Rattle.bs_outside.specs.declared.status.Status.{Status}
 use Rattle.bs_outside.specs.declared.status.Status.TheVariants as S
 use Rattle.bs_loop.specs.Bound.{HasBound}
@@ -139,9 +139,9 @@ netlist_of (to_demo number moment_files) = moment_files.setup.raw
 netlist_of (to_wave audit_files) = audit_files.crash_files.setup.raw
 netlist_of (to_reach conflicts target) = target.raw
 
--- Where a text has several modules, and is read as this netlist, the netlist is the flat netlist of their design, and means it.
+-- Where a text has several modules, and is read as this netlist by whatever path, the netlist is the flat netlist of their design, and means it.
 pub record MeansItsDesign (raw : Parts) : Type 0 where
-  pub means : (bytes : List ℕ) → HasModules bytes → netlist_in bytes ≡ Ok raw → MeansDesign bytes raw
+  pub means : (path bytes : List ℕ) → HasModules bytes → netlist_in path bytes ≡ Ok raw → MeansDesign bytes raw
 
 -- the reply to work that is done is right, and so is what its netlist means
 pub record Finished (work : Work) (status : Status) (text : List ℕ) : Type 0 where

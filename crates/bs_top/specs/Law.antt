@@ -17,10 +17,10 @@ use Rattle.bs_wave.specs.WaveReading.{wave_in}
 use Rattle.bs_top.specs.Work.{to_run, to_audit, to_wave, plan_of}
 use Rattle.bs_top.specs.Finishes.{replies}
 
--- the text is read as a report, for which nothing but `accepted` is written
+-- the text is read as a report, by whatever path, for which nothing but `accepted` is written
 pub record IsAcceptedText (crash_files : CrashFiles) (text : List ℕ) : Type 0 where
   pub report : Report
-  pub read : report_read text ≡ Ok report
+  pub read : (path : List ℕ) → report_read path text ≡ Ok report
   pub accepted : (status : Status) (answer : List ℕ) → replies (to_audit (record { crash_files = crash_files; report = report })) status answer →
       (status ≡ Done) × (answer ≡ codes "accepted\n")
 

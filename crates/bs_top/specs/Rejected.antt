@@ -3,8 +3,8 @@ use Rattle.std.specs.Prelude.{ℕ, List, ◌++◌, codes, decimal, Option, Some,
 use Rattle.bs_bits.specs.Lines.{line}
 use Rattle.bs_log.specs.declared.why.Why.{Why}
 use Rattle.bs_log.specs.declared.why.Why.TheVariants as why
-use Rattle.bs_report_good.specs.declared.part.Part.{Part}
-use Rattle.bs_report_good.specs.declared.part.Part.TheVariants as parts
+use Rattle.bs_report.specs.declared.part.Part.{Part}
+use Rattle.bs_report.specs.declared.part.Part.TheVariants as parts
 use Rattle.bs_outside.specs.declared.status.Status.{Status}
 use Rattle.bs_outside.specs.declared.status.Status.TheVariants.{Done, Rejected}
 

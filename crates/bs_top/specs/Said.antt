@@ -14,45 +14,20 @@ use Rattle.bs_reach.specs.Text.{reach_text}
 use Rattle.bs_report.specs.declared.report.Budgets.{Budgets}
 use Rattle.bs_report.specs.declared.report.Report.{Report}
 use Rattle.bs_report.specs.Text.{report_text}
-use Rattle.bs_report_good.specs.declared.part.Part.{Part}
-use Rattle.bs_top_reach.specs.Target.{target_looked}
-use Rattle.bs_top_answer.specs.declared.note.Note.{Note}
-use Rattle.bs_top_answer.specs.declared.note.Note.TheVariants.{Silent, Wanting}
-use Rattle.bs_top_answer.specs.Endings.{is_looked, miss_text_of, rejected_text_if, run_text}
-use Rattle.bs_top_answer.specs.Note.{DueText, Sure, SureText}
-use Rattle.bs_top_answer.specs.Paths.{Paths, path_of}
-use Rattle.bs_top_answer.specs.Prepared.{NoteAlong}
+use Rattle.bs_report.specs.declared.part.Part.{Part}
+use Rattle.bs_call.specs.declared.note.Note.{Note}
+use Rattle.bs_call.specs.declared.note.Note.TheVariants.{Silent, Wanting}
+use Rattle.bs_call.specs.Endings.{is_searched, miss_text_of, rejected_text_if, run_text}
+use Rattle.bs_call.specs.Note.{DueText, Sure, SureText}
+use Rattle.bs_call.specs.Paths.{Paths, path_of}
+use Rattle.bs_call.specs.Prepared.{NoteAlong}
 use Rattle.bs_top_files.specs.Entry.{CrashFiles, recording_in}
-use Rattle.bs_top_files.specs.Looking.{audit_files_looked, crash_files_looked, drawn_looked, moment_files_looked}
-use Rattle.bs_top_files.specs.NoteCases.{NoteCase, NoteSays}
+use Rattle.bs_top_files.specs.Causes.{NoteSays}
 use Rattle.bs_outside.specs.declared.status.Status.{Status}
-use Rattle.bs_outside.specs.Plan.{Plan, end, ◌>>=◌}
 use Rattle.bs_top_words.specs.Job.{Job, Run, Audit, Dump as Moment, Demo, Wave, Reach as Search}
-use Rattle.bs_top.specs.Demo.{demo_looked}
 use Rattle.bs_top.specs.Drawn.{IsDrawn}
 use Rattle.bs_top.specs.Rejected.{finding_text}
-use Rattle.bs_top.specs.Work.{Work, to_run, to_audit, to_dump, to_demo, to_wave, to_reach, run_names, budgets_of, audit_names, dump_names}
-
--- the plan of a job as the notes see it: the same files and the same work, and the notes on what is refused
-abbrev pub looked_of : Job → Plan NoteCase Work
-looked_of (Run job) = do
-  crash_files ← crash_files_looked (run_names job) job.dump
-  end (to_run (budgets_of job) crash_files)
-looked_of (Audit job) = do
-  audit_files ← audit_files_looked (audit_names job) job.dump job.report
-  end (to_audit audit_files)
-looked_of (Moment job) = do
-  moment_files ← moment_files_looked (dump_names job) job.run job.cycle
-  end (to_dump moment_files)
-looked_of (Demo number) = do
-  moment_files ← demo_looked number
-  end (to_demo number moment_files)
-looked_of (Wave job) = do
-  audit_files ← drawn_looked (audit_names job) job.dump job.report
-  end (to_wave audit_files)
-looked_of (Search job) = do
-  target ← target_looked job.netlist job.state job.cycles
-  end (to_reach job.conflicts target)
+use Rattle.bs_top.specs.Work.{Work, plan_of, to_run, to_audit, to_dump, to_demo, to_wave, to_reach}
 
 -- the names of the files of a job; a name that it does not give is empty
 abbrev pub paths_of : Job → Paths
@@ -68,14 +43,14 @@ paths_of (Search j) = record { netlist = j.netlist; signature = []; stimulus = [
 -- The text is a report's, and the note tells its stop, where it is not at reset; where no candidate of the first step is hit, it tells
 -- what the recorded runs show of the dump. Where some flip-flops of the dump are not known, it tells how many are in place of that, and also
 -- at a stop at reset. It tells whether the search for a recorded moment was cut in the last step, as it was, and at a stop at the
--- budget of steps how many lists were cut. Memory may run out for it only where the runs are looked at.
+-- budget of steps how many lists were cut. Memory may run out for it only where the runs are searched.
 pub record RunSaid (budgets : Budgets) (crash_files : CrashFiles) (text : List ℕ) (note : Note) : Type 0 where
   pub report : Report
   pub written : text ≡ report_text report
   pub cut : Bool
   pub tells : TellsCut (recording_in crash_files.setup) budgets.conflicts report.steps cut
   pub says : DueText (run_text (recording_in crash_files.setup) crash_files.dump crash_files.setup.runs (length report.steps) report.stop cut (cut_lists report.steps)) note
-  pub sure : is_looked (length report.steps) report.stop ≡ false → note ≢ Wanting
+  pub sure : is_searched (length report.steps) report.stop ≡ false → note ≢ Wanting
 
 abbrev pub is_rejected : Option Part → Bool
 is_rejected None = false
@@ -117,7 +92,7 @@ WorkSaid (to_reach conflicts target) text note = ReachSaid text note
 
 -- what is said of the answer to a job, after these fetches
 abbrev pub JobSaid : Job → List FetchCall → Status → List ℕ → Note → Type 0
-JobSaid job = NoteAlong NoteSays WorkSaid (path_of (paths_of job)) (looked_of job)
+JobSaid job = NoteAlong NoteSays WorkSaid (path_of (paths_of job)) (plan_of job)
 
 -- the same of words: those that are no job have a note on what is wrong with them
 abbrev pub WordsSaid : List (List ℕ) → Option Job → List FetchCall → Status → List ℕ → Note → Type 0

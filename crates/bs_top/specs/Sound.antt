@@ -5,10 +5,10 @@ use Rattle.bs_report.specs.declared.report.Step.{Step}
 use Rattle.bs_report.specs.declared.report.Report.{Report}
 use Rattle.bs_report.specs.declared.report.Stop.TheVariants.{Reset}
 use Rattle.bs_scan.specs.Crash.{Crash}
-use Rattle.bs_report_good.specs.Good.{IsGood}
-use Rattle.bs_report_good.specs.Law.{EndsExecution, HitsEarlier}
-use Rattle.bs_report_good.specs.Stop.{IsFinished}
-use Rattle.bs_report_good.specs.Valid.{IsValid}
+use Rattle.bs_report.specs.Good.{IsGood}
+use Rattle.bs_report.specs.GoodLaw.{EndsExecution, HitsEarlier}
+use Rattle.bs_report.specs.Stop.{IsFinished}
+use Rattle.bs_report.specs.Valid.{IsValid}
 use Rattle.bs_audit.specs.Finding.{basis_for}
 
 -- The report is good and valid. A trace of at least one step ends an execution from reset under a supplied run's inputs and then

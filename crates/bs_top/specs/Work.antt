@@ -4,7 +4,7 @@ use Rattle.bs_report.specs.declared.report.Budgets.{Budgets}
 use Rattle.bs_top_words.specs.Job.{RunJob, AuditJob, DumpJob, Job, Run, Audit, Dump, Demo, Wave, Reach}
 use Rattle.bs_outside.specs.Plan.{Plan, end, ◌>>=◌}
 use Rattle.bs_top_files.specs.Entry.{FileNames, MomentFiles, moment_files_of, CrashFiles, crash_files_of, AuditFiles, audit_files_of, drawn_of}
-use Rattle.bs_top_files.specs.Refusals.{Case}
+use Rattle.bs_top_files.specs.Causes.{Case}
 use Rattle.bs_top_reach.specs.Target.{Target, target_of}
 use Rattle.bs_top.specs.Demo.{demo_of}
 

@@ -2,12 +2,11 @@
 ghost use Rattle.std.specs.Prelude.{◌≡◌, IfOk, string_bytes};
 ghost use Rattle.bs_outside.specs.Walks.{WalksAlone};
 ghost use Rattle.bs_top_files.specs.Ready.{moment_files_in};
-ghost use Rattle.bs_top_files.specs.Refusals.{CheckSays};
+ghost use Rattle.bs_top_files.specs.Causes.{CheckSays, NoteSays};
 ghost use Rattle.bs_gen.specs.Job.{netlist_for, signature_text, stimulus_for};
 ghost use Rattle.bs_outside.specs.Memory.{sure_files};
-ghost use Rattle.bs_top_files.specs.NoteCases.{NoteSays};
 ghost use Rattle.bs_outside.specs.Diagnostic.{lined, note_seen};
-ghost use Rattle.bs_top.specs.Demo.{demo_looked, demo_of};
+ghost use Rattle.bs_top.specs.Demo.{demo_of};
 ghost use Rattle.bs_top.specs.Texts.{AreTexts};
 
 use crate::budgets::{DEMO_CYCLE, DEMO_RUN};
@@ -67,7 +66,7 @@ fn shelf_of(alloc: Global, number: u64) -> Result<SureShelf, NoMemory>
 fn load_from(alloc: Global, number: u64, shelf: SureShelf) -> Result<MomentFiles, WalkStop>
     requires { AreTexts (sure_files shelf) (netlist_for number) signature_text (stimulus_for number) }
     ensures line { WalksAlone CheckSays (demo_of number) moment_files_in (lined result) }
-    ensures note { WalksAlone NoteSays (demo_looked number) moment_files_in (note_seen result) }
+    ensures note { WalksAlone NoteSays (demo_of number) moment_files_in (note_seen result) }
 {
     let mut shelf = shelf;
     let names = FileNames {
@@ -82,7 +81,7 @@ fn load_from(alloc: Global, number: u64, shelf: SureShelf) -> Result<MomentFiles
 /// What the texts of the number make ready: a setup, and the moment whose dump is traced back. No shelf is asked.
 pub fn load_demo(alloc: Global, number: u64) -> Result<MomentFiles, WalkStop>
     ensures line { WalksAlone CheckSays (demo_of number) moment_files_in (lined result) }
-    ensures note { WalksAlone NoteSays (demo_looked number) moment_files_in (note_seen result) }
+    ensures note { WalksAlone NoteSays (demo_of number) moment_files_in (note_seen result) }
 {
     match shelf_of(alloc, number) {
         Ok(shelf) => load_from(alloc, number, shelf),

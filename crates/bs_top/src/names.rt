@@ -1,11 +1,11 @@
 //! The names of the files of a job, for the notes on them.
 ghost use Rattle.std.specs.Prelude.{◌≡◌};
-ghost use Rattle.bs_top_answer.specs.Paths.{paths_in};
+ghost use Rattle.bs_call.specs.Paths.{paths_in};
 ghost use Rattle.bs_top_words.specs.Job.{Audit as AuditWords, Demo as DemoWords, Dump as DumpWords, Reach as ReachWords, Run as RunWords};
 ghost use Rattle.bs_top.specs.Said.{paths_of};
 ghost use Rattle.bs_top.specs.Words.{audit_job, dump_job, reach_job, run_job};
 
-use bs_top_answer::Paths;
+use bs_call::Paths;
 use bs_top_words::{AuditJob, DumpJob, ReachJob, RunJob};
 
 /// Those of a run.

@@ -9,8 +9,8 @@ use Rattle.bs_lex.specs.declared.token.Token.{Token}
 use Rattle.bs_lex.specs.declared.token.Piece as token_piece
 use Rattle.bs_lex.specs.declared.token.Piece.TheVariants.{Passed, Made, Bad}
 use Rattle.bs_lex.specs.Tokens.{piece_at, tokens_from, tokens_of, with_token}
-use Rattle.bs_verilog_lexemes.specs.Packed.{Lexeme}
-use Rattle.bs_verilog_lexemes.specs.Lexemes.{end_of, lexeme_of, lexemes_of, names_of}
+use Rattle.bs_lex.specs.Packed.{Lexeme}
+use Rattle.bs_lex.specs.Lexemes.{end_of, lexeme_of, lexemes_of, names_of}
 use Rattle.bs_verilog_syntax.specs.Reading.{Rest}
 use Rattle.bs_flat_meaning.specs.Pieces.{Piece, first_piece, is_design, pieces, pieces_from, modules_of, name_id}
 use Rattle.bs_top_files.specs.Modules.{AreOfText}

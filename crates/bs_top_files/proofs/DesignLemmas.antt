@@ -3,7 +3,7 @@ use Rattle.std.proofs.Common.{◌≡◌, ℕ, suc, ◌+◌, ◌≤◌, Bool, tru
 use Rattle.std.specs.Prelude.{nat_lt, map, sum, All, if◌then◌else◌, ◌↔◌}
 use Rattle.std.proofs.lemmas.Bool.{ltb-true}
 use Rattle.bs_lex.specs.declared.token.Token.{Token}
-use Rattle.bs_verilog_lexemes.specs.Lexemes.{lexemes_of, names_of}
+use Rattle.bs_lex.specs.Lexemes.{lexemes_of, names_of}
 use Rattle.bs_verilog_syntax.specs.Reading.{Rest}
 use Rattle.bs_verilog_syntax.specs.declared.fault.VerilogFault.{VerilogFault}
 use Rattle.bs_verilog.specs.Netlist.{tokenised}
@@ -29,7 +29,8 @@ use Rattle.bs_flat_meaning.proofs.ExecutionLemmas.{flat_keeps_executions}
 use Rattle.bs_flat_meaning.proofs.LawLemmas.{flat_keeps_meaning}
 use Rattle.bs_flat_meaning.proofs.JoinLemmas.{designs_are_whole}
 use Rattle.bs_outside.specs.Plan.{Reason}
-use Rattle.bs_top_files.specs.Refusals.{Case, TextFault, with_one, in_rings, check_reason, text_reason, with_fault, with_reason}
+use Rattle.bs_top_files.specs.Causes.{Case, check_reason, text_reason, with_reason}
+use Rattle.bs_top_files.specs.Refusals.{TextFault, with_one, in_rings, with_fault}
 use Rattle.bs_top_files.specs.Readings.{checked_of, modules_in, one_module, several_modules, text_in, tokens_in}
 use Rattle.bs_top_files.proofs.TextLemmas.{fault_ok, flat_as, read_as}
 use Rattle.bs_top_files.specs.Law.{GoesThrough, NetlistsMeanDesigns}
@@ -46,14 +47,15 @@ flat_same : (a b : Parts) → flat_as a ≡ flat_as b → a ≡ b
 flat_same a b h = cc
 
 -- what passes the check is what was read
-checked_ok : (bytes : List ℕ) (t : Result Parts TextFault) (raw : Parts) → checked_of (with_reason (text_reason bytes) t) ≡ checked_as raw →
-    (t ≡ read_as raw) × (passes raw ≡ true)
-checked_ok bytes (Ok r) raw e = by (passes r) refl e
+checked_ok : (path bytes : List ℕ) (t : Result Parts TextFault) (raw : Parts) →
+    checked_of path bytes (with_reason (text_reason path bytes) t) ≡ checked_as raw → (t ≡ read_as raw) × (passes raw ≡ true)
+checked_ok path bytes (Ok r) raw e = by (passes r) refl e
   where
-    by : (b : Bool) → passes r ≡ b → (if b then checked_as r else Err (check_reason r)) ≡ checked_as raw → (read_as r ≡ read_as raw) × (passes raw ≡ true)
+    by : (b : Bool) → passes r ≡ b → (if b then checked_as r else Err (check_reason path bytes r)) ≡ checked_as raw →
+        (read_as r ≡ read_as raw) × (passes raw ≡ true)
     by true p e = let s = checked_same r raw e in (ap read_as s, subst (λ x. passes x ≡ true) s p)
     by false p e = absurd cc
-checked_ok bytes (Err fault) raw e = absurd cc
+checked_ok path bytes (Err fault) raw e = absurd cc
 
 limited_ok : (b : Bool) (fault : FlatFault) (later : Result Parts FlatFault) (raw : Parts) → limited b fault later ≡ flat_as raw → later ≡ flat_as raw
 limited_ok true fault later raw e = absurd cc
@@ -170,8 +172,8 @@ AreRead =
     read_modules (names_of bytes tokens) (lexemes_of bytes tokens) ≡ Ok ks → All (IsRead (names_of bytes tokens)) ks
 
 pub netlists_mean : AreRead → NetlistsMeanDesigns
-netlists_mean whole bytes raw (tokens, lexed, many) e placed =
-    let checked = checked_ok bytes (text_in bytes) raw e in
+netlists_mean whole path bytes raw (tokens, lexed, many) e placed =
+    let checked = checked_ok path bytes (text_in bytes) raw e in
     let table = names_of bytes tokens in
     let ts = lexemes_of bytes tokens in
     let from = several_ok table ts raw (sym (text_several bytes tokens lexed many) ∙ checked.0) in

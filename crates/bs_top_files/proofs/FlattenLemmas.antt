@@ -8,7 +8,7 @@ use Rattle.bs_bits.specs.Reading.{Answers}
 use Rattle.bs_net.specs.Parts.{Parts}
 use Rattle.bs_net.specs.declared.raw.Raw.{Raw}
 use Rattle.bs_net.specs.Netlist.{parts_of}
-use Rattle.bs_verilog_lexemes.specs.Lexemes.{lexemes_of}
+use Rattle.bs_lex.specs.Lexemes.{lexemes_of}
 use Rattle.bs_verilog_syntax.specs.declared.tree.Module as tree
 use Rattle.bs_verilog_syntax.specs.Reading.{Rest}
 use Rattle.bs_flat_meaning.specs.declared.fault.FlatFault.{FlatFault}

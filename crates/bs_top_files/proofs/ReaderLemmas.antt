@@ -9,10 +9,10 @@ use Rattle.bs_net.specs.Netlist.{parts_of}
 use Rattle.bs_lex.specs.declared.limits.TheConstants.{MAX_BYTES}
 use Rattle.bs_lex.specs.declared.token.Token.{Token}
 use Rattle.bs_lex.specs.Tokens.{tokens_of}
-use Rattle.bs_verilog_lexemes.specs.Packed.{Lexeme}
-use Rattle.bs_verilog_lexemes.specs.Lexemes.{lexed, lexemes_of, names_of}
-use Rattle.bs_verilog_lexemes.specs.declared.fault.LexFault.{LexFault}
-use Rattle.bs_verilog_lexemes.specs.declared.fault.LexFault.TheVariants.{BadByte, NoMemory as out_of_memory}
+use Rattle.bs_lex.specs.Packed.{Lexeme}
+use Rattle.bs_lex.specs.Lexemes.{lexed, lexemes_of, names_of}
+use Rattle.bs_lex.specs.declared.fault.LexFault.{LexFault}
+use Rattle.bs_lex.specs.declared.fault.LexFault.TheVariants.{BadByte, NoMemory as out_of_memory}
 use Rattle.bs_verilog_syntax.specs.declared.fault.VerilogFault.{VerilogFault}
 use Rattle.bs_verilog_syntax.specs.declared.fault.VerilogFault.TheVariants.{Syntax}
 use Rattle.bs_verilog.specs.Netlist.{netlist_text, tokenised}

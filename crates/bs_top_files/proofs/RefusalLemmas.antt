@@ -10,8 +10,8 @@ use Rattle.bs_net.specs.Netlist.{parts_of}
 use Rattle.bs_net.specs.Check.{IsFault}
 use Rattle.bs_net.proofs.CallerLemmas.{raw_is_placed}
 use Rattle.bs_net.proofs.ClockLemmas.{mixed_placed}
-use Rattle.bs_outside.specs.declared.walk.Refusal.{Refusal}
-use Rattle.bs_outside.specs.declared.walk.Refusal.TheVariants as Q
+use Rattle.bs_outside.specs.declared.file_fetch.Refusal.{Refusal}
+use Rattle.bs_outside.specs.declared.file_fetch.Refusal.TheVariants as Q
 use Rattle.bs_top_files.specs.Refusals.{key_of, check_words, HasWords, HasCheckWords}
 
 -- what stands at a net's place is its key

@@ -5,8 +5,8 @@ use Rattle.bs_net.specs.declared.raw.Raw.{Raw}
 use Rattle.bs_net.specs.Netlist.{parts_of}
 use Rattle.bs_flat_meaning.specs.declared.fault.FlatFault.{FlatFault}
 use Rattle.bs_flat_meaning.specs.declared.fault.FlatFault.TheVariants.{Verilog, NoMemory}
-use Rattle.bs_verilog_lexemes.specs.declared.fault.LexFault.{LexFault}
-use Rattle.bs_verilog_lexemes.specs.declared.fault.LexFault.TheVariants.{BadByte, NoMemory as out_of_memory}
+use Rattle.bs_lex.specs.declared.fault.LexFault.{LexFault}
+use Rattle.bs_lex.specs.declared.fault.LexFault.TheVariants.{BadByte, NoMemory as out_of_memory}
 use Rattle.bs_verilog_syntax.specs.declared.fault.VerilogFault.TheVariants.{Syntax}
 use Rattle.bs_verilog_syntax.specs.Reading.{Rest}
 use Rattle.bs_flat_meaning.specs.Pieces.{modules_of}

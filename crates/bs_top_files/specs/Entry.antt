@@ -10,7 +10,7 @@ use Rattle.bs_scan.specs.declared.dump.Dump.{Dump}
 use Rattle.bs_report.specs.declared.report.Report.{Report}
 use Rattle.bs_outside.specs.declared.file.File.TheVariants as files
 use Rattle.bs_outside.specs.Plan.{Plan, end, ◌>>=◌, fetched, read_as}
-use Rattle.bs_top_files.specs.Refusals.{Case}
+use Rattle.bs_top_files.specs.Causes.{Case}
 use Rattle.bs_top_files.specs.Readings.{netlist_in, signature_in, stimulus_in, dump_in, moment_in, report_read, size_in}
 
 -- the names of the first three files
@@ -54,23 +54,23 @@ input_width raw = length (circuit_of raw).inputs
 
 abbrev pub netlist_of : List ℕ → Plan Case Parts
 netlist_of name = do
-  bytes ← fetched files.Netlist name
-  read_as files.Netlist (netlist_in bytes)
+  text ← fetched files.Netlist name
+  read_as files.Netlist (netlist_in name text)
 
 abbrev pub signature_of : Parts → List ℕ → Plan Case Chosen
 signature_of raw name = do
-  bytes ← fetched files.Signature name
-  read_as files.Signature (signature_in raw bytes)
+  text ← fetched files.Signature name
+  read_as files.Signature (signature_in raw name text)
 
 abbrev pub stimulus_of : Parts → List ℕ → Plan Case Stimulus
 stimulus_of raw name = do
-  bytes ← fetched files.Stimulus name
-  read_as files.Stimulus (stimulus_in (input_width raw) bytes)
+  text ← fetched files.Stimulus name
+  read_as files.Stimulus (stimulus_in (input_width raw) name text)
 
 abbrev pub dump_of : Setup → List ℕ → Plan Case Dump
 dump_of setup name = do
-  bytes ← fetched files.Dump name
-  read_as files.Dump (dump_in setup.raw setup.choice bytes)
+  text ← fetched files.Dump name
+  read_as files.Dump (dump_in setup.raw setup.choice name text)
 
 -- the first three files of a job, by their names
 abbrev pub setup_of : FileNames → Plan Case Setup
@@ -96,8 +96,8 @@ crash_files_of names dump = do
 
 abbrev pub report_of : List ℕ → Plan Case Report
 report_of name = do
-  bytes ← fetched files.Report name
-  read_as files.Report (report_read bytes)
+  text ← fetched files.Report name
+  read_as files.Report (report_read name text)
 
 -- five files
 abbrev pub audit_files_of : FileNames → (dump report : List ℕ) → Plan Case AuditFiles
@@ -110,5 +110,5 @@ audit_files_of names dump report = do
 abbrev pub drawn_of : FileNames → (dump report : List ℕ) → Plan Case AuditFiles
 drawn_of names dump report = do
   audit_files ← audit_files_of names dump report
-  fits ← read_as files.Report (size_in audit_files.crash_files.setup.raw audit_files.report)
+  fits ← read_as files.Report (size_in report audit_files.crash_files.setup.raw audit_files.report)
   end audit_files

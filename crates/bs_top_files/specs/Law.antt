@@ -2,7 +2,7 @@
 use Rattle.std.specs.Prelude.{◌≡◌, ◌≤◌, ◌+◌, ℕ, Bool, List, length, map, All, Ok, ◌↔◌}
 use Rattle.std.specs.List.{range_with_len}
 use Rattle.bs_lex.specs.declared.token.Token.{Token}
-use Rattle.bs_verilog_lexemes.specs.Lexemes.{lexemes_of, names_of}
+use Rattle.bs_lex.specs.Lexemes.{lexemes_of, names_of}
 use Rattle.bs_verilog.specs.Netlist.{tokenised}
 use Rattle.bs_net.specs.Circuit.{Circuit, reset_state}
 use Rattle.bs_net.specs.Netlist.{circuit_of}
@@ -51,4 +51,4 @@ pub record MeansDesign (bytes : List ℕ) (raw : Parts) : Type 0 where
 
 -- each netlist of several modules that is read means their design
 abbrev pub NetlistsMeanDesigns : Type 0
-NetlistsMeanDesigns = (bytes : List ℕ) (raw : Parts) → HasModules bytes → netlist_in bytes ≡ Ok raw → PartsArePlaced raw → MeansDesign bytes raw
+NetlistsMeanDesigns = (path bytes : List ℕ) (raw : Parts) → HasModules bytes → netlist_in path bytes ≡ Ok raw → PartsArePlaced raw → MeansDesign bytes raw

@@ -1,12 +1,10 @@
 pub mod Refusals
+pub mod Causes
 pub mod Readings
 pub mod Entry
 pub mod Ready
 pub mod Props
 pub mod Law
-pub mod NoteCases
-pub mod Noting
-pub mod Looking
 pub mod Steps
 -- What a text is answered with.
 pub mod Answers

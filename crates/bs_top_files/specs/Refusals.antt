@@ -24,9 +24,8 @@ use Rattle.bs_stim.specs.declared.fault.StimFault.{StimFault}
 use Rattle.bs_stim.specs.declared.fault.StimFault.TheVariants as stimulus
 use Rattle.bs_report.specs.declared.fault.ReportFault.{ReportFault}
 use Rattle.bs_report.specs.declared.fault.ReportFault.TheVariants as report
-use Rattle.bs_outside.specs.declared.walk.Refusal.{Refusal}
-use Rattle.bs_outside.specs.declared.walk.Refusal.TheVariants as Q
-use Rattle.bs_outside.specs.Plan.{Reason, exactly, any_of}
+use Rattle.bs_outside.specs.declared.file_fetch.Refusal.{Refusal}
+use Rattle.bs_outside.specs.declared.file_fetch.Refusal.TheVariants as Q
 
 -- ---- the words of a fault; out of memory is no fault of a file and has none
 
@@ -145,7 +144,7 @@ pub record FaultSays (r : Parts) (why : List ℕ) : Type 0 where
   pub is : IsFault r fault
   pub words : why ≡ check_words r fault
 
--- ---- refusals of which several are right
+-- ---- a text whose modules instance each other in rings, of which any may be told
 
 -- These words go with a text whose modules instance each other in rings: they tell a ring that may be told, so any of them.
 pub record RingSays (bytes why : List ℕ) : Type 0 where
@@ -161,51 +160,6 @@ pub data TextFault : Type 0 where
 abbrev pub with_fault : Result Parts FlatFault → Result Parts TextFault
 with_fault (Ok raw) = Ok raw
 with_fault (Err fault) = Err (with_one fault)
-
--- what several refusals may go with: parts that the check refuses, or a text whose modules instance each other in rings
-pub data Case : Type 0 where
-  failing : Parts → Case
-  circular : List ℕ → Case
-
--- these words go with the case
-abbrev pub CheckSays : Case → List ℕ → Type 0
-CheckSays (failing r) why = FaultSays r why
-CheckSays (circular bytes) why = RingSays bytes why
-
--- ---- the same as reasons of a job
-
-abbrev pub text_reason : List ℕ → TextFault → Reason Case
-text_reason bytes (with_one fault) = exactly (flat_words fault)
-text_reason bytes in_rings = any_of (circular bytes)
-
-abbrev pub check_reason : Parts → Reason Case
-check_reason r = any_of (failing r)
-
-abbrev pub signature_reason : ChoiceFault → Reason Case
-signature_reason fault = exactly (signature_words fault)
-
-abbrev pub stimulus_reason : StimFault → Reason Case
-stimulus_reason fault = exactly (stimulus_words fault)
-
-abbrev pub dump_reason : DumpFault → Reason Case
-dump_reason fault = exactly (dump_words fault)
-
-abbrev pub report_reason : ReportFault → Reason Case
-report_reason fault = exactly (report_words fault)
-
-abbrev pub range_reason : Reason Case
-range_reason = exactly range_words
-
-abbrev pub too_large_reason : Reason Case
-too_large_reason = exactly too_large_words
-
-abbrev pub partial_reason : Reason Case
-partial_reason = exactly partial_words
-
--- what a reader's definition wants, with a reason for its fault
-abbrev pub with_reason : {V F : Type 0} → (F → Reason Case) → Result V F → Result V (Reason Case)
-with_reason reason (Ok v) = Ok v
-with_reason reason (Err fault) = Err (reason fault)
 
 -- ---- what inner functions promise
 

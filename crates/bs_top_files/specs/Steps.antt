@@ -4,9 +4,7 @@ use Rattle.bs_net.specs.Parts.{Parts}
 use Rattle.bs_scan.specs.Choice.{Chosen}
 use Rattle.bs_outside.specs.Plan.{Plan, end, ◌>>=◌}
 use Rattle.bs_top_files.specs.Entry.{FileNames, Setup, CrashFiles, AuditFiles, signature_of, stimulus_of, dump_of, report_of}
-use Rattle.bs_top_files.specs.Looking.{signature_looked, stimulus_looked, dump_looked, report_looked}
-use Rattle.bs_top_files.specs.NoteCases.{NoteCase}
-use Rattle.bs_top_files.specs.Refusals.{Case}
+use Rattle.bs_top_files.specs.Causes.{Case}
 
 -- behind the netlist
 abbrev pub choice_step : FileNames → Parts → Plan Case Setup
@@ -15,21 +13,10 @@ choice_step names raw = do
   runs ← stimulus_of raw names.stimulus
   end record { raw = raw; choice = choice; runs = runs }
 
-abbrev pub choice_looked : FileNames → Parts → Plan NoteCase Setup
-choice_looked names raw = do
-  choice ← signature_looked raw names.signature
-  runs ← stimulus_looked raw names.stimulus
-  end record { raw = raw; choice = choice; runs = runs }
-
 -- behind the signature
 abbrev pub runs_step : FileNames → Parts → Chosen → Plan Case Setup
 runs_step names raw choice = do
   runs ← stimulus_of raw names.stimulus
-  end record { raw = raw; choice = choice; runs = runs }
-
-abbrev pub runs_looked : FileNames → Parts → Chosen → Plan NoteCase Setup
-runs_looked names raw choice = do
-  runs ← stimulus_looked raw names.stimulus
   end record { raw = raw; choice = choice; runs = runs }
 
 -- behind the three files
@@ -38,18 +25,8 @@ crash_step setup dump = do
   dumped ← dump_of setup dump
   end record { setup = setup; dump = dumped }
 
-abbrev pub crash_looked : Setup → List ℕ → Plan NoteCase CrashFiles
-crash_looked setup dump = do
-  dumped ← dump_looked setup dump
-  end record { setup = setup; dump = dumped }
-
 -- behind the dump
 abbrev pub claim_step : CrashFiles → List ℕ → Plan Case AuditFiles
 claim_step crash_files report = do
   audit_files ← report_of report
-  end record { crash_files = crash_files; report = audit_files }
-
-abbrev pub claim_looked : CrashFiles → List ℕ → Plan NoteCase AuditFiles
-claim_looked crash_files report = do
-  audit_files ← report_looked report
   end record { crash_files = crash_files; report = audit_files }

@@ -6,10 +6,9 @@ ghost use Rattle.bs_note_calls.specs.Faults.{large_text, partial_text, range_tex
 ghost use Rattle.bs_outside.specs.Plan.{exactly};
 ghost use Rattle.bs_outside.specs.Diagnostic.{note_refusal, noted, word_refusal, worded};
 ghost use Rattle.bs_outside.specs.Walks.{Reads};
-ghost use Rattle.bs_top_files.specs.NoteCases.{HasNote, NoteSays};
-ghost use Rattle.bs_top_files.specs.Noting.{drawable_noted, moment_noted, size_noted};
+ghost use Rattle.bs_top_files.specs.Causes.{CheckSays, HasNote, NoteSays};
 ghost use Rattle.bs_top_files.specs.Readings.{drawable_in, moment_in, size_in};
-ghost use Rattle.bs_top_files.specs.Refusals.{CheckSays, HasWords, partial_words, range_words, too_large_words};
+ghost use Rattle.bs_top_files.specs.Refusals.{HasWords, partial_words, range_words, too_large_words};
 
 use crate::readings::{has_moment, is_drawable, is_known};
 use crate::refusals::{partial_refusal, range_refusal, too_large_refusal};
@@ -33,7 +32,7 @@ fn range_diagnostic(alloc: Global, runs: &Runs, run: u64) -> Unread
 }
 
 /// A moment of the runs, or a diagnostic where no run has it.
-#[tactic(auto, using(crate::proofs::NotingLemmas::words_else, crate::proofs::NotingLemmas::note_else))]
+#[tactic(auto, using(crate::proofs::NotingLemmas::words_not, crate::proofs::NotingLemmas::note_not))]
 pub fn moment_or_diagnostic(
     alloc: Global,
     runs: &Runs,
@@ -41,7 +40,7 @@ pub fn moment_or_diagnostic(
     cycle: u64,
 ) -> Result<Moment, Unread>
     ensures words { Reads CheckSays (λ moment. moment) (moment_in runs.now run cycle) (worded result) }
-    ensures note { Reads NoteSays (λ moment. moment) (moment_noted runs.now run cycle) (noted result) }
+    ensures note { Reads NoteSays (λ moment. moment) (moment_in runs.now run cycle) (noted result) }
     ensures recorded { IfOk result (λ moment. IsMoment (inputs_of runs.now) moment) }
 {
     if !has_moment(runs, run, cycle) {
@@ -76,15 +75,15 @@ pub fn partial_diagnostic(alloc: Global, path: &str) -> Unread
 }
 
 /// Whether a waveform of the report's trace is small enough, or the diagnostic of it.
-#[tactic(auto, using(crate::proofs::NotingLemmas::words_else, crate::proofs::NotingLemmas::note_else))]
+#[tactic(auto, using(crate::proofs::NotingLemmas::words_not, crate::proofs::NotingLemmas::note_not))]
 fn drawable_or_diagnostic(
     alloc: Global,
     path: &str,
     net: &Netlist,
     report: &Report,
 ) -> Result<(), Unread>
-    ensures words { Reads CheckSays (λ _. true) (drawable_in net.now.raw report.now) (worded result) }
-    ensures note { Reads NoteSays (λ _. true) (drawable_noted path.now net.now.raw report.now) (noted result) }
+    ensures words { Reads CheckSays (λ _. true) (drawable_in path.now net.now.raw report.now) (worded result) }
+    ensures note { Reads NoteSays (λ _. true) (drawable_in path.now net.now.raw report.now) (noted result) }
 {
     if is_drawable(net, report) {
         Ok(())
@@ -94,15 +93,15 @@ fn drawable_or_diagnostic(
 }
 
 /// Whether the report's trace has a waveform, or the diagnostic of it.
-#[tactic(auto, using(crate::proofs::NotingLemmas::words_where, crate::proofs::NotingLemmas::note_where, crate::proofs::NotingLemmas::words_not, crate::proofs::NotingLemmas::note_not))]
+#[tactic(auto, using(crate::proofs::NotingLemmas::reads_where, crate::proofs::NotingLemmas::words_not, crate::proofs::NotingLemmas::note_not))]
 pub fn size_or_diagnostic(
     alloc: Global,
     path: &str,
     net: &Netlist,
     report: &Report,
 ) -> Result<(), Unread>
-    ensures words { Reads CheckSays (λ _. true) (size_in net.now.raw report.now) (worded result) }
-    ensures note { Reads NoteSays (λ _. true) (size_noted path.now net.now.raw report.now) (noted result) }
+    ensures words { Reads CheckSays (λ _. true) (size_in path.now net.now.raw report.now) (worded result) }
+    ensures note { Reads NoteSays (λ _. true) (size_in path.now net.now.raw report.now) (noted result) }
 {
     if is_known(report) {
         drawable_or_diagnostic(alloc, path, net, report)

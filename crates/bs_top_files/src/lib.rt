@@ -5,10 +5,10 @@
 //! `*_or_diagnostic`: a value, or the line and the note of one refusal, made of one reading), `ready`
 //! (`Setup`, `MomentFiles`, `CrashFiles`, `AuditFiles`: what is ready, with what is right of it), `loading`
 //! (`load_crash_files` and its kin: each file is fetched and read once, for both programs). Used above:
-//! `WalksDiagnosed CheckSays NoteSays ..`, that the code followed the plan of `specs/Entry` and, in the same
-//! fetches, the one of `specs/Looking`, whose refusals are the notes; `text_in` (`specs/Readings`), what a
-//! netlist's text is. A fault: a line in `specs/Refusals` and an arm in `refusals`. A file: its reading, its
-//! two plans and a walk.
+//! `WalksDiagnosed CheckSays NoteSays ..`, that the code followed the plan of `specs/Entry`, with a line and a
+//! note that go with what stopped it (`specs/Causes`: `Case`, the causes of a refusal); `text_in`
+//! (`specs/Readings`), what a netlist's text is. A fault: its words in `specs/Refusals` and an arm in
+//! `refusals`. A file: its reading, its plan and a walk.
 //!
 //! Of a netlist's text: `single` (a text of fewer than two modules, cells aside), `several` (modules, order,
 //! connections, flat netlist), `reader` (`read`). Used above: `read` answers exactly as bs_flat_meaning's

@@ -5,13 +5,10 @@ ghost use Rattle.bs_net.specs.Netlist.{circuit};
 ghost use Rattle.bs_report.specs.declared.limits.TheConstants.{MAX_STEPS};
 ghost use Rattle.bs_scan.specs.Crash.{DumpFits};
 ghost use Rattle.bs_outside.specs.Telling.{WalksDiagnosed};
+ghost use Rattle.bs_top_files.specs.Causes.{CheckSays, NoteSays};
 ghost use Rattle.bs_top_files.specs.Entry.{audit_files_of, crash_files_of, drawn_of, dump_of, netlist_of, moment_files_of, report_of, setup_of, signature_of, stimulus_of};
-ghost use Rattle.bs_top_files.specs.Looking.{audit_files_looked, crash_files_looked, drawn_looked, dump_looked, netlist_looked, moment_files_looked};
-ghost use Rattle.bs_top_files.specs.Looking.{report_looked, setup_looked, signature_looked, stimulus_looked};
-ghost use Rattle.bs_top_files.specs.NoteCases.{NoteSays};
 ghost use Rattle.bs_top_files.specs.Ready.{audit_files_in, crash_files_in, names_in, moment_files_in, setup_in};
-ghost use Rattle.bs_top_files.specs.Refusals.{CheckSays};
-ghost use Rattle.bs_top_files.specs.Steps.{choice_looked, choice_step, claim_looked, claim_step, crash_looked, crash_step, runs_looked, runs_step};
+ghost use Rattle.bs_top_files.specs.Steps.{choice_step, claim_step, crash_step, runs_step};
 
 use crate::extent::{moment_or_diagnostic, size_or_diagnostic};
 use crate::netlist::netlist_or_diagnostic;
@@ -31,7 +28,7 @@ use std::alloc::Global;
 /// The netlist.
 pub fn load_netlist<S: Shelf>(alloc: Global, shelf: &mut S, name: &str) -> Result<Netlist, WalkStop>
     ensures { WalksDiagnosed CheckSays NoteSays S.held S.faults S.leads shelf.old shelf.new
-        (netlist_of name.now) (netlist_looked name.now) (λ net. net.raw) (λ net. net.raw) result }
+        (netlist_of name.now) (λ net. net.raw) result }
 {
     let bytes = fetch_file(alloc, shelf, File::Netlist, name)?;
     settle_diagnostic(File::Netlist, netlist_or_diagnostic(alloc, name, &bytes))
@@ -45,7 +42,7 @@ pub fn load_signature<S: Shelf>(
     net: &Netlist,
 ) -> Result<Choice, WalkStop>
     ensures walks { WalksDiagnosed CheckSays NoteSays S.held S.faults S.leads shelf.old shelf.new
-        (signature_of net.now.raw name.now) (signature_looked net.now.raw name.now) (λ choice. choice) (λ choice. choice) result }
+        (signature_of net.now.raw name.now) (λ choice. choice) result }
     ensures width { IfOk result (λ choice. choice.width ≡ length (circuit net.now).flops) }
 {
     let bytes = fetch_file(alloc, shelf, File::Signature, name)?;
@@ -63,7 +60,7 @@ pub fn load_stimulus<S: Shelf>(
     net: &Netlist,
 ) -> Result<Runs, WalkStop>
     ensures walks { WalksDiagnosed CheckSays NoteSays S.held S.faults S.leads shelf.old shelf.new
-        (stimulus_of net.now.raw name.now) (stimulus_looked net.now.raw name.now) (λ runs. runs) (λ runs. runs) result }
+        (stimulus_of net.now.raw name.now) (λ runs. runs) result }
     ensures width { IfOk result (λ runs. runs.width ≡ length (circuit net.now).inputs) }
 {
     let bytes = fetch_file(alloc, shelf, File::Stimulus, name)?;
@@ -81,7 +78,7 @@ pub fn load_dump<S: Shelf>(
     setup: &Setup,
 ) -> Result<Dump, WalkStop>
     ensures walks { WalksDiagnosed CheckSays NoteSays S.held S.faults S.leads shelf.old shelf.new
-        (dump_of (setup_in setup.now) name.now) (dump_looked (setup_in setup.now) name.now) (λ dump. dump) (λ dump. dump) result }
+        (dump_of (setup_in setup.now) name.now) (λ dump. dump) result }
     ensures fits { IfOk result (λ dump. DumpFits (circuit setup.now.net) setup.now.choice dump) }
 {
     let bytes = fetch_file(alloc, shelf, File::Dump, name)?;
@@ -94,7 +91,7 @@ pub fn load_dump<S: Shelf>(
 /// The report of a backtrace.
 pub fn load_report<S: Shelf>(alloc: Global, shelf: &mut S, name: &str) -> Result<Report, WalkStop>
     ensures walks { WalksDiagnosed CheckSays NoteSays S.held S.faults S.leads shelf.old shelf.new
-        (report_of name.now) (report_looked name.now) (λ report. report) (λ report. report) result }
+        (report_of name.now) (λ report. report) result }
     ensures steps { IfOk result (λ report. report.budgets.steps ≤ MAX_STEPS) }
     ensures more { IfOk result (λ report. length report.states ≡ length report.inputs + 1) }
 {
@@ -117,7 +114,7 @@ fn load_runs<S: Shelf>(
 ) -> Result<Setup, WalkStop>
     requires { choice.width ≡ length (circuit net).flops }
     ensures { WalksDiagnosed CheckSays NoteSays S.held S.faults S.leads shelf.old shelf.new
-        (runs_step (names_in names.now) net.raw choice) (runs_looked (names_in names.now) net.raw choice) setup_in setup_in result }
+        (runs_step (names_in names.now) net.raw choice) setup_in result }
 {
     match load_stimulus(alloc, shelf, names.stimulus, &net) {
         Ok(runs) => Ok(Setup { net, choice, runs }),
@@ -137,7 +134,7 @@ fn load_choice<S: Shelf>(
     net: Netlist,
 ) -> Result<Setup, WalkStop>
     ensures { WalksDiagnosed CheckSays NoteSays S.held S.faults S.leads shelf.old shelf.new
-        (choice_step (names_in names.now) net.raw) (choice_looked (names_in names.now) net.raw) setup_in setup_in result }
+        (choice_step (names_in names.now) net.raw) setup_in result }
 {
     match load_signature(alloc, shelf, names.signature, &net) {
         Ok(choice) => load_runs(alloc, shelf, names, net, choice),
@@ -155,7 +152,7 @@ pub fn load_setup<S: Shelf>(
     names: &FileNames<'_>,
 ) -> Result<Setup, WalkStop>
     ensures { WalksDiagnosed CheckSays NoteSays S.held S.faults S.leads shelf.old shelf.new
-        (setup_of (names_in names.now)) (setup_looked (names_in names.now)) setup_in setup_in result }
+        (setup_of (names_in names.now)) setup_in result }
 {
     match load_netlist(alloc, shelf, names.netlist) {
         Ok(net) => load_choice(alloc, shelf, names, net),
@@ -172,7 +169,7 @@ pub fn load_moment_files<S: Shelf>(
     cycle: u64,
 ) -> Result<MomentFiles, WalkStop>
     ensures { WalksDiagnosed CheckSays NoteSays S.held S.faults S.leads shelf.old shelf.new
-        (moment_files_of (names_in names.now) run cycle) (moment_files_looked (names_in names.now) run cycle) moment_files_in moment_files_in result }
+        (moment_files_of (names_in names.now) run cycle) moment_files_in result }
 {
     let setup = load_setup(alloc, shelf, names)?;
     match settle_diagnostic(
@@ -195,7 +192,7 @@ fn load_crash<S: Shelf>(
     name: &str,
 ) -> Result<CrashFiles, WalkStop>
     ensures { WalksDiagnosed CheckSays NoteSays S.held S.faults S.leads shelf.old shelf.new
-        (crash_step (setup_in setup) name.now) (crash_looked (setup_in setup) name.now) crash_files_in crash_files_in result }
+        (crash_step (setup_in setup) name.now) crash_files_in result }
 {
     match load_dump(alloc, shelf, name, &setup) {
         Ok(dump) => Ok(CrashFiles { setup, dump }),
@@ -214,7 +211,7 @@ pub fn load_crash_files<S: Shelf>(
     dump: &str,
 ) -> Result<CrashFiles, WalkStop>
     ensures { WalksDiagnosed CheckSays NoteSays S.held S.faults S.leads shelf.old shelf.new
-        (crash_files_of (names_in names.now) dump.now) (crash_files_looked (names_in names.now) dump.now) crash_files_in crash_files_in result }
+        (crash_files_of (names_in names.now) dump.now) crash_files_in result }
 {
     match load_setup(alloc, shelf, names) {
         Ok(setup) => load_crash(alloc, shelf, setup, dump),
@@ -230,7 +227,7 @@ fn load_claim<S: Shelf>(
     name: &str,
 ) -> Result<AuditFiles, WalkStop>
     ensures { WalksDiagnosed CheckSays NoteSays S.held S.faults S.leads shelf.old shelf.new
-        (claim_step (crash_files_in crash_files) name.now) (claim_looked (crash_files_in crash_files) name.now) audit_files_in audit_files_in result }
+        (claim_step (crash_files_in crash_files) name.now) audit_files_in result }
 {
     match load_report(alloc, shelf, name) {
         Ok(report) => Ok(AuditFiles {
@@ -253,7 +250,7 @@ pub fn load_audit_files<S: Shelf>(
     report: &str,
 ) -> Result<AuditFiles, WalkStop>
     ensures { WalksDiagnosed CheckSays NoteSays S.held S.faults S.leads shelf.old shelf.new
-        (audit_files_of (names_in names.now) dump.now report.now) (audit_files_looked (names_in names.now) dump.now report.now) audit_files_in audit_files_in result }
+        (audit_files_of (names_in names.now) dump.now report.now) audit_files_in result }
 {
     match load_crash_files(alloc, shelf, names, dump) {
         Ok(crash_files) => load_claim(alloc, shelf, crash_files, report),
@@ -270,7 +267,7 @@ pub fn load_drawn<S: Shelf>(
     report: &str,
 ) -> Result<AuditFiles, WalkStop>
     ensures { WalksDiagnosed CheckSays NoteSays S.held S.faults S.leads shelf.old shelf.new
-        (drawn_of (names_in names.now) dump.now report.now) (drawn_looked (names_in names.now) dump.now report.now) audit_files_in audit_files_in result }
+        (drawn_of (names_in names.now) dump.now report.now) audit_files_in result }
 {
     let audit_files = load_audit_files(alloc, shelf, names, dump, report)?;
     let size = size_or_diagnostic(

@@ -12,13 +12,13 @@ use crate::single::read_single;
 use bs_bits::List;
 use bs_flat_meaning::FlatFault;
 use bs_flat_modules::module_ids;
+use bs_lex::{LexFault, Lexeme, NameTable, lexemes};
 use bs_net::Raw;
-use bs_verilog_lexemes::{LexFault, Lexeme, Table, lexemes};
 use bs_verilog_syntax::VerilogFault;
 use std::alloc::Global;
 
 /// What the lexemes of a text are answered with: as one module where there are fewer than two, cells aside.
-fn read_lexemes(alloc: Global, table: &Table, ts: List<Lexeme>) -> Result<Raw, FlatFault>
+fn read_lexemes(alloc: Global, table: &NameTable, ts: List<Lexeme>) -> Result<Raw, FlatFault>
     requires { AreOfText table.now ts }
     ensures { spec.IsLexed table.now ts result }
 {

@@ -12,7 +12,7 @@ ghost use Rattle.bs_scan.specs.declared.fault.ChoiceFault.TheVariants.{NoMemory 
 ghost use Rattle.bs_scan.specs.declared.fault.DumpFault.TheVariants.{NoMemory as DumpWant};
 ghost use Rattle.bs_stim.specs.declared.fault.StimFault.TheVariants.{NoMemory as StimWant};
 ghost use Rattle.bs_report.specs.declared.fault.ReportFault.TheVariants.{NoMemory as ReportWant};
-ghost use Rattle.bs_outside.specs.declared.walk.Refusal.TheVariants.{NoMemory as Want};
+ghost use Rattle.bs_outside.specs.declared.file_fetch.Refusal.TheVariants.{NoMemory as Want};
 ghost use Rattle.bs_top_files.specs.Refusals.{HasCheckWords, HasWords, check_words, count_word, dump_words, flat_words, gate_piece, key_of, name_piece, netlist_text_words};
 ghost use Rattle.bs_top_files.specs.Refusals.{partial_words, range_words, report_words, signature_words, stimulus_words, too_large_words, too_many_words, unsupported_words};
 

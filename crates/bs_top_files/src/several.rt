@@ -20,8 +20,8 @@ use bs_flat_elaborate::elaborate;
 use bs_flat_meaning::{FlatFault, Ranked, expect_one_top};
 use bs_flat_modules::{Modules, read_modules};
 use bs_flat_nets::FlatModule;
+use bs_lex::{Lexeme, NameTable};
 use bs_net::Raw;
-use bs_verilog_lexemes::{Lexeme, Table};
 use std::alloc::Global;
 
 /// The first of the modules that none instances; 0 where there is none.
@@ -54,7 +54,7 @@ fn flat(alloc: Global, blocks: List<FlatModule>, ranked: Ranked) -> Result<Raw, 
 /// The flat netlist of modules without a ring, of which one at most is a top. `ids` has the number of each module's name.
 fn flatten(
     alloc: Global,
-    table: &Table,
+    table: &NameTable,
     ids: &[Option<u32>],
     modules: Modules,
     ranked: Ranked,
@@ -75,7 +75,7 @@ fn flatten(
 /// What modules are answered with that were read. `ids` has the number of each module's name.
 fn answer(
     alloc: Global,
-    table: &Table,
+    table: &NameTable,
     ids: &[Option<u32>],
     modules: Modules,
 ) -> Result<Raw, FlatFault>
@@ -93,7 +93,7 @@ fn answer(
 }
 
 /// The modules of a text, all of which are whole by the law. The lexemes are let go.
-fn modules(alloc: Global, table: &Table, ts: List<Lexeme>) -> Result<Modules, FlatFault>
+fn modules(alloc: Global, table: &NameTable, ts: List<Lexeme>) -> Result<Modules, FlatFault>
     requires { spec.AreOfText table.now ts }
     ensures read { Answers want read_modules_of result (reading.read_modules table.now ts) }
     ensures whole { IfOk result (λ m. All (reading.IsRead table.now) (read_modules_of m)) }
@@ -106,7 +106,7 @@ fn modules(alloc: Global, table: &Table, ts: List<Lexeme>) -> Result<Modules, Fl
 /// What the lexemes of several modules are answered with. `ids` has the number of each module's name.
 pub fn read_several(
     alloc: Global,
-    table: &Table,
+    table: &NameTable,
     ts: List<Lexeme>,
     ids: &[Option<u32>],
 ) -> Result<Raw, FlatFault>

@@ -10,9 +10,9 @@ ghost use Rattle.bs_top_files.specs.Modules as spec;
 
 use bs_bits::List;
 use bs_flat_meaning::FlatFault;
+use bs_lex::{Lexeme, NameTable};
 use bs_net::Raw;
 use bs_verilog::meaning;
-use bs_verilog_lexemes::{Lexeme, Table};
 use bs_verilog_syntax::{Module, VerilogFault, syntax};
 use std::alloc::Global;
 
@@ -25,7 +25,7 @@ fn says(alloc: Global, ts: List<Lexeme>) -> Result<Module, VerilogFault>
 }
 
 /// The netlist of what one module says, which is let go.
-fn meant(alloc: Global, table: &Table, says: Module) -> Result<Raw, VerilogFault>
+fn meant(alloc: Global, table: &NameTable, says: Module) -> Result<Raw, VerilogFault>
     ensures { Answers out_of_memory parts_of result (meaning_of table.now says) }
 {
     let raw = meaning(alloc, table, &says);
@@ -34,7 +34,7 @@ fn meant(alloc: Global, table: &Table, says: Module) -> Result<Raw, VerilogFault
 }
 
 /// The netlist of the lexemes of one module.
-fn single(alloc: Global, table: &Table, ts: List<Lexeme>) -> Result<Raw, VerilogFault>
+fn single(alloc: Global, table: &NameTable, ts: List<Lexeme>) -> Result<Raw, VerilogFault>
     ensures { Answers out_of_memory parts_of result (spec.single_of table.now ts) }
 {
     let says = says(alloc, ts)?;
@@ -43,7 +43,7 @@ fn single(alloc: Global, table: &Table, ts: List<Lexeme>) -> Result<Raw, Verilog
 }
 
 /// The netlist of the lexemes of one module, or its first fault.
-pub fn read_single(alloc: Global, table: &Table, ts: List<Lexeme>) -> Result<Raw, FlatFault>
+pub fn read_single(alloc: Global, table: &NameTable, ts: List<Lexeme>) -> Result<Raw, FlatFault>
     ensures { Answers want parts_of result (as_verilog (spec.single_of table.now ts)) }
 {
     match single(alloc, table, ts) {

@@ -8,16 +8,14 @@ ghost use Rattle.bs_scan.specs.declared.fault.ChoiceFault.TheVariants.{NoMemory 
 ghost use Rattle.bs_scan.specs.declared.fault.DumpFault.TheVariants.{NoMemory as DumpWant};
 ghost use Rattle.bs_stim.specs.declared.fault.StimFault.TheVariants.{NoMemory as StimWant};
 ghost use Rattle.bs_outside.specs.declared.limits.TheConstants.{MAX_REPORT_BYTES, MAX_SIGNATURE_BYTES, MAX_STIMULUS_BYTES};
-ghost use Rattle.bs_outside.specs.declared.walk.Refusal.TheVariants.{NoMemory as Want};
+ghost use Rattle.bs_outside.specs.declared.file_fetch.Refusal.TheVariants.{NoMemory as Want};
 ghost use Rattle.bs_outside.specs.Plan.{Says};
 ghost use Rattle.bs_outside.specs.Diagnostic.{note_refusal, noted, word_refusal, worded};
 ghost use Rattle.bs_outside.specs.Walks.{Reads};
+ghost use Rattle.bs_top_files.specs.Causes.{CheckSays, HasNote, NoteSays, dump_reason, report_reason, signature_reason, stimulus_reason};
 ghost use Rattle.bs_top_files.specs.Entry.{input_width};
-ghost use Rattle.bs_top_files.specs.NoteCases.{HasNote, NoteSays};
-ghost use Rattle.bs_top_files.specs.Noting.{dump_note_reason, dump_noted, report_note_reason, report_noted, signature_note_reason, signature_noted};
-ghost use Rattle.bs_top_files.specs.Noting.{stimulus_note_reason, stimulus_noted, widths_of};
-ghost use Rattle.bs_top_files.specs.Readings.{dump_in, report_read, signature_in, stimulus_in};
-ghost use Rattle.bs_top_files.specs.Refusals.{CheckSays, dump_words, HasWords, report_words, signature_words, stimulus_words};
+ghost use Rattle.bs_top_files.specs.Readings.{dump_in, report_read, signature_in, stimulus_in, widths_of};
+ghost use Rattle.bs_top_files.specs.Refusals.{HasWords, dump_words, report_words, signature_words, stimulus_words};
 
 use crate::readings::read_choice;
 use crate::refusals::{dump_refusal, report_refusal, signature_refusal, stimulus_refusal};
@@ -43,7 +41,7 @@ fn signature_said(
     net: &Netlist,
     fault: ChoiceFault,
 ) -> Result<Vec<u8>, NoMemory>
-    ensures { IfOk result (λ note. Says NoteSays (signature_note_reason net.now.raw path.now text.now fault) note.items) }
+    ensures { IfOk result (λ note. Says NoteSays (signature_reason net.now.raw path.now text.now fault) note.items) }
 {
     match mistaken(File::Signature, text) {
         Some(kind) => mistaken_note(alloc, File::Signature, kind, path),
@@ -62,7 +60,7 @@ fn signature_diagnostic(
 ) -> Unread
     ensures words { HasWords (signature_words fault) (word_refusal result) }
     ensures want { fault ≡ ChoiceWant → word_refusal result ≡ Want }
-    ensures note { HasNote (signature_note_reason net.now.raw path.now text.now fault) (note_refusal result) }
+    ensures note { HasNote (signature_reason net.now.raw path.now text.now fault) (note_refusal result) }
     ensures none { fault ≡ ChoiceWant → note_refusal result ≡ Want }
 {
     let words = signature_refusal(alloc, fault);
@@ -78,8 +76,8 @@ pub fn signature_or_diagnostic(
     net: &Netlist,
 ) -> Result<Choice, Unread>
     requires { length text.now ≤ MAX_SIGNATURE_BYTES }
-    ensures words { Reads CheckSays (λ choice. choice) (signature_in net.now.raw text.now) (worded result) }
-    ensures note { Reads NoteSays (λ choice. choice) (signature_noted net.now.raw path.now text.now) (noted result) }
+    ensures words { Reads CheckSays (λ choice. choice) (signature_in net.now.raw path.now text.now) (worded result) }
+    ensures note { Reads NoteSays (λ choice. choice) (signature_in net.now.raw path.now text.now) (noted result) }
     ensures width { IfOk result (λ choice. choice.width ≡ length (circuit net.now).flops) }
 {
     match read_choice(alloc, text, net) {
@@ -99,7 +97,7 @@ fn stimulus_said(
     width: usize,
     fault: StimFault,
 ) -> Result<Vec<u8>, NoMemory>
-    ensures { IfOk result (λ note. Says NoteSays (stimulus_note_reason width path.now text.now fault) note.items) }
+    ensures { IfOk result (λ note. Says NoteSays (stimulus_reason width path.now text.now fault) note.items) }
 {
     match mistaken(File::Stimulus, text) {
         Some(kind) => mistaken_note(alloc, File::Stimulus, kind, path),
@@ -118,7 +116,7 @@ fn stimulus_diagnostic(
 ) -> Unread
     ensures words { HasWords (stimulus_words fault) (word_refusal result) }
     ensures want { fault ≡ StimWant → word_refusal result ≡ Want }
-    ensures note { HasNote (stimulus_note_reason width path.now text.now fault) (note_refusal result) }
+    ensures note { HasNote (stimulus_reason width path.now text.now fault) (note_refusal result) }
     ensures none { fault ≡ StimWant → note_refusal result ≡ Want }
 {
     let words = stimulus_refusal(alloc, fault);
@@ -134,8 +132,8 @@ pub fn stimulus_or_diagnostic(
     net: &Netlist,
 ) -> Result<Runs, Unread>
     requires { length text.now ≤ MAX_STIMULUS_BYTES }
-    ensures words { Reads CheckSays (λ runs. runs) (stimulus_in (input_width net.now.raw) text.now) (worded result) }
-    ensures note { Reads NoteSays (λ runs. runs) (stimulus_noted (input_width net.now.raw) path.now text.now) (noted result) }
+    ensures words { Reads CheckSays (λ runs. runs) (stimulus_in (input_width net.now.raw) path.now text.now) (worded result) }
+    ensures note { Reads NoteSays (λ runs. runs) (stimulus_in (input_width net.now.raw) path.now text.now) (noted result) }
     ensures width { IfOk result (λ runs. runs.width ≡ length (circuit net.now).inputs) }
 {
     let width = net.data_inputs().len();
@@ -167,7 +165,7 @@ fn dump_said(
     widths: Widths,
     fault: DumpFault,
 ) -> Result<Vec<u8>, NoMemory>
-    ensures { IfOk result (λ note. Says NoteSays (dump_note_reason widths path.now text.now fault) note.items) }
+    ensures { IfOk result (λ note. Says NoteSays (dump_reason widths path.now text.now fault) note.items) }
 {
     match mistaken(File::Dump, text) {
         Some(kind) => mistaken_note(alloc, File::Dump, kind, path),
@@ -186,7 +184,7 @@ fn dump_diagnostic(
 ) -> Unread
     ensures words { HasWords (dump_words fault) (word_refusal result) }
     ensures want { fault ≡ DumpWant → word_refusal result ≡ Want }
-    ensures note { HasNote (dump_note_reason widths path.now text.now fault) (note_refusal result) }
+    ensures note { HasNote (dump_reason widths path.now text.now fault) (note_refusal result) }
     ensures none { fault ≡ DumpWant → note_refusal result ≡ Want }
 {
     let words = dump_refusal(alloc, fault);
@@ -202,8 +200,8 @@ pub fn dump_or_diagnostic(
     net: &Netlist,
     choice: &Choice,
 ) -> Result<Dump, Unread>
-    ensures words { Reads CheckSays (λ dump. dump) (dump_in net.now.raw choice.now text.now) (worded result) }
-    ensures note { Reads NoteSays (λ dump. dump) (dump_noted net.now.raw choice.now path.now text.now) (noted result) }
+    ensures words { Reads CheckSays (λ dump. dump) (dump_in net.now.raw choice.now path.now text.now) (worded result) }
+    ensures note { Reads NoteSays (λ dump. dump) (dump_in net.now.raw choice.now path.now text.now) (noted result) }
     ensures fits { IfOk result (λ dump. DumpFits (circuit net.now) choice.now dump) }
 {
     let widths = widths_of(net, choice);
@@ -223,7 +221,7 @@ fn report_said(
     text: &[u8],
     fault: ReportFault,
 ) -> Result<Vec<u8>, NoMemory>
-    ensures { IfOk result (λ note. Says NoteSays (report_note_reason path.now text.now fault) note.items) }
+    ensures { IfOk result (λ note. Says NoteSays (report_reason path.now text.now fault) note.items) }
 {
     match mistaken(File::Report, text) {
         Some(kind) => mistaken_note(alloc, File::Report, kind, path),
@@ -236,7 +234,7 @@ fn report_said(
 fn report_diagnostic(alloc: Global, path: &str, text: &[u8], fault: ReportFault) -> Unread
     ensures words { HasWords (report_words fault) (word_refusal result) }
     ensures want { fault ≡ ReportWant → word_refusal result ≡ Want }
-    ensures note { HasNote (report_note_reason path.now text.now fault) (note_refusal result) }
+    ensures note { HasNote (report_reason path.now text.now fault) (note_refusal result) }
     ensures none { fault ≡ ReportWant → note_refusal result ≡ Want }
 {
     let words = report_refusal(alloc, fault);
@@ -247,8 +245,8 @@ fn report_diagnostic(alloc: Global, path: &str, text: &[u8], fault: ReportFault)
 /// A report, or the diagnostic of its text.
 pub fn report_or_diagnostic(alloc: Global, path: &str, text: &[u8]) -> Result<Report, Unread>
     requires { length text.now ≤ MAX_REPORT_BYTES }
-    ensures words { Reads CheckSays (λ report. report) (report_read text.now) (worded result) }
-    ensures note { Reads NoteSays (λ report. report) (report_noted path.now text.now) (noted result) }
+    ensures words { Reads CheckSays (λ report. report) (report_read path.now text.now) (worded result) }
+    ensures note { Reads NoteSays (λ report. report) (report_read path.now text.now) (noted result) }
     ensures steps { IfOk result (λ report. report.budgets.steps ≤ MAX_STEPS) }
     ensures more { IfOk result (λ report. length report.states ≡ length report.inputs + 1) }
 {

@@ -1,6 +1,2 @@
 pub mod Target
 pub mod Shown
-pub mod Words
-pub mod Readings
-pub mod Entry
-pub mod Searched

@@ -1,10 +1,9 @@
 //! The walk of a search: the netlist, then its state, then its size. A refusal has its line and its note.
 ghost use Rattle.std.specs.Prelude.{◌≡◌, length};
 ghost use Rattle.bs_net.specs.Netlist.{circuit};
-ghost use Rattle.bs_top_files.specs.Refusals.{CheckSays};
-ghost use Rattle.bs_top_files.specs.NoteCases.{NoteSays};
+ghost use Rattle.bs_top_files.specs.Causes.{CheckSays, NoteSays};
 ghost use Rattle.bs_outside.specs.Telling.{WalksDiagnosed};
-ghost use Rattle.bs_top_reach.specs.Target.{sized_looked, sized_step, stated_looked, stated_step, target_looked, target_of};
+ghost use Rattle.bs_top_reach.specs.Target.{sized_step, stated_step, target_of};
 ghost use Rattle.bs_top_reach.specs.Shown.{target_in};
 
 use crate::readings::{room_or_diagnostic, state_or_diagnostic};
@@ -28,7 +27,7 @@ fn load_sized<S: Shelf>(
 ) -> Result<Target, WalkStop>
     requires { length state.bits ≡ length (circuit net).flops }
     ensures { WalksDiagnosed CheckSays NoteSays S.held S.faults S.leads _shelf.old _shelf.new
-        (sized_step net.raw state cycles) (sized_looked net.raw state cycles) target_in target_in result }
+        (sized_step net.raw state cycles) target_in result }
 {
     match settle_diagnostic(File::Netlist, room_or_diagnostic(alloc, &net, cycles)) {
         Ok(()) => Ok(Target { net, state, cycles }),
@@ -49,7 +48,7 @@ fn load_stated<S: Shelf>(
     cycles: u64,
 ) -> Result<Target, WalkStop>
     ensures { WalksDiagnosed CheckSays NoteSays S.held S.faults S.leads shelf.old shelf.new
-        (stated_step net.raw state.now cycles) (stated_looked net.raw state.now cycles) target_in target_in result }
+        (stated_step net.raw state.now cycles) target_in result }
 {
     match settle_diagnostic(File::State, state_or_diagnostic(alloc, state, &net)) {
         Ok(state) => load_sized(alloc, shelf, net, state, cycles),
@@ -69,7 +68,7 @@ pub fn load_target<S: Shelf>(
     cycles: u64,
 ) -> Result<Target, WalkStop>
     ensures { WalksDiagnosed CheckSays NoteSays S.held S.faults S.leads shelf.old shelf.new
-        (target_of netlist.now state.now cycles) (target_looked netlist.now state.now cycles) target_in target_in result }
+        (target_of netlist.now state.now cycles) target_in result }
 {
     match load_netlist(alloc, shelf, netlist) {
         Ok(net) => load_stated(alloc, shelf, net, state, cycles),

@@ -6,7 +6,7 @@ ghost use Rattle.bs_top_words.specs.Flags.{flag_of, has_value, is_flag, is_kind,
 use crate::options::{BudgetKind, rest_of};
 
 /// An option.
-#[derive(Clone, Copy, Debug, PartialEq, Eq)]
+#[derive(Clone, Copy)]
 pub enum Flag {
     /// A budget.
     Budget(BudgetKind),

@@ -10,7 +10,7 @@ use crate::options::{has_dash, is_option};
 use std::alloc::{AllocError, Global};
 
 /// What the next word may be.
-#[derive(Clone, Copy, Debug, PartialEq, Eq)]
+#[derive(Clone, Copy)]
 pub enum Awaited {
     /// A word by position, or an option.
     Plain,

@@ -7,7 +7,7 @@ use crate::limits::{MAX_CANDIDATES, MAX_CONFLICTS, MAX_STEPS};
 use bs_bits::read_number;
 
 /// A budget of a run or of a search.
-#[derive(Clone, Copy, Debug, PartialEq, Eq)]
+#[derive(Clone, Copy)]
 pub enum BudgetKind {
     Steps,
     Candidates,

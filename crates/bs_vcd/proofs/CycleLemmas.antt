@@ -15,9 +15,9 @@ use Rattle.bs_vcd_header.specs.Header.{HeaderDeclarations, header_of}
 use Rattle.bs_vcd_header.specs.Sources.{input_at, inputs_from, or_fault, scope_of, source_in}
 use Rattle.bs_vcd_header.specs.Tokens.{tokens_from}
 use Rattle.bs_vcd.specs.declared.cycles.When.{When}
-use Rattle.bs_vcd.specs.declared.sampling.SampledLines.{SampledLines}
-use Rattle.bs_vcd.specs.declared.sampling.Unknowns.{Unknowns}
-use Rattle.bs_vcd.specs.declared.sampling.Unknowns.TheVariants.{Refused, Low, Marked}
+use Rattle.bs_vcd.specs.declared.clock_edges.SampledLines.{SampledLines}
+use Rattle.bs_vcd.specs.declared.clock_edges.Unknowns.{Unknowns}
+use Rattle.bs_vcd.specs.declared.clock_edges.Unknowns.TheVariants.{Refused, Low, Marked}
 use Rattle.bs_vcd.specs.History.{History, history_of}
 use Rattle.bs_vcd.specs.Levels.{Known, is_bit, is_unknown, known_by, level}
 use Rattle.bs_vcd.specs.Sampled.{SamplingRequest, Cut, asked_line, is_within, line_by, line_or, lines_asked, numbered_lines, stops_of, timed_lines, unknowns_of, or_fault as or_end}

@@ -8,7 +8,7 @@ use Rattle.bs_vcd_header.specs.declared.fault.VcdFault.{VcdFault}
 use Rattle.bs_vcd_header.specs.declared.fault.VcdFault.TheVariants.{Line, NoMemory}
 use Rattle.bs_vcd_header.specs.declared.sources.BitSource.{BitSource}
 use Rattle.bs_vcd_header.specs.Tokens.{VcdToken}
-use Rattle.bs_vcd.specs.declared.sampling.SampledLines.{SampledLines}
+use Rattle.bs_vcd.specs.declared.clock_edges.SampledLines.{SampledLines}
 use Rattle.bs_vcd.specs.History.{ValueChange, Moment, History, WordPlace, Plain, Value, Skip, Remark, WordEffect, Goes, Changes, Begins, Stops, begin_of, last_of, step, stepped, history_from, history_of, before, stopped, moment, time_if}
 use Rattle.bs_vcd.specs.Levels.{Known, known_by}
 use Rattle.bs_vcd.specs.Sampled.{SamplingRequest, Cut, all_edges, all_ok, asked_line, cuts_from, is_edge, is_stop, is_until, line_at, line_by, lines_asked, numbered_lines, or_fault, rises, sampled, stops_of, tail_of, timed_lines, unknowns_of, wanted}

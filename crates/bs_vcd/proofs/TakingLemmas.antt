@@ -9,7 +9,7 @@ use Rattle.bs_vcd_header.specs.declared.fault.VcdFault.TheVariants.{NoMemory}
 use Rattle.bs_vcd.specs.Sampled.{SamplingRequest}
 use Rattle.bs_vcd_header.specs.Tokens.{VcdToken}
 use Rattle.bs_vcd.specs.declared.changes.ValueChange.{ValueChange as CodeValueChange}
-use Rattle.bs_vcd.specs.declared.sampling.SampledLines.{SampledLines}
+use Rattle.bs_vcd.specs.declared.clock_edges.SampledLines.{SampledLines}
 use Rattle.bs_vcd.specs.History.{ValueChange, WordPlace, step, change_in}
 use Rattle.bs_vcd.specs.Levels.{Known}
 use Rattle.bs_vcd.specs.Watching.{SamplingState, known_after, closed, moved, took, finished, watched_from, with_change, with_times}

@@ -10,10 +10,10 @@ use Rattle.bs_vcd_header.specs.Header.{Header, HeaderDeclarations, HeaderState, 
 use Rattle.bs_vcd_header.specs.Tokens.{VcdToken, tokens_from}
 use Rattle.bs_vcd.specs.declared.cycles.When.{When}
 use Rattle.bs_vcd.specs.declared.cycles.When.TheVariants.{Time, Cycle}
-use Rattle.bs_vcd.specs.declared.sampling.LineSpan.{LineSpan}
-use Rattle.bs_vcd.specs.declared.sampling.SampledLines.{SampledLines}
-use Rattle.bs_vcd.specs.declared.sampling.Unknowns.{Unknowns}
-use Rattle.bs_vcd.specs.declared.sampling.Unknowns.TheVariants.{Refused, Low, Marked}
+use Rattle.bs_vcd.specs.declared.clock_edges.LineSpan.{LineSpan}
+use Rattle.bs_vcd.specs.declared.clock_edges.SampledLines.{SampledLines}
+use Rattle.bs_vcd.specs.declared.clock_edges.Unknowns.{Unknowns}
+use Rattle.bs_vcd.specs.declared.clock_edges.Unknowns.TheVariants.{Refused, Low, Marked}
 use Rattle.bs_vcd.specs.declared.cycles.MarkedStates.{MarkedStates}
 use Rattle.bs_vcd.specs.History.{History, history_of}
 use Rattle.bs_vcd.specs.Sampled.{SamplingRequest, lines_asked}

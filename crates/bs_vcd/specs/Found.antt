@@ -1,5 +1,5 @@
 -- The bits of names of which a VCD may lack some (docs/FORMATS.md, "Value changes (VCD)").
-use Rattle.std.specs.Prelude.{ℕ, nat_lt, not, ◌&&◌, Bool, List, length, map, is_some, Option, Some, None, Result, Ok, Err, if◌then◌else◌}
+use Rattle.std.specs.Prelude.{◌≡◌, ◌<◌, ℕ, nat_lt, not, ◌&&◌, Bool, List, length, map, is_some, Option, Some, None, Result, Ok, Err, if◌then◌else◌}
 use Rattle.std.specs.List.{count_by, list_any}
 use Rattle.bs_bits.specs.Reading.{◌>>=◌}
 use Rattle.bs_net_names.specs.Keys.{key_parts}
@@ -8,6 +8,7 @@ use Rattle.bs_vcd_header.specs.declared.fault.VcdFault.TheVariants.{NoInput}
 use Rattle.bs_vcd_header.specs.declared.sources.BitSource.{BitSource}
 use Rattle.bs_vcd_header.specs.Header.{HeaderDeclarations}
 use Rattle.bs_vcd_header.specs.Sources.{source_in}
+use Rattle.bs_vcd_header.specs.Words.{id_in}
 
 -- for each of these names the bit of the first variable that has it in the scope with a path, if there is one
 abbrev pub sources_of : HeaderDeclarations → List ℕ → List (List ℕ) → List (Option BitSource)
@@ -38,6 +39,10 @@ nowhere = record { id = 0; place = 0 }
 abbrev pub or_nowhere : Option BitSource → BitSource
 or_nowhere None = nowhere
 or_nowhere (Some source) = source
+
+-- no identifier code is that of no variable
+pub record CodesAreSomewhere : Type 0 where
+  pub is : (text : List ℕ) (id : ℕ) → id_in text ≡ Some id → nowhere.id < id
 
 -- the bits of these names, of which at least one is found; that of no variable for each other one
 abbrev pub found_inputs : HeaderDeclarations → (path : List ℕ) → List (List ℕ) → Result (List BitSource) VcdFault

@@ -5,11 +5,11 @@ use Rattle.bs_bits.specs.Reading.{◌>>=◌}
 use Rattle.bs_vcd_header.specs.declared.fault.VcdFault.{VcdFault}
 use Rattle.bs_vcd_header.specs.declared.fault.VcdFault.TheVariants.{Unknown}
 use Rattle.bs_vcd_header.specs.declared.sources.BitSource.{BitSource}
-use Rattle.bs_vcd.specs.declared.sampling.LineSpan.{LineSpan}
-use Rattle.bs_vcd.specs.declared.sampling.SampledLines.{SampledLines}
-use Rattle.bs_vcd.specs.declared.sampling.Unknowns.{Unknowns}
-use Rattle.bs_vcd.specs.declared.sampling.Unknowns.TheVariants.{Refused, Low, Marked}
-use Rattle.bs_vcd.specs.declared.sampling.SamplingRequest.{SamplingRequest as CodeSamplingRequest}
+use Rattle.bs_vcd.specs.declared.clock_edges.LineSpan.{LineSpan}
+use Rattle.bs_vcd.specs.declared.clock_edges.SampledLines.{SampledLines}
+use Rattle.bs_vcd.specs.declared.clock_edges.Unknowns.{Unknowns}
+use Rattle.bs_vcd.specs.declared.clock_edges.Unknowns.TheVariants.{Refused, Low, Marked}
+use Rattle.bs_vcd.specs.declared.clock_edges.SamplingRequest.{SamplingRequest as CodeSamplingRequest}
 use Rattle.bs_vcd.specs.History.{ValueChange, Moment, History, begin_of, last_of}
 use Rattle.bs_vcd.specs.Levels.{Known, known_by, level, is_bit, is_given, is_unknown}
 

@@ -8,8 +8,8 @@ use Rattle.bs_vcd_header.specs.declared.sources.BitSource.{BitSource}
 use Rattle.bs_vcd_header.specs.Header.{HeaderDeclarations, Header, HeaderState, header_of, header_from}
 use Rattle.bs_vcd_header.specs.Sources.{inputs_from, or_fault, scope_of, source_in}
 use Rattle.bs_vcd_header.specs.Tokens.{VcdToken, tokens_from}
-use Rattle.bs_vcd.specs.declared.edges.ClockAndInputs.{ClockAndInputs as CodeClockAndInputs}
-use Rattle.bs_vcd.specs.declared.sampling.SampledLines.{SampledLines}
+use Rattle.bs_vcd.specs.declared.stimulus_run.ClockAndInputs.{ClockAndInputs as CodeClockAndInputs}
+use Rattle.bs_vcd.specs.declared.clock_edges.SampledLines.{SampledLines}
 use Rattle.bs_vcd.specs.Found.{found_inputs, lacking, sources_of}
 use Rattle.bs_vcd.specs.History.{history_of}
 use Rattle.bs_vcd.specs.Sampled.{sampled}

@@ -4,8 +4,8 @@ use Rattle.std.specs.Option.{option_or}
 use Rattle.bs_bits.specs.Reading.{◌>>=◌}
 use Rattle.bs_vcd_header.specs.declared.fault.VcdFault.{VcdFault}
 use Rattle.bs_vcd_header.specs.declared.fault.VcdFault.TheVariants.{Line, Ended, DumpOff}
-use Rattle.bs_vcd.specs.declared.sampling.SampledLines.{SampledLines}
-use Rattle.bs_vcd.specs.declared.sampling.SamplingState.{SamplingState as CodeSamplingState}
+use Rattle.bs_vcd.specs.declared.clock_edges.SampledLines.{SampledLines}
+use Rattle.bs_vcd.specs.declared.clock_edges.SamplingState.{SamplingState as CodeSamplingState}
 use Rattle.bs_vcd_header.specs.Tokens.{VcdToken}
 use Rattle.bs_vcd.specs.History.{ValueChange, WordPlace, Plain, Value, Skip, Remark, WordEffect, Goes, Changes, Begins, Stops, change_in, step}
 use Rattle.bs_vcd.specs.Levels.{Known, latest, known_in}

@@ -9,8 +9,8 @@ ghost use Rattle.bs_vcd.specs.History.{history_of};
 ghost use Rattle.bs_vcd.specs.Sampled.{lines_asked};
 ghost use Rattle.bs_vcd.specs.Stimulus.{sampling_in};
 
-use crate::edges::{ClockAndInputs, found_sampling, lacks_of, sampling_of};
-use crate::sampling::{LineSpan, SampledLines, SamplingRequest, Unknowns, watch_lines};
+use crate::clock_edges::{LineSpan, SampledLines, SamplingRequest, Unknowns, watch_lines};
+use crate::stimulus_run::{ClockAndInputs, found_sampling, lacks_of, sampling_of};
 use bs_bits::{Bits, List, NoMemory};
 use bs_vcd_header::{
     Behind, BitSource, HeaderDeclarations, HeaderState, VcdFault, nothing, take_words,

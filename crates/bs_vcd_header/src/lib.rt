@@ -25,5 +25,6 @@ pub use index::{TagIndex, index_of, source_by};
 pub use inputs::take_inputs;
 pub use scopes::{declared, names_of, scopes_of};
 pub use sources::{BitSource, scope_of, source_in};
+pub use tags::tag_of;
 pub use token::{VcdToken, next_token};
 pub use words::{Said, id_in, is_text, said_of};

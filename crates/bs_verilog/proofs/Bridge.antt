@@ -13,15 +13,15 @@ use Rattle.bs_lex.specs.Bytes.{◌∈◌, is_digit}
 use Rattle.bs_lex.specs.declared.token.Token.{Token}
 use Rattle.bs_lex.specs.declared.token.TokenKind.{TokenKind}
 use Rattle.bs_lex.specs.declared.token.TokenKind.TheVariants as kinds
-use Rattle.bs_verilog_lexemes.specs.declared.lexeme.Sort.{Sort}
-use Rattle.bs_verilog_lexemes.specs.declared.lexeme.Sort.TheVariants as sorts
-use Rattle.bs_verilog_lexemes.specs.declared.lexeme.Word as code
-use Rattle.bs_verilog_lexemes.specs.declared.lexeme.Cell.{Cell}
-use Rattle.bs_verilog_lexemes.specs.Lexemes
-use Rattle.bs_verilog_lexemes.specs.Lexemes.{sort_of, sort_of_name, sort_of_number, word_of, is_one_bit, spelling, token_sort, is_name, is_great, name_text}
-use Rattle.bs_verilog_lexemes.specs.Lexemes.{without_zeros, decimal_from, names_of, number_in, numbered_sort, numbered_lexeme, lexeme_of, lexemes_of, end_of}
-use Rattle.bs_verilog_lexemes.specs.Apart.{IsDigits, value}
-use Rattle.bs_verilog_lexemes.proofs.ApartLemmas.{le_or, sees, same_value, is_small, is_greater, placed, place}
+use Rattle.bs_lex.specs.declared.lexeme.Sort.{Sort}
+use Rattle.bs_lex.specs.declared.lexeme.Sort.TheVariants as sorts
+use Rattle.bs_lex.specs.declared.lexeme.Word as code
+use Rattle.bs_lex.specs.declared.lexeme.Cell.{Cell}
+use Rattle.bs_lex.specs.Lexemes
+use Rattle.bs_lex.specs.Lexemes.{sort_of, sort_of_name, sort_of_number, word_of, is_one_bit, spelling, token_sort, is_name, is_great, name_text}
+use Rattle.bs_lex.specs.Lexemes.{without_zeros, decimal_from, names_of, number_in, numbered_sort, numbered_lexeme, lexeme_of, lexemes_of, end_of}
+use Rattle.bs_lex.specs.Apart.{IsDigits, value}
+use Rattle.bs_lex.proofs.ApartLemmas.{le_or, sees, same_value, is_small, is_greater, placed, place}
 use Rattle.bs_verilog.specs.Symbols.{Symbol, Text, digits, finish, symbol_seen, symbol_of, symbols_of}
 use Rattle.bs_verilog.specs.Symbols as symbols
 use Rattle.bs_verilog.proofs.Shown.{seen_as, seen, shown}
@@ -35,7 +35,7 @@ only_digits : (kind : TokenKind) (text : List ℕ) (n : ℕ) → sort_of kind te
 unfolding sort_of
 only_digits kinds.Name text n e = by (word_of text) e
   where
-    by : (o : Option code.Word) → elim o [ Some w ↦ sorts.Word w | None ↦ sorts.Name (Rattle.bs_verilog_lexemes.specs.Lexemes.cell_of text) ] ≡ sorts.Digits n
+    by : (o : Option code.Word) → elim o [ Some w ↦ sorts.Word w | None ↦ sorts.Name (Rattle.bs_lex.specs.Lexemes.cell_of text) ] ≡ sorts.Digits n
         → (kinds.Name ≡ kinds.Number) × (list_all is_digit text ≡ true)
     by (Some w) e = absurd cc
     by None e = absurd cc
@@ -114,7 +114,7 @@ unfolding sort_of
 no_finish kinds.Name text = by (word_of text)
   where
     by : (o : Option code.Word)
-        → is_finish (symbol_seen text (elim o [ Some w ↦ sorts.Word w | None ↦ sorts.Name (Rattle.bs_verilog_lexemes.specs.Lexemes.cell_of text) ])) ≡ false
+        → is_finish (symbol_seen text (elim o [ Some w ↦ sorts.Word w | None ↦ sorts.Name (Rattle.bs_lex.specs.Lexemes.cell_of text) ])) ≡ false
     by (Some w) = refl
     by None = refl
 no_finish kinds.Number text = by (list_all is_digit text) (is_one_bit text)

@@ -1,7 +1,7 @@
 -- What each production stands for is some of the symbols before the end of the text, and then what is left.
 use Rattle.std.proofs.Common.{◌≡◌, ℕ, ◌≤◌, Bool, true, false, List, [], ◌∷◌, length, Option, refl, arith}
 use Rattle.bs_net.specs.declared.gate.Kind.{Kind}
-use Rattle.bs_verilog_lexemes.specs.declared.lexeme.Cell.{Cell}
+use Rattle.bs_lex.specs.declared.lexeme.Cell.{Cell}
 use Rattle.bs_verilog_syntax.specs.declared.tree.Direction as code
 use Rattle.bs_verilog_syntax.specs.declared.tree.Direction.TheVariants as directions
 use Rattle.bs_verilog_syntax.specs.declared.tree.Net as code_net

@@ -7,7 +7,7 @@ use Rattle.bs_verilog_syntax.specs.declared.fault.VerilogFault.{VerilogFault}
 use Rattle.bs_verilog_syntax.specs.declared.fault.VerilogFault.TheVariants.{Syntax}
 use Rattle.bs_verilog.specs.Netlist.{meaning_of, netlist_text}
 use Rattle.bs_lex.specs.declared.token.Token.{Token}
-use Rattle.bs_verilog_lexemes.specs.Lexemes.{lexemes_of, names_of}
+use Rattle.bs_lex.specs.Lexemes.{lexemes_of, names_of}
 use Rattle.bs_verilog_syntax.specs.declared.tree.Module as code
 use Rattle.bs_verilog_syntax.specs.Modules.{syntax_of}
 use Rattle.bs_verilog.specs.Symbols.{Text, symbols_of}

@@ -19,9 +19,9 @@ use Rattle.bs_net.specs.Parts.{Parts}
 use Rattle.bs_lex.specs.Bytes.{is_graphic}
 use Rattle.bs_lex.specs.Tokens.{tokens_of}
 use Rattle.bs_lex.specs.declared.token.Token.{Token}
-use Rattle.bs_verilog_lexemes.specs.declared.lexeme.Cell.{Cell}
-use Rattle.bs_verilog_lexemes.specs.declared.lexeme.Name.{Name}
-use Rattle.bs_verilog_lexemes.specs.Lexemes.{lexemes_of, names_of}
+use Rattle.bs_lex.specs.declared.lexeme.Cell.{Cell}
+use Rattle.bs_lex.specs.declared.lexeme.Name.{Name}
+use Rattle.bs_lex.specs.Lexemes.{lexemes_of, names_of}
 use Rattle.bs_verilog_syntax.specs.declared.fault.VerilogFault.{VerilogFault}
 use Rattle.bs_verilog_syntax.specs.declared.fault.VerilogFault.TheVariants.{Syntax, Terminals}
 use Rattle.bs_verilog_syntax.specs.declared.tree.Component.{Component}
@@ -40,7 +40,7 @@ use Rattle.bs_verilog_scope.specs.Keys.{bit_key, constant_key, index_at, is_plai
 use Rattle.bs_verilog_scope.specs.Nets.{net_of, numbered, with_keys}
 use Rattle.bs_verilog.specs.declared.building.Built.{Built}
 use Rattle.bs_verilog.specs.declared.placing.NetTable.{NetTable}
-use Rattle.bs_verilog.specs.declared.terminals.Pins.{Pins}
+use Rattle.bs_verilog.specs.declared.pins.Pins.{Pins}
 use Rattle.bs_verilog.specs.Terminals.{cell_pins, is_assignment, is_gate, term_of}
 use Rattle.bs_verilog.specs.Building.{connection_nets, constant_net, declared_key, each, has_key, implicit_net, is_full, named_net, term_net, with_connection}
 use Rattle.bs_verilog.specs.Building.{flop_of, gates_of, with_flop, with_gates, with_part, with_parts}

@@ -24,7 +24,7 @@ use Rattle.bs_net.proofs.CallerLemmas.{with_key-grows}
 use Rattle.bs_verilog_syntax.specs.declared.fault.VerilogFault.{VerilogFault}
 use Rattle.bs_verilog_syntax.specs.declared.fault.VerilogFault.TheVariants.{TooManyNets, Index, Terminals}
 use Rattle.bs_verilog_syntax.specs.declared.tree.Says.{Says}
-use Rattle.bs_verilog_lexemes.specs.declared.lexeme.Name.{Name}
+use Rattle.bs_lex.specs.declared.lexeme.Name.{Name}
 use Rattle.bs_verilog_syntax.specs.declared.tree.Term.{Term}
 use Rattle.bs_verilog_syntax.specs.declared.tree.Term.TheVariants.{Constant, Named}
 use Rattle.bs_verilog_syntax.specs.declared.tree.Connection.{Connection}
@@ -32,11 +32,11 @@ use Rattle.bs_verilog_syntax.specs.declared.tree.Connection.TheVariants.{Empty}
 use Rattle.bs_verilog_syntax.specs.declared.tree.Component.{Component}
 use Rattle.bs_verilog_syntax.specs.declared.tree.Shape.{Shape}
 use Rattle.bs_verilog_syntax.specs.declared.tree.Shape.TheVariants as shapes
-use Rattle.bs_verilog_lexemes.specs.declared.lexeme.Cell.{Cell}
-use Rattle.bs_verilog_lexemes.specs.declared.lexeme.Cell.TheVariants.{Dff, Dffs, Dffe, Dffr}
-use Rattle.bs_verilog.specs.declared.terminals.Control.{Control}
-use Rattle.bs_verilog.specs.declared.terminals.Control.TheVariants as controls
-use Rattle.bs_verilog.specs.declared.terminals.Pins.{Pins}
+use Rattle.bs_lex.specs.declared.lexeme.Cell.{Cell}
+use Rattle.bs_lex.specs.declared.lexeme.Cell.TheVariants.{Dff, Dffs, Dffe, Dffr}
+use Rattle.bs_verilog.specs.declared.pins.Control.{Control}
+use Rattle.bs_verilog.specs.declared.pins.Control.TheVariants as controls
+use Rattle.bs_verilog.specs.declared.pins.Pins.{Pins}
 use Rattle.bs_verilog.specs.declared.placing.NetTable.{NetTable}
 use Rattle.bs_verilog.specs.declared.building.Built.{Built}
 use Rattle.bs_bits.specs.Reading.{◌>>=◌}

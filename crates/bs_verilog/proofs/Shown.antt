@@ -4,11 +4,11 @@ use Rattle.std.proofs.Common.{ap, arith}
 use Rattle.std.specs.Prelude.{◌==◌, slice_index_or}
 use Rattle.std.proofs.lemmas.Bool.{eqb-true}
 use Rattle.std.proofs.Math.Dec.{eqb-zero-suc}
-use Rattle.bs_verilog_lexemes.specs.Packed.{Lexeme}
-use Rattle.bs_verilog_lexemes.specs.declared.lexeme.Sort.{Sort}
-use Rattle.bs_verilog_lexemes.specs.declared.lexeme.Sort.TheVariants as sorts
-use Rattle.bs_verilog_lexemes.specs.declared.lexeme.Cell.{Cell}
-use Rattle.bs_verilog_lexemes.specs.Lexemes.{is_name}
+use Rattle.bs_lex.specs.Packed.{Lexeme}
+use Rattle.bs_lex.specs.declared.lexeme.Sort.{Sort}
+use Rattle.bs_lex.specs.declared.lexeme.Sort.TheVariants as sorts
+use Rattle.bs_lex.specs.declared.lexeme.Cell.{Cell}
+use Rattle.bs_lex.specs.Lexemes.{is_name}
 use Rattle.bs_verilog_syntax.specs.declared.fault.VerilogFault.{VerilogFault}
 use Rattle.bs_verilog_syntax.specs.declared.reading.Due.{Due}
 use Rattle.bs_verilog_syntax.specs.declared.reading.Due.TheVariants as due

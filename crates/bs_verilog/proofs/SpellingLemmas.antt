@@ -19,10 +19,10 @@ use Rattle.bs_lex.specs.Bytes.{◌∈◌, is_space, is_digit, begins_name, is_of
 use Rattle.bs_lex.specs.Placing.{token_text}
 use Rattle.bs_lex.specs.Tokens.{first, comment_size, quoted_size, slash, quoted, escaped, system, directive, is_passed_over, number_size, number, mark}
 use Rattle.bs_lex.specs.Tokens.{piece_at, tokens_from, tokens_of, with_token}
-use Rattle.bs_verilog_lexemes.specs.declared.lexeme.Sort.{Sort}
-use Rattle.bs_verilog_lexemes.specs.declared.lexeme.Sort.TheVariants as sorts
-use Rattle.bs_verilog_lexemes.specs.declared.limits.TheConstants.{GREAT}
-use Rattle.bs_verilog_lexemes.specs.Lexemes.{decimal_from, is_escaped, is_great, is_name, is_one_bit, name_text, names_from, names_of, sort_of, with_name, without_zeros}
+use Rattle.bs_lex.specs.declared.lexeme.Sort.{Sort}
+use Rattle.bs_lex.specs.declared.lexeme.Sort.TheVariants as sorts
+use Rattle.bs_lex.specs.declared.number_limits.TheConstants.{GREAT}
+use Rattle.bs_lex.specs.Lexemes.{decimal_from, is_escaped, is_great, is_name, is_one_bit, name_text, names_from, names_of, sort_of, with_name, without_zeros}
 
 -- ---- bytes
 

@@ -3,10 +3,10 @@ use Rattle.std.proofs.Common.{◌≡◌, ℕ, zero, suc, ◌<◌, Bool, true, fa
 use Rattle.std.proofs.Common.{arith, subst}
 use Rattle.std.specs.Prelude.{option_map, if◌then◌else◌}
 use Rattle.bs_bits.specs.Reading.{◌>>=◌}
-use Rattle.bs_verilog_lexemes.specs.declared.lexeme.Cell.{Cell}
-use Rattle.bs_verilog_lexemes.specs.declared.lexeme.Sort.{Sort}
-use Rattle.bs_verilog_lexemes.specs.declared.lexeme.Sort.TheVariants as sorts
-use Rattle.bs_verilog_lexemes.specs.Lexemes.{is_name}
+use Rattle.bs_lex.specs.declared.lexeme.Cell.{Cell}
+use Rattle.bs_lex.specs.declared.lexeme.Sort.{Sort}
+use Rattle.bs_lex.specs.declared.lexeme.Sort.TheVariants as sorts
+use Rattle.bs_lex.specs.Lexemes.{is_name}
 use Rattle.bs_verilog_syntax.specs.declared.fault.VerilogFault.{VerilogFault}
 use Rattle.bs_verilog_syntax.specs.declared.fault.VerilogFault.TheVariants.{Syntax}
 use Rattle.bs_verilog_syntax.specs.declared.reading.Due.TheVariants as due

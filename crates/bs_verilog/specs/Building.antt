@@ -10,8 +10,8 @@ use Rattle.bs_net.specs.declared.net.Mode.TheVariants as modes
 use Rattle.bs_net.specs.declared.gate.Kind.{Kind}
 use Rattle.bs_net.specs.declared.gate.Kind.TheVariants.{Buf}
 use Rattle.bs_net.specs.Names.{with_key, number_of}
-use Rattle.bs_verilog_lexemes.specs.declared.lexeme.Cell.{Cell}
-use Rattle.bs_verilog_lexemes.specs.declared.lexeme.Name.{Name}
+use Rattle.bs_lex.specs.declared.lexeme.Cell.{Cell}
+use Rattle.bs_lex.specs.declared.lexeme.Name.{Name}
 use Rattle.bs_verilog_syntax.specs.declared.tree.Range.{Range}
 use Rattle.bs_verilog_syntax.specs.declared.tree.Says.{Says}
 use Rattle.bs_verilog_syntax.specs.declared.tree.Term.{Term}
@@ -19,9 +19,9 @@ use Rattle.bs_verilog_syntax.specs.declared.tree.Term.TheVariants.{Constant, Nam
 use Rattle.bs_verilog_syntax.specs.declared.tree.Connection.{Connection}
 use Rattle.bs_verilog_syntax.specs.declared.tree.Component.{Component}
 use Rattle.bs_verilog_syntax.specs.declared.tree.Shape.TheVariants as shapes
-use Rattle.bs_verilog.specs.declared.terminals.Control.{Control}
-use Rattle.bs_verilog.specs.declared.terminals.Control.TheVariants as controls
-use Rattle.bs_verilog.specs.declared.terminals.Pins.{Pins}
+use Rattle.bs_verilog.specs.declared.pins.Control.{Control}
+use Rattle.bs_verilog.specs.declared.pins.Control.TheVariants as controls
+use Rattle.bs_verilog.specs.declared.pins.Pins.{Pins}
 use Rattle.bs_verilog.specs.declared.placing.NetTable.{NetTable}
 use Rattle.bs_verilog.specs.declared.building.Built.{Built}
 use Rattle.bs_verilog_syntax.specs.declared.fault.What.TheVariants as what

@@ -1,7 +1,7 @@
 -- The cells: the pins of each, and the bit with which its flip-flop begins (docs/FORMATS.md, "Netlists").
 use Rattle.std.specs.Prelude.{ℕ, Bool, true, false, List, [], ◌∷◌, codes}
-use Rattle.bs_verilog_lexemes.specs.declared.lexeme.Cell.{Cell}
-use Rattle.bs_verilog_lexemes.specs.declared.lexeme.Cell.TheVariants.{Dff, Dffs, Dffe, Dffr}
+use Rattle.bs_lex.specs.declared.lexeme.Cell.{Cell}
+use Rattle.bs_lex.specs.declared.lexeme.Cell.TheVariants.{Dff, Dffs, Dffe, Dffr}
 use Rattle.bs_verilog.specs.declared.cells.Pin as code
 use Rattle.bs_verilog.specs.declared.cells.Pin.TheVariants.{Clock, Output, Input, Enable, Clear}
 

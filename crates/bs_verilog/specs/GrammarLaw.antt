@@ -3,7 +3,7 @@ use Rattle.std.specs.Prelude.{◌≡◌, ℕ, List, Ok}
 use Rattle.bs_net.specs.Parts.{Parts}
 use Rattle.bs_lex.specs.declared.token.Token.{Token}
 use Rattle.bs_lex.specs.Tokens.{tokens_of}
-use Rattle.bs_verilog_lexemes.specs.Lexemes.{lexemes_of, names_of}
+use Rattle.bs_lex.specs.Lexemes.{lexemes_of, names_of}
 use Rattle.bs_verilog_syntax.specs.declared.tree.Module as code
 use Rattle.bs_verilog_syntax.specs.Modules.{syntax_of}
 use Rattle.bs_verilog.specs.Netlist.{meaning_of, netlist_text}

@@ -8,7 +8,7 @@ use Rattle.bs_net.specs.Parts.{ArePlaced, IsFlopPlaced}
 use Rattle.bs_net.specs.Gate.{takes}
 use Rattle.bs_verilog_syntax.specs.declared.tree.Component.{Component}
 use Rattle.bs_verilog.specs.declared.building.Built.{Built}
-use Rattle.bs_verilog_lexemes.specs.declared.lexeme.Name.{Name}
+use Rattle.bs_lex.specs.declared.lexeme.Name.{Name}
 use Rattle.bs_verilog_syntax.specs.declared.tree.Says.{Says}
 use Rattle.bs_verilog_syntax.specs.declared.tree.Direction.TheVariants as directions
 use Rattle.bs_verilog.specs.Building.{with_parts}

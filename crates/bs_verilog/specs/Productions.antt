@@ -2,8 +2,8 @@
 -- says: what stands in a text between `from` and `to`, where each is a text up to its end, is an X, and it says x.
 use Rattle.std.specs.Prelude.{◌≡◌, ◌==◌, ℕ, Bool, true, false, List, [], ◌∷◌, ◌++◌, map, Option, Some, None, is_some, unwrap_or}
 use Rattle.bs_net.specs.declared.gate.Kind.{Kind}
-use Rattle.bs_verilog_lexemes.specs.declared.lexeme.Cell.{Cell}
-use Rattle.bs_verilog_lexemes.specs.declared.lexeme.Word.TheVariants as words
+use Rattle.bs_lex.specs.declared.lexeme.Cell.{Cell}
+use Rattle.bs_lex.specs.declared.lexeme.Word.TheVariants as words
 use Rattle.bs_verilog_syntax.specs.declared.tree.Direction as code
 use Rattle.bs_verilog_syntax.specs.declared.tree.Direction.TheVariants as directions
 use Rattle.bs_verilog_syntax.specs.declared.tree.Net as code_net

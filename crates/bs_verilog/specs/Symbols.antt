@@ -1,11 +1,11 @@
 -- What each token of a text is to the grammar: the symbols that its productions speak of (docs/FORMATS.md, "Words of a netlist").
 use Rattle.std.specs.Prelude.{ℕ, Bool, List, [], ◌∷◌, ◌++◌, map, Option}
 use Rattle.bs_lex.specs.declared.token.Token.{Token}
-use Rattle.bs_verilog_lexemes.specs.declared.lexeme.Cell.{Cell}
-use Rattle.bs_verilog_lexemes.specs.declared.lexeme.Word.{Word}
-use Rattle.bs_verilog_lexemes.specs.declared.lexeme.Sort.{Sort}
-use Rattle.bs_verilog_lexemes.specs.declared.lexeme.Sort.TheVariants as sorts
-use Rattle.bs_verilog_lexemes.specs.Lexemes.{sort_of, spelling, decimal_from}
+use Rattle.bs_lex.specs.declared.lexeme.Cell.{Cell}
+use Rattle.bs_lex.specs.declared.lexeme.Word.{Word}
+use Rattle.bs_lex.specs.declared.lexeme.Sort.{Sort}
+use Rattle.bs_lex.specs.declared.lexeme.Sort.TheVariants as sorts
+use Rattle.bs_lex.specs.Lexemes.{sort_of, spelling, decimal_from}
 
 -- A symbol. A name has its text, and the cell of this name; digits alone are the number that they stand for, of any size.
 pub data Symbol : Type 0 where

@@ -10,13 +10,13 @@ use Rattle.bs_verilog_syntax.specs.declared.tree.Term.TheVariants.{Constant}
 use Rattle.bs_verilog_syntax.specs.declared.tree.Connection.{Connection}
 use Rattle.bs_verilog_syntax.specs.declared.tree.Connection.TheVariants as connections
 use Rattle.bs_verilog_syntax.specs.declared.tree.Connection.TheVariants.{Empty, Place}
-use Rattle.bs_verilog_lexemes.specs.declared.lexeme.Cell.{Cell}
-use Rattle.bs_verilog_lexemes.specs.declared.lexeme.Cell.TheVariants.{Dffe, Dffr}
+use Rattle.bs_lex.specs.declared.lexeme.Cell.{Cell}
+use Rattle.bs_lex.specs.declared.lexeme.Cell.TheVariants.{Dffe, Dffr}
 use Rattle.bs_verilog.specs.declared.cells.Pin.{Pin}
 use Rattle.bs_verilog.specs.declared.cells.Pin.TheVariants.{Clock, Output, Input, Enable, Clear}
-use Rattle.bs_verilog.specs.declared.terminals.Control.{Control}
-use Rattle.bs_verilog.specs.declared.terminals.Control.TheVariants as controls
-use Rattle.bs_verilog.specs.declared.terminals.Pins.{Pins}
+use Rattle.bs_verilog.specs.declared.pins.Control.{Control}
+use Rattle.bs_verilog.specs.declared.pins.Control.TheVariants as controls
+use Rattle.bs_verilog.specs.declared.pins.Pins.{Pins}
 use Rattle.bs_verilog.specs.Cells.{pin_name, pin_list}
 use Rattle.bs_verilog_scope.specs.Keys.{text}
 

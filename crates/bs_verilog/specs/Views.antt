@@ -1,8 +1,8 @@
 -- What the reader's syntax value says as it is written: its names by the table of names, its great numbers as the numbers that they stand for.
 use Rattle.std.specs.Prelude.{ℕ, ◌-◌, nat_lt, if◌then◌else◌, List, [], map, option_map, slice_index_or}
-use Rattle.bs_verilog_lexemes.specs.declared.limits.TheConstants.{MAX_INDEX, GREAT}
-use Rattle.bs_verilog_lexemes.specs.declared.lexeme.Name.{Name}
-use Rattle.bs_verilog_lexemes.specs.Lexemes.{decimal_from}
+use Rattle.bs_lex.specs.declared.number_limits.TheConstants.{MAX_INDEX, GREAT}
+use Rattle.bs_lex.specs.declared.lexeme.Name.{Name}
+use Rattle.bs_lex.specs.Lexemes.{decimal_from}
 use Rattle.bs_verilog_syntax.specs.declared.tree.Range as code_range
 use Rattle.bs_verilog_syntax.specs.declared.tree.Says as code_says
 use Rattle.bs_verilog_syntax.specs.declared.tree.Declared as code_declared

@@ -5,12 +5,12 @@ ghost use Rattle.bs_verilog.specs.Building as spec;
 ghost use Rattle.bs_bits.specs.Reading.{Answers};
 ghost use Rattle.bs_verilog_syntax.specs.declared.fault.VerilogFault.TheVariants.{NoMemory as want};
 
+use crate::pins::{Control, Pins, cell_pins, is_assignment, is_gate, is_single};
 use crate::placing::{NetTable, connection_nets};
 use crate::reset::starts_as_one;
-use crate::terminals::{Control, Pins, cell_pins, is_assignment, is_gate, is_single};
 use bs_bits::List;
+use bs_lex::{Cell, NameTable};
 use bs_net::{Flop, Gate, Kind, Mode, NetId, Terms};
-use bs_verilog_lexemes::{Cell, Table};
 use bs_verilog_scope::Scope;
 use bs_verilog_syntax::{Component, PackedConnection, Shape, VerilogFault};
 use std::alloc::Global;
@@ -131,7 +131,7 @@ fn flop_of(cell: Cell, pins: Pins, nets: &[NetId]) -> Flop
 fn with_gates(
     alloc: Global,
     built: &mut Built,
-    table: &Table,
+    table: &NameTable,
     scope: &Scope,
     kind: Kind,
     cs: &[PackedConnection],
@@ -146,7 +146,7 @@ fn with_gates(
 fn with_flop(
     alloc: Global,
     built: &mut Built,
-    table: &Table,
+    table: &NameTable,
     scope: &Scope,
     cell: Cell,
     pins: Pins,
@@ -164,7 +164,7 @@ fn with_flop(
 fn with_part(
     alloc: Global,
     built: &mut Built,
-    table: &Table,
+    table: &NameTable,
     scope: &Scope,
     part: &Component,
 ) -> Result<(), VerilogFault>
@@ -197,7 +197,7 @@ fn with_part(
 pub fn with_parts(
     alloc: Global,
     built: &mut Built,
-    table: &Table,
+    table: &NameTable,
     scope: &Scope,
     parts: &[Component],
 ) -> Result<(), VerilogFault>

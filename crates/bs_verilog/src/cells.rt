@@ -2,7 +2,7 @@
 ghost use Rattle.std.specs.Prelude.{◌≡◌};
 ghost use Rattle.bs_verilog.specs.Cells as spec;
 
-use bs_verilog_lexemes::Cell;
+use bs_lex::Cell;
 
 /// A pin of a cell.
 #[derive(Clone, Copy)]

@@ -14,8 +14,8 @@ use crate::building::{Built, with_parts};
 use crate::placing::NetTable;
 use crate::ports::{port_nets, supplies};
 use bs_bits::List;
+use bs_lex::{Name, NameTable};
 use bs_net::{Names, NetId, Raw};
-use bs_verilog_lexemes::{Name, Table};
 use bs_verilog_scope::{Known, Scope, declare, numbered};
 use bs_verilog_syntax::{Component, Direction, Module, VerilogFault};
 use std::alloc::Global;
@@ -94,7 +94,12 @@ fn raw_of(built: Built, inputs: List<NetId>, outputs: List<NetId>) -> Result<Raw
 }
 
 /// What stands before the first part: the declared nets and the supplies.
-fn start(alloc: Global, table: &Table, top: &Module, nets: &[Known]) -> Result<Built, VerilogFault>
+fn start(
+    alloc: Global,
+    table: &NameTable,
+    top: &Module,
+    nets: &[Known],
+) -> Result<Built, VerilogFault>
     requires nets { nets.now ≡ declaring_spec.known_nets top.now }
     requires few { declaring_spec.first_over table.now 0 nets.now ≡ None }
     ensures { Answers want (λ b. b) result (Ok (spec.start_of table.now top.now)) }
@@ -123,7 +128,7 @@ struct PortNets {
 /// The nets of the ports that a header names.
 fn all_port_nets(
     alloc: Global,
-    table: &Table,
+    table: &NameTable,
     scope: &Scope,
     names: &Names,
     header: &[Name],
@@ -139,7 +144,7 @@ fn all_port_nets(
 /// What the parts build after what stands before them, with these ports.
 fn finished_with(
     alloc: Global,
-    table: &Table,
+    table: &NameTable,
     scope: &Scope,
     _header: &[Name],
     parts: &[Component],
@@ -165,7 +170,7 @@ fn finished_with(
 /// What the parts build after what stands before them.
 fn finished(
     alloc: Global,
-    table: &Table,
+    table: &NameTable,
     scope: &Scope,
     header: &[Name],
     parts: &[Component],
@@ -186,7 +191,7 @@ fn finished(
 /// What a module builds whose declarations are in order.
 fn built(
     alloc: Global,
-    table: &Table,
+    table: &NameTable,
     top: &Module,
     scope: &Scope,
     nets: &[Known],
@@ -205,7 +210,7 @@ fn built(
 
 /// The third pass, and the fourth.
 #[tactic(auto, unfolding(crate::specs::Netlist::meaning_of))]
-pub fn meaning(alloc: Global, table: &Table, top: &Module) -> Result<Raw, VerilogFault>
+pub fn meaning(alloc: Global, table: &NameTable, top: &Module) -> Result<Raw, VerilogFault>
     ensures { Answers want parts_of result (spec.meaning_of table.now top.now) }
 {
     let declarations = declare(alloc, table, top)?;

@@ -6,10 +6,10 @@ ghost use Rattle.bs_verilog.specs.Building as spec;
 ghost use Rattle.bs_bits.specs.Reading.{Answers};
 ghost use Rattle.bs_verilog_syntax.specs.declared.fault.VerilogFault.TheVariants.{NoMemory as want};
 
-use crate::terminals::term_of;
+use crate::pins::term_of;
 use bs_bits::List;
+use bs_lex::{Name, NameTable};
 use bs_net::{Const, MAX_NETS, Names, NetId};
-use bs_verilog_lexemes::{Name, Table};
 use bs_verilog_scope::{Scope, bit_key, constant_key, entry, has_index, net_of, scalar_key};
 use bs_verilog_syntax::{PackedConnection, Range, Says, Term, VerilogFault, What};
 use std::alloc::Global;
@@ -136,7 +136,7 @@ fn named_net(
 fn term_net(
     alloc: Global,
     made: &mut NetTable,
-    table: &Table,
+    table: &NameTable,
     scope: &Scope,
     term: Term,
 ) -> Result<NetId, VerilogFault>
@@ -157,7 +157,7 @@ fn place(
     alloc: Global,
     made: &mut NetTable,
     nets: &mut Vec<NetId>,
-    table: &Table,
+    table: &NameTable,
     scope: &Scope,
     c: &PackedConnection,
 ) -> Result<(), VerilogFault>
@@ -177,7 +177,7 @@ fn place(
 pub fn connection_nets(
     alloc: Global,
     made: &mut NetTable,
-    table: &Table,
+    table: &NameTable,
     scope: &Scope,
     cs: &[PackedConnection],
 ) -> Result<Vec<NetId>, VerilogFault>

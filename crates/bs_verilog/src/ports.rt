@@ -7,8 +7,8 @@ ghost use Rattle.bs_bits.specs.Reading.{Answers};
 ghost use Rattle.bs_verilog_syntax.specs.declared.fault.VerilogFault.TheVariants.{NoMemory as want};
 
 use bs_bits::List;
+use bs_lex::{Name, NameTable};
 use bs_net::{Const, Names, NetId};
-use bs_verilog_lexemes::{Name, Table};
 use bs_verilog_scope::{Scope, direction_of, entry, known_net, nets_of};
 use bs_verilog_syntax::{Declared, Direction, Net, VerilogFault};
 use std::alloc::Global;
@@ -45,7 +45,7 @@ fn add_port(
     alloc: Global,
     ports: &mut List<NetId>,
     direction: Direction,
-    table: &Table,
+    table: &NameTable,
     scope: &Scope,
     names: &Names,
     name: Name,
@@ -65,7 +65,7 @@ fn add_port(
 pub fn port_nets(
     alloc: Global,
     direction: Direction,
-    table: &Table,
+    table: &NameTable,
     scope: &Scope,
     names: &Names,
     header: &[Name],
@@ -104,7 +104,7 @@ fn add_consts(consts: &mut List<Const>, nets: &[NetId], value: bool) -> Result<(
 fn add_supply(
     alloc: Global,
     consts: &mut List<Const>,
-    table: &Table,
+    table: &NameTable,
     names: &Names,
     d: Declared,
 ) -> Result<(), VerilogFault>
@@ -122,7 +122,7 @@ fn add_supply(
 /// The constants that the declared supplies are, in file order.
 pub fn supplies(
     alloc: Global,
-    table: &Table,
+    table: &NameTable,
     names: &Names,
     declared: &[Declared],
 ) -> Result<List<Const>, VerilogFault>

@@ -8,13 +8,13 @@ ghost use Rattle.bs_verilog_syntax.specs.declared.fault.VerilogFault.TheVariants
 
 use crate::netlist::meaning;
 use bs_bits::List;
+use bs_lex::{LexFault, Lexeme, NameTable, lexemes};
 use bs_net::Raw;
-use bs_verilog_lexemes::{LexFault, Lexeme, Table, lexemes};
 use bs_verilog_syntax::{Module, VerilogFault, syntax};
 use std::alloc::Global;
 
 /// The lexemes of a text and its names. A place where no token begins is a fault of syntax.
-fn lexed(alloc: Global, bytes: &[u8]) -> Result<(List<Lexeme>, Table), VerilogFault>
+fn lexed(alloc: Global, bytes: &[u8]) -> Result<(List<Lexeme>, NameTable), VerilogFault>
     requires { length bytes.now ≤ MAX_BYTES }
     ensures { Answers want (λ x. x) result (spec.lexed_text bytes.now) }
 {
@@ -26,7 +26,7 @@ fn lexed(alloc: Global, bytes: &[u8]) -> Result<(List<Lexeme>, Table), VerilogFa
 }
 
 /// The module of a text as written, and the text's names. The lexemes are let go.
-fn module(alloc: Global, bytes: &[u8]) -> Result<(Module, Table), VerilogFault>
+fn module(alloc: Global, bytes: &[u8]) -> Result<(Module, NameTable), VerilogFault>
     requires { length bytes.now ≤ MAX_BYTES }
     ensures { Answers want (λ x. x) result (spec.module_text bytes.now) }
 {

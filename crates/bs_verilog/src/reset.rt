@@ -2,7 +2,7 @@
 ghost use Rattle.std.specs.Prelude.{◌≡◌};
 ghost use Rattle.bs_verilog.specs.Cells as spec;
 
-use bs_verilog_lexemes::Cell;
+use bs_lex::Cell;
 
 /// Whether a cell's flip-flop is 1 at reset.
 pub fn starts_as_one(cell: Cell) -> bool

@@ -1,3 +1,4 @@
 pub mod TableLemmas
 pub mod NumberLemmas
 pub mod DeclaringLemmas
+pub mod BeforeLemmas

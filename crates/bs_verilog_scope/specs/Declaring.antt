@@ -2,7 +2,7 @@
 use Rattle.std.specs.Prelude.{ℕ, ◌+◌, Bool, true, false, not, ◌&&◌, ◌||◌, ◌==◌, nat_lt, if◌then◌else◌, List, [], ◌∷◌, ◌++◌, length, map, filter, find}
 use Rattle.std.specs.Prelude.{Option, Some, None, is_some, option_map}
 use Rattle.std.specs.List.{list_any}
-use Rattle.bs_verilog_lexemes.specs.declared.lexeme.Name.{Name}
+use Rattle.bs_lex.specs.declared.lexeme.Name.{Name}
 use Rattle.bs_verilog_syntax.specs.declared.tree.Range.{Range}
 use Rattle.bs_verilog_syntax.specs.declared.tree.Says.{Says}
 use Rattle.bs_verilog_syntax.specs.declared.tree.Declared.{Declared}
@@ -14,7 +14,7 @@ use Rattle.bs_verilog_scope.specs.declared.numbering.Known.{Known}
 use Rattle.bs_verilog_syntax.specs.declared.fault.VerilogFault.{VerilogFault}
 use Rattle.bs_verilog_syntax.specs.declared.fault.VerilogFault.TheVariants.{Redeclared, Port, Index, TooManyNets}
 use Rattle.bs_net.specs.declared.limits.TheConstants.{MAX_NETS}
-use Rattle.bs_verilog_lexemes.specs.declared.limits.TheConstants.{MAX_INDEX}
+use Rattle.bs_lex.specs.declared.number_limits.TheConstants.{MAX_INDEX}
 use Rattle.bs_verilog_scope.specs.Keys.{keys, text}
 
 -- What is said of a name.

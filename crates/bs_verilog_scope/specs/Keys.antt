@@ -4,7 +4,7 @@ use Rattle.std.specs.List.{list_all, range_with_len}
 use Rattle.std.specs.Fmt.{decimal}
 use Rattle.bs_lex.specs.Bytes.{begins_name, is_of_name}
 use Rattle.bs_lex.specs.Tokens.{first}
-use Rattle.bs_verilog_lexemes.specs.declared.lexeme.Name.{Name}
+use Rattle.bs_lex.specs.declared.lexeme.Name.{Name}
 use Rattle.bs_verilog_syntax.specs.declared.tree.Range.{Range}
 
 -- names are numbered by their text, so equal numbers are equal names

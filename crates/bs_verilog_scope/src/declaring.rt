@@ -5,9 +5,9 @@ ghost use Rattle.bs_verilog_scope.specs.Declaring as spec;
 
 use crate::numbering::{Known, first_over, known_nets};
 use crate::redeclaring::{bare_fault, header_marks, scope_of, stray_fault, wide_fault};
-use crate::tables::{Marks, Scope};
+use crate::tables::{NameMarks, Scope};
 use bs_bits::List;
-use bs_verilog_lexemes::{Name, Table};
+use bs_lex::{Name, NameTable};
 use bs_verilog_syntax::{Declared, Module, VerilogFault};
 use std::alloc::Global;
 
@@ -18,7 +18,7 @@ pub struct Declarations {
     pub nets: List<Known>,
 }
 
-fn many_fault(table: &Table, nets: &[Known]) -> Option<VerilogFault>
+fn many_fault(table: &NameTable, nets: &[Known]) -> Option<VerilogFault>
     ensures { result ≡ spec.many_fault table.now nets.now }
 {
     first_over(table, nets).map(|net| VerilogFault::TooManyNets(net.name.at))
@@ -37,8 +37,8 @@ fn none_of(fault: Option<VerilogFault>) -> Result<(), VerilogFault>
 #[tactic(auto, unfolding(crate::specs::Declaring::naming_fault))]
 fn named(
     alloc: Global,
-    table: &Table,
-    marks: &Marks,
+    table: &NameTable,
+    marks: &NameMarks,
     scope: &Scope,
     header: &[Name],
     declared: &[Declared],
@@ -56,8 +56,8 @@ fn named(
 /// What a module declares whose names have these marks, where no name of its header stands twice.
 fn declared_with(
     alloc: Global,
-    table: &Table,
-    marks: &Marks,
+    table: &NameTable,
+    marks: &NameMarks,
     header: &[Name],
     declared: &[Declared],
 ) -> Result<Declarations, VerilogFault>
@@ -75,7 +75,7 @@ fn declared_with(
 
 /// What a module declares, or the first fault of its declarations.
 #[tactic(auto, unfolding(crate::specs::Declaring::declaring_fault))]
-pub fn declare(alloc: Global, table: &Table, top: &Module) -> Result<Declarations, VerilogFault>
+pub fn declare(alloc: Global, table: &NameTable, top: &Module) -> Result<Declarations, VerilogFault>
     ensures { Checks result (spec.declaring_fault table.now top.now) (λ d. (looked d.scope ≡ spec.said top.now.declared) × (d.nets ≡ spec.known_nets top.now) × (spec.many_fault table.now d.nets ≡ None)) }
 {
     let header = top.header.slice();

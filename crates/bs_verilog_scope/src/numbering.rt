@@ -11,10 +11,10 @@ ghost use Rattle.bs_verilog_syntax.specs.declared.fault.VerilogFault.TheVariants
 
 use crate::keys::{bit_key, index_at, scalar_key, width};
 use crate::redeclaring::{entry, is_marked};
-use crate::tables::{Marks, Scope};
+use crate::tables::{NameMarks, Scope};
 use bs_bits::List;
+use bs_lex::{Name, NameTable};
 use bs_net::{MAX_NETS, Names};
-use bs_verilog_lexemes::{Name, Table};
 use bs_verilog_syntax::{Declared, Range, Says, VerilogFault};
 use std::alloc::Global;
 
@@ -58,7 +58,7 @@ fn add_ports(nets: &mut List<Known>, scope: &Scope, header: &[Name]) -> Result<(
 fn add_others(
     nets: &mut List<Known>,
     scope: &Scope,
-    marks: &Marks,
+    marks: &NameMarks,
     declared: &[Declared],
 ) -> Result<(), VerilogFault>
     ensures { Answers want (λ _. nets.new) result (Ok (nets.old ++ map (λ d. spec.known (looked scope.now) d.name) (filter (λ d. not (marked marks.now d.name.id)) declared.now))) }
@@ -75,7 +75,7 @@ fn add_others(
 pub fn known_nets(
     alloc: Global,
     scope: &Scope,
-    marks: &Marks,
+    marks: &NameMarks,
     header: &[Name],
     declared: &[Declared],
 ) -> Result<List<Known>, VerilogFault>
@@ -100,7 +100,7 @@ fn bits_of(range: Option<Range>) -> usize
 }
 
 /// The net by which the count of nets passes `MAX_NETS`.
-pub fn first_over(table: &Table, nets: &[Known]) -> Option<Known>
+pub fn first_over(table: &NameTable, nets: &[Known]) -> Option<Known>
     ensures { result ≡ spec.first_over table.now 0 nets.now }
 {
     let mut count = 0;
@@ -147,7 +147,7 @@ fn add_net(
 }
 
 /// The names of the declared nets, in the order of their numbers.
-pub fn numbered(alloc: Global, table: &Table, nets: &[Known]) -> Result<Names, VerilogFault>
+pub fn numbered(alloc: Global, table: &NameTable, nets: &[Known]) -> Result<Names, VerilogFault>
     requires { spec.first_over table.now 0 nets.now ≡ None }
     ensures { Answers want (λ names. names) result (Ok (with_keys [] (flat_map (spec.keys_of table.now) nets.now))) }
 {

@@ -1,11 +1,11 @@
 //! What a module says of its names: which may be declared twice and which are refused, and the other faults of its declarations.
 ghost use Rattle.std.specs.Prelude.{◌≡◌, Some, nat_lt, ◌||◌};
 ghost use Rattle.bs_verilog_scope.specs.Checking.{Checks, looked, marked};
-ghost use Rattle.bs_verilog_lexemes.specs.declared.limits.TheConstants.{MAX_INDEX};
+ghost use Rattle.bs_lex.specs.declared.number_limits.TheConstants.{MAX_INDEX};
 ghost use Rattle.bs_verilog_scope.specs.Declaring as spec;
 
-use crate::tables::{Marks, Scope};
-use bs_verilog_lexemes::{MAX_INDEX, Name};
+use crate::tables::{NameMarks, Scope};
+use bs_lex::{MAX_INDEX, Name};
 use bs_verilog_syntax::{Declared, Direction, Net, Range, Says, VerilogFault};
 use std::alloc::Global;
 
@@ -17,7 +17,7 @@ pub fn entry(scope: &Scope, id: u32) -> Option<Says>
 }
 
 /// Whether the name with a number is marked.
-pub fn is_marked(marks: &Marks, id: u32) -> bool
+pub fn is_marked(marks: &NameMarks, id: u32) -> bool
     ensures { result ≡ marked marks.now id }
 {
     marks.has(id)
@@ -115,10 +115,10 @@ pub fn direction_of(says: Option<Says>) -> Option<Direction>
 }
 
 /// The names of the header, marked. A name that stands twice is refused.
-pub fn header_marks(alloc: Global, header: &[Name]) -> Result<Marks, VerilogFault>
+pub fn header_marks(alloc: Global, header: &[Name]) -> Result<NameMarks, VerilogFault>
     ensures { Checks result (spec.repeated_fault header.now) (λ m. marked m ≡ spec.is_in header.now) }
 {
-    let mut seen = Marks::new(alloc);
+    let mut seen = NameMarks::new(alloc);
     'names: for name in header {
         if is_marked(&seen, name.id) {
             return Err(VerilogFault::Redeclared(name.at));
@@ -143,7 +143,7 @@ pub fn scope_of(alloc: Global, declared: &[Declared]) -> Result<Scope, VerilogFa
     Ok(scope)
 }
 
-fn is_stray(marks: &Marks, d: Declared) -> bool
+fn is_stray(marks: &NameMarks, d: Declared) -> bool
     ensures { result ≡ spec.is_stray (marked marks.now) d }
 {
     let marked = is_marked(marks, d.name.id);
@@ -184,7 +184,7 @@ fn range_place(d: Declared) -> u32
 }
 
 /// The fault of the first direction for a name that is not in the header.
-pub fn stray_fault(marks: &Marks, declared: &[Declared]) -> Option<VerilogFault>
+pub fn stray_fault(marks: &NameMarks, declared: &[Declared]) -> Option<VerilogFault>
     ensures { result ≡ spec.stray_fault (marked marks.now) declared.now }
 {
     declared

@@ -50,11 +50,11 @@ impl Scope {
 
 /// The marked names, by their numbers.
 #[derive(Drop)]
-pub struct Marks {
+pub struct NameMarks {
     ids: IndexSet<u32>,
 }
 
-impl Model for Marks {
+impl Model for NameMarks {
     ghost use Rattle.std.specs.Prelude.{List, ℕ};
 
     ghost Value = { List ℕ };
@@ -62,12 +62,12 @@ impl Model for Marks {
     ghost view = { λ marks. marks.ids.keys };
 }
 
-impl Marks {
+impl NameMarks {
     /// No name is marked.
-    pub fn new(alloc: Global) -> Marks
+    pub fn new(alloc: Global) -> NameMarks
         ensures { result ≡ [] }
     {
-        Marks {
+        NameMarks {
             ids: IndexSet::new(alloc),
         }
     }

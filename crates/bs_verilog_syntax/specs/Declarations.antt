@@ -1,9 +1,9 @@
 -- Ranges, declarations, and the header of a module.
 use Rattle.std.specs.Prelude.{Bool, true, false, if◌then◌else◌, List, [], ◌∷◌, map, Option, Some, None, is_some, unwrap_or, Ok, Err}
-use Rattle.bs_verilog_lexemes.specs.declared.lexeme.Sort.{Sort}
-use Rattle.bs_verilog_lexemes.specs.declared.lexeme.Word.TheVariants as words
-use Rattle.bs_verilog_lexemes.specs.declared.lexeme.Sort.TheVariants as sorts
-use Rattle.bs_verilog_lexemes.specs.declared.lexeme.Name.{Name}
+use Rattle.bs_lex.specs.declared.lexeme.Sort.{Sort}
+use Rattle.bs_lex.specs.declared.lexeme.Word.TheVariants as words
+use Rattle.bs_lex.specs.declared.lexeme.Sort.TheVariants as sorts
+use Rattle.bs_lex.specs.declared.lexeme.Name.{Name}
 use Rattle.bs_verilog_syntax.specs.declared.tree.Range.{Range}
 use Rattle.bs_verilog_syntax.specs.declared.tree.Says.{Says}
 use Rattle.bs_verilog_syntax.specs.declared.tree.Declared.{Declared}
@@ -15,7 +15,7 @@ use Rattle.bs_verilog_syntax.specs.declared.tree.Net.TheVariants as nets
 use Rattle.bs_verilog_syntax.specs.declared.tree.Net as code_net
 use Rattle.bs_bits.specs.Reading.{◌>>=◌}
 use Rattle.bs_verilog_syntax.specs.Reading.{Rest, Read, at, sort, rest, name, is_at, refused, expect, expect_name, expect_digits, listed}
-use Rattle.bs_verilog_lexemes.specs.Lexemes.{is_name}
+use Rattle.bs_lex.specs.Lexemes.{is_name}
 use Rattle.bs_verilog_syntax.specs.Terms.{attributes}
 use Rattle.bs_verilog_syntax.specs.declared.reading.Due.TheVariants as due
 use Rattle.bs_verilog_syntax.specs.Unsupported.{after_direction}
@@ -48,6 +48,12 @@ net _ = None
 abbrev pub is_wire : Sort → Bool
 is_wire (sorts.Word words.Wire) = true
 is_wire _ = false
+
+-- [ range ], with what else is said
+abbrev pub ranged : Option code.Direction → Option code_net.Net → Rest → Read Says
+ranged d n ts = do
+  r ← range ts
+  Ok (record { direction = d; net = n; range = r.0 }, r.1)
 
 -- what follows a direction, up to the first name: [ "wire" ] [ range ]
 unfoldable pub port_says : code.Direction → Rest → Read Says

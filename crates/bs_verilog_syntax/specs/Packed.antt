@@ -1,6 +1,6 @@
 -- How a connection is packed, and what it is seen as.
 use Rattle.std.specs.Prelude.{ℕ, ◌+◌, ◌*◌, true, false, Some, None}
-use Rattle.bs_verilog_lexemes.specs.declared.lexeme.Name.{Name}
+use Rattle.bs_lex.specs.declared.lexeme.Name.{Name}
 use Rattle.bs_verilog_syntax.specs.declared.packed.Tag.{Tag}
 use Rattle.bs_verilog_syntax.specs.declared.packed.Tag.TheVariants as tags
 use Rattle.bs_verilog_syntax.specs.declared.tree.Connection as seen

@@ -1,11 +1,11 @@
 -- Gates, cells and assignments.
 use Rattle.std.specs.Prelude.{Bool, true, false, ◌&&◌, if◌then◌else◌, List, [], ◌∷◌, Some, None, Ok, Err}
 use Rattle.bs_net.specs.declared.gate.Kind.{Kind}
-use Rattle.bs_verilog_lexemes.specs.declared.lexeme.Cell.{Cell}
-use Rattle.bs_verilog_lexemes.specs.declared.lexeme.Name.{Name}
-use Rattle.bs_verilog_lexemes.specs.declared.lexeme.Sort.{Sort}
-use Rattle.bs_verilog_lexemes.specs.declared.lexeme.Word.TheVariants as words
-use Rattle.bs_verilog_lexemes.specs.declared.lexeme.Sort.TheVariants as sorts
+use Rattle.bs_lex.specs.declared.lexeme.Cell.{Cell}
+use Rattle.bs_lex.specs.declared.lexeme.Name.{Name}
+use Rattle.bs_lex.specs.declared.lexeme.Sort.{Sort}
+use Rattle.bs_lex.specs.declared.lexeme.Word.TheVariants as words
+use Rattle.bs_lex.specs.declared.lexeme.Sort.TheVariants as sorts
 use Rattle.bs_verilog_syntax.specs.declared.tree.Component.{Component}
 use Rattle.bs_verilog_syntax.specs.declared.tree.Shape.TheVariants as shapes
 use Rattle.bs_verilog_syntax.specs.declared.tree.Connection as code_connection
@@ -14,7 +14,7 @@ use Rattle.bs_verilog_syntax.specs.declared.fault.What.TheVariants as what
 use Rattle.bs_verilog_syntax.specs.declared.fault.VerilogFault.TheVariants.{Unsupported}
 use Rattle.bs_bits.specs.Reading.{◌>>=◌}
 use Rattle.bs_verilog_syntax.specs.Reading.{Rest, Read, Skip, at, sort, rest, is_at, expect, expect_name, listed}
-use Rattle.bs_verilog_lexemes.specs.Lexemes.{is_name}
+use Rattle.bs_lex.specs.Lexemes.{is_name}
 use Rattle.bs_verilog_syntax.specs.Terms.{term, delay}
 use Rattle.bs_verilog_syntax.specs.declared.reading.Due.TheVariants as due
 

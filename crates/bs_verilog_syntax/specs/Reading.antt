@@ -4,12 +4,12 @@ use Rattle.std.specs.Borrow.{Bor}
 use Prim.Native.String.{String}
 use Rattle.bs_bits.specs.Reading.{◌>>=◌, Answers}
 use Rattle.bs_lex.specs.Bytes.{◌∈◌}
-use Rattle.bs_verilog_lexemes.specs.Packed.{Lexeme}
-use Rattle.bs_verilog_lexemes.specs.declared.lexeme.Sort.{Sort}
-use Rattle.bs_verilog_lexemes.specs.declared.lexeme.Sort.TheVariants as sorts
-use Rattle.bs_verilog_lexemes.specs.declared.lexeme.Word as code
-use Rattle.bs_verilog_lexemes.specs.declared.lexeme.Name as code_name
-use Rattle.bs_verilog_lexemes.specs.Lexemes.{is_name}
+use Rattle.bs_lex.specs.Packed.{Lexeme}
+use Rattle.bs_lex.specs.declared.lexeme.Sort.{Sort}
+use Rattle.bs_lex.specs.declared.lexeme.Sort.TheVariants as sorts
+use Rattle.bs_lex.specs.declared.lexeme.Word as code
+use Rattle.bs_lex.specs.declared.lexeme.Name as code_name
+use Rattle.bs_lex.specs.Lexemes.{is_name}
 use Rattle.bs_verilog_syntax.specs.Unsupported.{symbol, unsupported}
 use Rattle.bs_verilog_syntax.specs.declared.fault.What.TheVariants as what
 use Rattle.bs_verilog_syntax.specs.declared.reading.Due.{Due}

@@ -1,7 +1,7 @@
 -- Terms, delays and attributes.
 use Rattle.std.specs.Prelude.{ℕ, Bool, true, false, if◌then◌else◌, [], ◌∷◌, Option, Some, None, Ok, Err}
-use Rattle.bs_verilog_lexemes.specs.declared.lexeme.Sort.{Sort}
-use Rattle.bs_verilog_lexemes.specs.declared.lexeme.Sort.TheVariants as sorts
+use Rattle.bs_lex.specs.declared.lexeme.Sort.{Sort}
+use Rattle.bs_lex.specs.declared.lexeme.Sort.TheVariants as sorts
 use Rattle.bs_verilog_syntax.specs.declared.reading.AttributeStep.{AttributeStep}
 use Rattle.bs_verilog_syntax.specs.declared.reading.AttributeStep.TheVariants.{On, Over, Unclosed}
 use Rattle.bs_verilog_syntax.specs.declared.tree.Term as code
@@ -9,7 +9,7 @@ use Rattle.bs_verilog_syntax.specs.declared.tree.Term.TheVariants.{Constant, Nam
 use Rattle.bs_verilog_syntax.specs.declared.fault.VerilogFault.TheVariants.{Syntax}
 use Rattle.bs_bits.specs.Reading.{◌>>=◌}
 use Rattle.bs_verilog_syntax.specs.Reading.{Rest, Read, Skip, at, sort, rest, name, bit, is_at, refused, expect, expect_digits, listed}
-use Rattle.bs_verilog_lexemes.specs.Lexemes.{is_name}
+use Rattle.bs_lex.specs.Lexemes.{is_name}
 use Rattle.bs_verilog_syntax.specs.declared.reading.Due.TheVariants as due
 
 -- [ "[" digits "]" ]

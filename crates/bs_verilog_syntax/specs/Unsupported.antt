@@ -2,9 +2,9 @@
 use Rattle.std.specs.Prelude.{ℕ, if◌then◌else◌, Option, Some, None}
 use Prim.Native.String.{String}
 use Rattle.bs_lex.specs.Bytes.{◌∈◌}
-use Rattle.bs_verilog_lexemes.specs.declared.lexeme.Sort.{Sort}
-use Rattle.bs_verilog_lexemes.specs.declared.lexeme.Sort.TheVariants as sorts
-use Rattle.bs_verilog_lexemes.specs.declared.lexeme.Word.TheVariants as words
+use Rattle.bs_lex.specs.declared.lexeme.Sort.{Sort}
+use Rattle.bs_lex.specs.declared.lexeme.Sort.TheVariants as sorts
+use Rattle.bs_lex.specs.declared.lexeme.Word.TheVariants as words
 use Rattle.bs_verilog_syntax.specs.declared.reading.Due.{Due}
 use Rattle.bs_verilog_syntax.specs.declared.reading.Due.TheVariants.{Nothing, Term, AfterTerm, AfterIndex, AfterDeclared, AfterInstance, AfterModule}
 use Rattle.bs_verilog_syntax.specs.declared.reading.Due.TheVariants.{AfterDirection, Port, Item, Module}

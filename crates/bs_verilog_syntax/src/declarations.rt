@@ -14,7 +14,7 @@ use crate::reading::{
 use crate::tree::{Declared, Direction, HeaderPort, Net, Ports, Range, Says};
 use crate::unsupported::after_direction;
 use bs_bits::List;
-use bs_verilog_lexemes::{Lexeme, Name, Sort, Word, is_name};
+use bs_lex::{Lexeme, Name, Sort, Word, is_name};
 use std::alloc::Global;
 
 /// A range, if there is one.
@@ -68,6 +68,24 @@ fn is_wire(sort: Sort) -> bool
     matches!(sort, Sort::Word(Word::Wire))
 }
 
+/// A range, if there is one, and what else is said.
+fn ranged(
+    direction: Option<Direction>,
+    net: Option<Net>,
+    ts: &[Lexeme],
+) -> Result<(Says, &[Lexeme]), VerilogFault>
+    ensures reads { spec.Reads (λ s. s) result (declarations.ranged direction net ts.now) }
+    ensures within { IfOk result (λ x. length x.1.now ≤ length ts.now) }
+{
+    let (range, rest) = range(ts)?;
+    let says = Says {
+        direction,
+        net,
+        range,
+    };
+    Ok((says, rest))
+}
+
 /// What follows a direction, up to the first name.
 #[tactic(auto, unfolding(crate::specs::Declarations::port_says))]
 pub fn port_says(direction: Direction, ts: &[Lexeme]) -> Result<(Says, &[Lexeme]), VerilogFault>
@@ -75,39 +93,20 @@ pub fn port_says(direction: Direction, ts: &[Lexeme]) -> Result<(Says, &[Lexeme]
     ensures within { IfOk result (λ x. length x.1.now ≤ length ts.now) }
 {
     if after_direction(sort_of(ts)).is_some() {
-        return Err(refused(Due::AfterDirection, ts));
+        Err(refused(Due::AfterDirection, ts))
+    } else if is_wire(sort_of(ts)) {
+        ranged(Some(direction), Some(Net::Wire), rest_of(ts))
+    } else {
+        ranged(Some(direction), None, ts)
     }
-    if is_wire(sort_of(ts)) {
-        let (range, rest) = range(rest_of(ts))?;
-        let says = Says {
-            direction: Some(direction),
-            net: Some(Net::Wire),
-            range,
-        };
-        return Ok((says, rest));
-    }
-    let (range, rest) = range(ts)?;
-    let says = Says {
-        direction: Some(direction),
-        net: None,
-        range,
-    };
-    Ok((says, rest))
 }
 
 /// What follows a net word, up to the first name.
 #[tactic(auto, unfolding(crate::specs::Declarations::net_says))]
 pub fn net_says(net: Net, ts: &[Lexeme]) -> Result<(Says, &[Lexeme]), VerilogFault>
     ensures reads { spec.Reads (λ s. s) result (declarations.net_says net ts.now) }
-    ensures within { IfOk result (λ x. length x.1.now ≤ length ts.now) }
 {
-    let (range, rest) = range(ts)?;
-    let says = Says {
-        direction: None,
-        net: Some(net),
-        range,
-    };
-    Ok((says, rest))
+    ranged(None, Some(net), ts)
 }
 
 /// Reads the names of a declaration.
@@ -144,7 +143,6 @@ pub fn names(
     ts: &[Lexeme],
 ) -> Result<(List<Declared>, &[Lexeme]), VerilogFault>
     ensures reads { spec.Reads (λ d. d) result (declarations.names says ts.now) }
-    ensures within { IfOk result (λ x. length x.1.now ≤ length ts.now) }
 {
     let (listing, rest) = listed(alloc, &DeclaredReader { says }, ts)?;
     closed(b';', Due::AfterDeclared, listing, rest)
@@ -264,7 +262,6 @@ fn ports_of(alloc: Global, ports: &[HeaderPort]) -> Result<Ports, VerilogFault>
 /// The ports of a header that declares nothing, up to and with its `)`.
 fn plain_ports(alloc: Global, ts: &[Lexeme]) -> Result<(Ports, &[Lexeme]), VerilogFault>
     ensures reads { spec.Reads (λ p. p) result (declarations.plain_ports ts.now) }
-    ensures within { IfOk result (λ x. length x.1.now ≤ length ts.now) }
 {
     let (header, rest) = listed(alloc, &PlainPortReader, ts)?;
     let rest = expect(b')', Due::Nothing, rest)?;
@@ -278,7 +275,6 @@ fn plain_ports(alloc: Global, ts: &[Lexeme]) -> Result<(Ports, &[Lexeme]), Veril
 /// The ports of a header that declares them, up to and with its `)`.
 fn declared_ports(alloc: Global, ts: &[Lexeme]) -> Result<(Ports, &[Lexeme]), VerilogFault>
     ensures reads { spec.Reads (λ p. p) result (declarations.declared_ports ts.now) }
-    ensures within { IfOk result (λ x. length x.1.now ≤ length ts.now) }
 {
     let (listing, rest) = listed(alloc, &HeaderPortReader, ts)?;
     let rest = expect(b')', Due::AfterDeclared, rest)?;
@@ -290,7 +286,6 @@ fn declared_ports(alloc: Global, ts: &[Lexeme]) -> Result<(Ports, &[Lexeme]), Ve
 #[tactic(auto, unfolding(crate::specs::Declarations::ports))]
 fn ports(alloc: Global, ts: &[Lexeme]) -> Result<(Ports, &[Lexeme]), VerilogFault>
     ensures reads { spec.Reads (λ p. p) result (declarations.ports ts.now) }
-    ensures within { IfOk result (λ x. length x.1.now ≤ length ts.now) }
 {
     if is_at(b')', ts) {
         let none = Ports {
@@ -311,7 +306,6 @@ fn ports(alloc: Global, ts: &[Lexeme]) -> Result<(Ports, &[Lexeme]), VerilogFaul
 #[tactic(auto, unfolding(crate::specs::Declarations::header))]
 pub fn header(alloc: Global, ts: &[Lexeme]) -> Result<(Ports, &[Lexeme]), VerilogFault>
     ensures reads { spec.Reads (λ p. p) result (declarations.header ts.now) }
-    ensures within { IfOk result (λ x. length x.1.now ≤ length ts.now) }
 {
     if is_at(b'(', ts) {
         let (listing, rest) = ports(alloc, rest_of(ts))?;

@@ -10,7 +10,7 @@ use std::fmt::Display;
 use thiserror::Error;
 
 /// A part of the language that this reader leaves out (docs/FORMATS.md, "What is left out").
-#[derive(Clone, Copy, Debug, PartialEq, Eq)]
+#[derive(Clone, Copy, Debug)]
 pub enum What {
     /// Procedures, variables, tasks, functions, specify and generate blocks: `always`, `reg` and the like.
     Behaviour,
@@ -61,7 +61,7 @@ impl What {
 }
 
 /// Why a text is no netlist. A place is a byte offset from 0.
-#[derive(Clone, Copy, Debug, PartialEq, Eq, Error)]
+#[derive(Clone, Copy, Debug, Error)]
 pub enum VerilogFault {
     /// The first token that cannot go on, or the length of a text that ends too early.
     #[error("what begins at byte {0} cannot stand there")]

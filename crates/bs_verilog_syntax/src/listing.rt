@@ -5,7 +5,7 @@ ghost use Rattle.bs_verilog_syntax.specs.Reading as spec;
 use crate::fault::VerilogFault;
 use crate::reading::{Due, after_comma, expect};
 use bs_bits::List;
-use bs_verilog_lexemes::Lexeme;
+use bs_lex::Lexeme;
 use std::alloc::Global;
 
 /// What reads one member of a list.

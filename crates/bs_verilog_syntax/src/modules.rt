@@ -13,13 +13,12 @@ use crate::parts::{assignments, gates, instances};
 use crate::reading::{Due, attributes, expect_name, place_of, refused, rest_of, sort_of};
 use crate::tree::{Adds, Component, Module, Ports, Says};
 use bs_bits::List;
-use bs_verilog_lexemes::{Lexeme, Sort, Word, is_name};
+use bs_lex::{Lexeme, Sort, Word, is_name};
 use std::alloc::Global;
 
 /// What a declaration adds.
 fn declaring(alloc: Global, says: Says, ts: &[Lexeme]) -> Result<(Adds, &[Lexeme]), VerilogFault>
     ensures reads { spec.Reads (λ a. a) result (modules.declares (declarations.names says ts.now)) }
-    ensures within { IfOk result (λ x. length x.1.now ≤ length ts.now) }
 {
     let (declared, rest) = names(alloc, says, ts)?;
     let adds = Adds {
@@ -43,7 +42,6 @@ fn placing(alloc: Global, parts: List<Component>) -> Adds
 /// An assignment, gates or cells.
 fn statement(alloc: Global, ts: &[Lexeme]) -> Result<(Adds, &[Lexeme]), VerilogFault>
     ensures reads { spec.Reads (λ a. a) result (modules.statement (spec.sort ts.now) ts.now) }
-    ensures within { IfOk result (λ x. length x.1.now ≤ length ts.now) }
 {
     match sort_of(ts) {
         Sort::Word(Word::Assign) => {
@@ -66,7 +64,6 @@ fn statement(alloc: Global, ts: &[Lexeme]) -> Result<(Adds, &[Lexeme]), VerilogF
 #[tactic(auto, unfolding(crate::specs::Modules::item))]
 fn item(alloc: Global, ts: &[Lexeme]) -> Result<(Adds, &[Lexeme]), VerilogFault>
     ensures reads { spec.Reads (λ a. a) result (modules.item ts.now) }
-    ensures within { IfOk result (λ x. length x.1.now ≤ length ts.now) }
 {
     match direction_of(sort_of(ts)) {
         Some(direction) => {
@@ -115,7 +112,6 @@ fn is_cell(sort: Sort) -> bool
 #[tactic(auto, unfolding(crate::specs::Modules::begun))]
 fn begun(ts: &[Lexeme]) -> Result<&[Lexeme], VerilogFault>
     ensures skips { spec.Skips result (modules.begun ts.now) }
-    ensures within { IfOk result (λ rest. length rest.now ≤ length ts.now) }
 {
     let here = attributes(ts)?;
     if is_module(sort_of(here)) {

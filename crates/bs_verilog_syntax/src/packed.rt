@@ -5,7 +5,7 @@ ghost use Rattle.bs_verilog_syntax.specs.declared.tree.Connection.TheVariants as
 
 use crate::tree::{Connection, Term};
 use bs_bits::NoMemory;
-use bs_verilog_lexemes::Name;
+use bs_lex::Name;
 use std::marker::Model;
 
 /// What a connection has.

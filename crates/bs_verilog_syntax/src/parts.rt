@@ -13,8 +13,8 @@ use crate::reading::{Due, expect, expect_name, is_at, place_of, rest_of, sort_of
 use crate::terms::{delay, term};
 use crate::tree::{Component, Connection, Shape, Term};
 use bs_bits::List;
+use bs_lex::{Cell, Lexeme, Name, Sort, Word, is_name};
 use bs_net::Kind;
-use bs_verilog_lexemes::{Cell, Lexeme, Name, Sort, Word, is_name};
 use std::alloc::Global;
 
 /// A term, by its place.
@@ -114,7 +114,6 @@ pub fn gates(
     ts: &[Lexeme],
 ) -> Result<(List<Component>, &[Lexeme]), VerilogFault>
     ensures reads { spec.Reads (λ p. p) result (parts.gates kind ts.now) }
-    ensures within { IfOk result (λ x. length x.1.now ≤ length ts.now) }
 {
     if is_at(b'(', ts) && is_strength(sort_of(rest_of(ts))) {
         return Err(VerilogFault::Unsupported(place_of(rest_of(ts)), What::Strength));
@@ -252,7 +251,6 @@ pub fn instances(
     ts: &[Lexeme],
 ) -> Result<(List<Component>, &[Lexeme]), VerilogFault>
     ensures reads { spec.Reads (λ p. p) result (parts.instances cell ts.now) }
-    ensures within { IfOk result (λ x. length x.1.now ≤ length ts.now) }
 {
     if is_at(b'#', ts) {
         return Err(VerilogFault::Unsupported(place_of(ts), What::Parameter));
@@ -312,7 +310,6 @@ pub fn assignments(
     ts: &[Lexeme],
 ) -> Result<(List<Component>, &[Lexeme]), VerilogFault>
     ensures reads { spec.Reads (λ p. p) result (parts.assignments ts.now) }
-    ensures within { IfOk result (λ x. length x.1.now ≤ length ts.now) }
 {
     let first = delay(alloc, ts)?;
     let (parts, rest) = listed(alloc, &PairReader, first)?;

@@ -7,7 +7,7 @@ ghost use Rattle.bs_verilog_syntax.specs.Terms as terms;
 
 use crate::fault::{VerilogFault, What};
 use crate::unsupported::{symbol_of, unsupported};
-use bs_verilog_lexemes::{Lexeme, Name, Sort, is_name};
+use bs_lex::{Lexeme, Name, Sort, is_name};
 
 /// What is due where a lexeme cannot go on.
 #[derive(Clone, Copy)]

@@ -9,7 +9,7 @@ use crate::reading::{
     Due, expect, expect_digits, is_at, name_of, place_of, refused, rest_of, sort_of,
 };
 use crate::tree::Term;
-use bs_verilog_lexemes::{Lexeme, Sort, is_name};
+use bs_lex::{Lexeme, Sort, is_name};
 use std::alloc::Global;
 
 /// The index of a term, if there is one.
@@ -107,7 +107,6 @@ impl Reader<bool> for TimeReader {
 #[tactic(auto, unfolding(crate::specs::Terms::delay))]
 pub fn delay(alloc: Global, ts: &[Lexeme]) -> Result<&[Lexeme], VerilogFault>
     ensures skips { spec.Skips result (terms.delay ts.now) }
-    ensures within { IfOk result (λ rest. length rest.now ≤ length ts.now) }
 {
     if !is_at(b'#', ts) {
         return Ok(ts);

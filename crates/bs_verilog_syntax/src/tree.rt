@@ -2,8 +2,8 @@
 
 use crate::packed::PackedConnection;
 use bs_bits::List;
+use bs_lex::{Cell, Name};
 use bs_net::Kind;
-use bs_verilog_lexemes::{Cell, Name};
 
 /// The bounds of a vector, from its left to its right bit, and the place of its `[`. A bound from `GREAT` on is no number:
 /// equal ones stand for equal numbers above `MAX_INDEX`, of any length.

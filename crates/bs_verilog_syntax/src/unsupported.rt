@@ -6,7 +6,7 @@ ghost use Rattle.bs_verilog_syntax.specs.declared.fault.What.TheVariants.{Expres
 
 use crate::fault::What;
 use crate::reading::Due;
-use bs_verilog_lexemes::{Sort, Word};
+use bs_lex::{Sort, Word};
 
 /// The symbol that a lexeme is, or 0.
 pub fn symbol_of(sort: Sort) -> u8

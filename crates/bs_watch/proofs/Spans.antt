@@ -4,14 +4,14 @@ use Rattle.std.specs.Prelude.{slice_get}
 use Rattle.std.proofs.lemmas.Bool.{cases_lt}
 use Rattle.std.proofs.lemmas.List.{length_push, length-map}
 use Rattle.bs_clause.specs.Literal.{Literal}
-use Rattle.bs_watch.specs.declared.span.Span.{Span}
+use Rattle.bs_watch.specs.declared.false_span.FalseSpan.{FalseSpan}
 use Rattle.bs_watch.specs.Places.{Place, TrailState, IsLiteralAt, renamed_place}
 use Rattle.bs_watch.specs.Spans.{negative, no_span, IsSpan}
 use Rattle.bs_watch.proofs.Gets.{get_left, get_take, take_get, get_map}
 use Rattle.bs_watch.proofs.Levels.{length_front}
 
 -- no variable
-pub empty_span : (t : TrailState) (s : Span) → 1 ≤ s.first → s.past ≡ s.first → s.first ≤ t.vars + 1 → s.places ≡ 0 → IsSpan t s
+pub empty_span : (t : TrailState) (s : FalseSpan) → 1 ≤ s.first → s.past ≡ s.first → s.first ≤ t.vars + 1 → s.places ≡ 0 → IsSpan t s
 empty_span t s low none high few = record {
   low = low;
   order = omega (arith, none);
@@ -21,7 +21,7 @@ empty_span t s low none high few = record {
 }
 
 -- the trail keeps the places of the span
-pub kept_span : (old new : TrailState) (s : Span) → old.vars ≤ new.vars → s.places ≤ length new.places →
+pub kept_span : (old new : TrailState) (s : FalseSpan) → old.vars ≤ new.vars → s.places ≤ length new.places →
     ((k : ℕ) (p : Place) → k < s.places → slice_get old.places k ≡ Some p → (q : Place) × (slice_get new.places k ≡ Some q) × (q.literal ≡ p.literal)) →
     IsSpan old s → IsSpan new s
 kept_span old new s vars long keeps is = record {
@@ -35,28 +35,28 @@ kept_span old new s vars long keeps is = record {
       (k, before, (q, there, alike ∙ place.2));
 }
 
-pub pushed_span : (t : TrailState) (p : Place) (s : Span) → IsSpan t s → IsSpan (record { vars = t.vars; places = t.places ++ p ∷ [] }) s
+pub pushed_span : (t : TrailState) (p : Place) (s : FalseSpan) → IsSpan t s → IsSpan (record { vars = t.vars; places = t.places ++ p ∷ [] }) s
 pushed_span t p s is =
     kept_span t (record { vars = t.vars; places = t.places ++ p ∷ [] }) s (omega arith) (omega (arith, is.within, length_push t.places p))
     (λ k q before at. (q, get_left t.places (p ∷ []) k q at, refl)) is
 
-pub advanced_span : (old new : TrailState) (s : Span) → new.vars ≡ old.vars → length old.places ≤ length new.places →
+pub advanced_span : (old new : TrailState) (s : FalseSpan) → new.vars ≡ old.vars → length old.places ≤ length new.places →
     take (length old.places) new.places ≡ old.places → IsSpan old s → IsSpan new s
 advanced_span old new s vars more front is =
     kept_span old new s (omega (arith, vars)) (omega (arith, is.within, more))
     (λ k p before at. (p, (get_take (length old.places) new.places k p (ap (λ ps. slice_get ps k) front ∙ at)).1, refl)) is
 
-pub renamed_span : (t : TrailState) (names : List (ℕ × ℕ)) (s : Span) → IsSpan t s →
+pub renamed_span : (t : TrailState) (names : List (ℕ × ℕ)) (s : FalseSpan) → IsSpan t s →
     IsSpan (record { vars = t.vars; places = map (renamed_place names) t.places }) s
 renamed_span t names s is =
     kept_span t (record { vars = t.vars; places = map (renamed_place names) t.places }) s (omega arith)
     (omega (arith, is.within, length-map t.places (renamed_place names)))
     (λ k p before at. (renamed_place names p, get_map (renamed_place names) t.places k p at, refl)) is
 
-pub grown_span : (t : TrailState) (s : Span) → IsSpan t s → IsSpan (record { vars = t.vars + 1; places = t.places }) s
+pub grown_span : (t : TrailState) (s : FalseSpan) → IsSpan t s → IsSpan (record { vars = t.vars + 1; places = t.places }) s
 grown_span t s is = kept_span t (record { vars = t.vars + 1; places = t.places }) s (omega arith) is.within (λ k p before at. (p, at, refl)) is
 
-pub cut_span : (t : TrailState) (end : ℕ) (s new : Span) → end ≤ length t.places →
+pub cut_span : (t : TrailState) (end : ℕ) (s new : FalseSpan) → end ≤ length t.places →
     ((new ≡ s) × (s.places ≤ end)) ⊎ (new ≡ no_span s) → IsSpan t s → IsSpan (record { vars = t.vars; places = take end t.places }) new
 cut_span t end s new short (inl same) is =
     subst (IsSpan (record { vars = t.vars; places = take end t.places })) (sym same.0)
@@ -67,7 +67,7 @@ cut_span t end s new short (inr none) is =
     (empty_span (record { vars = t.vars; places = take end t.places }) (no_span s) is.low refl (omega (arith, is.order, is.high)) refl)
 
 -- one more variable, which is false by the last place
-pub longer_span : (t : TrailState) (s : Span) (l : Literal) (n : ℕ) → n ≡ length t.places → 1 ≤ n → IsLiteralAt t.places (n - 1) l → l.variable ≤ t.vars →
+pub longer_span : (t : TrailState) (s : FalseSpan) (l : Literal) (n : ℕ) → n ≡ length t.places → 1 ≤ n → IsLiteralAt t.places (n - 1) l → l.variable ≤ t.vars →
     l.positive ≡ false → l.variable ≡ s.past → IsSpan t s → IsSpan t (record { first = s.first; past = s.past + 1; places = n })
 longer_span t s l n long some at range sign next is = record {
   low = is.low;

@@ -1,8 +1,8 @@
 -- What a look at a clause finds.
 use Rattle.std.specs.Prelude.{◌≡◌, ◌⊎◌, ℕ, ◌<◌, ◌≤◌, List, Some, Contains, slice_get}
 use Rattle.bs_clause.specs.Literal.{Literal, Clause}
-use Rattle.bs_watch.specs.declared.look.Look.{Look}
-use Rattle.bs_watch.specs.declared.look.Look.TheVariants.{True, Free, Unit as IsUnitOf, False}
+use Rattle.bs_watch.specs.declared.clause_look.ClauseLook.{ClauseLook}
+use Rattle.bs_watch.specs.declared.clause_look.ClauseLook.TheVariants.{True, Free, Unit as IsUnitOf, False}
 use Rattle.bs_watch.specs.Trail.{IsTrueOn, IsFalseOn, IsConflict, Implies}
 
 -- the literal is one of the two that the clause watches
@@ -29,7 +29,7 @@ pub record IsFree (trail : List Literal) (c : Clause) (falsified : Literal) (sid
   pub there : slice_get c place ≡ Some literal
   pub free : ¬ IsFalseOn trail literal
 
-abbrev pub Says : List Literal → Clause → Literal → Look → Type 0
+abbrev pub Says : List Literal → Clause → Literal → ClauseLook → Type 0
 Says trail c falsified (True l) = Contains c l × IsTrueOn trail l
 Says trail c falsified (Free side place l) = IsFree trail c falsified side place l
 Says trail c falsified (IsUnitOf l) = Implies trail c l

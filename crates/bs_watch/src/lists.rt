@@ -19,11 +19,11 @@ pub struct Watcher {
 
 /// For each code the watchers of its literal.
 #[derive(Drop)]
-pub struct Lists {
+pub struct WatchLists {
     rows: Vec<Vec<Watcher>>,
 }
 
-impl Model for Lists {
+impl Model for WatchLists {
     ghost use Rattle.std.specs.Prelude.{List, map};
     ghost use Rattle.bs_watch.specs.declared.lists.Watcher.{Watcher};
 
@@ -32,16 +32,16 @@ impl Model for Lists {
     ghost view = { λ l. map (λ v. v.items) l.rows.items };
 }
 
-impl Lists {
+impl WatchLists {
     /// So many empty lists.
-    pub fn new(alloc: Global, count: usize) -> Result<Lists, NoMemory>
+    pub fn new(alloc: Global, count: usize) -> Result<WatchLists, NoMemory>
         ensures { IfOk result (λ l. l ≡ replicate count []) }
     {
         let mut rows = Vec::new(alloc);
         for _ in 0..count {
             rows.push(Vec::new(alloc))?;
         }
-        Ok(Lists { rows })
+        Ok(WatchLists { rows })
     }
 
     /// The number of lists.

@@ -3,14 +3,14 @@ ghost use Rattle.std.specs.Prelude.{◌≡◌, ◌<◌, ◌≤◌, length, IfOk}
 ghost use Rattle.bs_watch.specs.Passing.{ArePassed};
 ghost use Rattle.bs_watch.specs.Scene.{AreListed, AreGuarded, Advances, Propagated, KeepsRoom, scene_in};
 
-use crate::lists::Lists;
+use crate::lists::WatchLists;
 use crate::trail::Trail;
 use crate::visit::{Outcome, visit_all};
 use bs_arena::Arena;
 use bs_clause::NoMemory;
 
 /// The first place of the trail, from one on, whose negated literal is watched, or the end of the trail.
-pub fn first_watched(trail: &Trail, lists: &Lists, start: usize) -> usize
+pub fn first_watched(trail: &Trail, lists: &WatchLists, start: usize) -> usize
     requires { start ≤ length trail.now.places }
     ensures { ArePassed lists.now trail.now.places start result }
 {
@@ -25,7 +25,7 @@ pub fn first_watched(trail: &Trail, lists: &Lists, start: usize) -> usize
 /// is false.
 pub fn look_on(
     trail: &mut Trail,
-    lists: &mut Lists,
+    lists: &mut WatchLists,
     arena: &mut Arena,
     level: u32,
     head: &mut usize,

@@ -3,12 +3,12 @@ ghost use Rattle.std.specs.Prelude.{◌≡◌, ◌<◌, length, All};
 ghost use Rattle.bs_clause.specs.Literal.{code_of};
 ghost use Rattle.bs_watch.specs.Sweep.{ArePlaced, Thins, AllLive, AreLiveIn};
 
-use crate::lists::Lists;
+use crate::lists::WatchLists;
 use bs_arena::Arena;
 use bs_clause::Lit;
 
 // Takes the watchers of killed clauses out of a literal's list.
-fn sweep_list(lists: &mut Lists, arena: &Arena, l: Lit)
+fn sweep_list(lists: &mut WatchLists, arena: &Arena, l: Lit)
     requires code { code_of l < length lists.old }
     requires placed { ArePlaced lists.old arena.now.places }
     ensures thins { Thins arena.now.clauses lists.old lists.new }
@@ -25,7 +25,7 @@ fn sweep_list(lists: &mut Lists, arena: &Arena, l: Lit)
 }
 
 /// Takes the watchers of killed clauses out of the lists of these literals, list by list.
-pub fn sweep_lists(lists: &mut Lists, arena: &Arena, literals: &[Lit])
+pub fn sweep_lists(lists: &mut WatchLists, arena: &Arena, literals: &[Lit])
     requires codes { All (λ l. code_of l < length lists.old) literals.now }
     requires placed { ArePlaced lists.old arena.now.places }
     ensures thins { Thins arena.now.clauses lists.old lists.new }

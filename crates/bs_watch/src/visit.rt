@@ -5,14 +5,14 @@ ghost use Rattle.bs_watch.specs.Places.{literals_of};
 ghost use Rattle.bs_watch.specs.Lists.{row};
 ghost use Rattle.bs_watch.specs.Scene.{AreListed, AreMet, Advances, Visited, AllVisited, KeepsRoom, scene_in};
 
-use crate::lists::{Lists, Watcher};
-use crate::look::{Look, look_at};
+use crate::clause_look::{ClauseLook, look_at};
+use crate::lists::{WatchLists, Watcher};
 use crate::trail::Trail;
 use bs_arena::{Arena, Ref};
 use bs_clause::{Lit, NoMemory};
 
 /// Where propagation ends.
-#[derive(Clone, Copy, Debug, PartialEq, Eq)]
+#[derive(Clone, Copy)]
 pub enum Outcome {
     /// No attached clause is false or unit.
     Quiet,
@@ -34,7 +34,7 @@ pub enum Visit {
 /// Visits the clause at a place of the false literal's list.
 pub fn visit_at(
     trail: &mut Trail,
-    lists: &mut Lists,
+    lists: &mut WatchLists,
     arena: &mut Arena,
     level: u32,
     falsified: Lit,
@@ -56,7 +56,7 @@ pub fn visit_at(
         return Ok(Visit::Stays);
     }
     match look_at(trail, arena.lits(watcher.clause), falsified) {
-        Look::True(literal) => {
+        ClauseLook::True(literal) => {
             lists.set(
                 falsified,
                 at,
@@ -67,7 +67,7 @@ pub fn visit_at(
             );
             Ok(Visit::Stays)
         }
-        Look::Free {
+        ClauseLook::Free {
             side,
             place,
             literal,
@@ -83,18 +83,18 @@ pub fn visit_at(
             lists.remove(falsified, at);
             Ok(Visit::Moves)
         }
-        Look::Unit(literal) => {
+        ClauseLook::Unit(literal) => {
             trail.assign(literal, Some(watcher.clause), level);
             Ok(Visit::Stays)
         }
-        Look::False => Ok(Visit::Conflict(watcher.clause)),
+        ClauseLook::False => Ok(Visit::Conflict(watcher.clause)),
     }
 }
 
 /// Visits the clauses of the false literal's list, until one is false.
 pub fn visit_all(
     trail: &mut Trail,
-    lists: &mut Lists,
+    lists: &mut WatchLists,
     arena: &mut Arena,
     level: u32,
     falsified: Lit,

@@ -17,9 +17,9 @@ ghost use Rattle.bs_watch.specs.Watch.{scene, grown, decided, assigned, with_hea
 
 use crate::attachment::join_two;
 use crate::choice::lift;
-use crate::lists::Lists;
+use crate::false_span::{FalseSpan, cut, longer};
+use crate::lists::WatchLists;
 use crate::propagation::{first_watched, look_on};
-use crate::span::{Span, cut, longer};
 use crate::sweep::sweep_lists;
 use crate::trail::Trail;
 use crate::visit::Outcome;
@@ -29,7 +29,7 @@ use std::alloc::Global;
 use std::marker::Model;
 
 /// Where a level begins: how many places the trail had, and how many of them had been looked at.
-#[derive(Clone, Copy, Debug, PartialEq, Eq)]
+#[derive(Clone, Copy)]
 pub struct Level {
     pub start: usize,
     pub looked: usize,
@@ -42,8 +42,8 @@ pub struct Watch {
     trail: Trail,
     levels: Vec<Level>,
     head: usize,
-    lists: Lists,
-    span: Span,
+    lists: WatchLists,
+    span: FalseSpan,
 }
 
 impl Model for Watch {
@@ -70,13 +70,13 @@ impl Watch {
         let trail = Trail::new(alloc, vars)?;
         let mut levels = Vec::new(alloc);
         levels.reserve(vars as usize + 1)?;
-        let lists = Lists::new(alloc, 2 * vars as usize + 2)?;
+        let lists = WatchLists::new(alloc, 2 * vars as usize + 2)?;
         Ok(Watch {
             trail,
             levels,
             head: 0,
             lists,
-            span: Span {
+            span: FalseSpan {
                 first: vars + 1,
                 past: vars + 1,
                 places: 0,
@@ -321,7 +321,7 @@ impl Watch {
     }
 
     /// Variables in a row that are false, which need no look at each. It begins behind those of `new`.
-    pub fn span(&self) -> Span
+    pub fn span(&self) -> FalseSpan
         ensures { IsSpan self.now.trail result }
     {
         self.span

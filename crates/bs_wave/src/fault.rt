@@ -6,7 +6,7 @@ use std::fmt::Display;
 use thiserror::Error;
 
 /// Why a wave's text is refused (docs/FORMATS.md, "Waveform"). A line counts from 1.
-#[derive(Clone, Copy, Debug, PartialEq, Eq, Error)]
+#[derive(Clone, Copy, Debug, Error)]
 pub enum WaveFault {
     #[error("line {0} cannot stand in its place, or is missing")]
     Line(u64),

@@ -5,6 +5,9 @@
 //! `tracing` (`Wave::trace`), `law`. Used above: `Wave::of` gives the wave of the trace,
 //! `IsWaveOf`, of which there is one. What is unknown at the end: `specs/Wave` and `decided`; a
 //! line: `specs/WaveText` and `specs/WaveReading`, with `text` and `forms`.
+//!
+//! Why: at the last moment the output of a gate is unknown, even if no data input reaches it. So one rule holds for
+//! all gates.
 #![tactic(auto)]
 
 mod decided;
@@ -22,5 +25,6 @@ mod wave;
 
 pub use fault::WaveFault;
 pub use law::{waves_read_back, waves_show_traces, wrong_lines_are_named};
+pub use text::{is_same, value_code};
 pub use value::Value;
 pub use wave::{Trace, Wave};

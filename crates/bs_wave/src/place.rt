@@ -1,7 +1,7 @@
 //! The places of a wave's text.
 
 /// What the next line of a wave's text may be.
-#[derive(Clone, Copy, Debug, PartialEq, Eq)]
+#[derive(Clone, Copy)]
 pub enum TextPlace {
     /// `$timescale 1ns $end`
     Timescale,

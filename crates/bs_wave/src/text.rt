@@ -11,7 +11,7 @@ use crate::wave::Wave;
 use bs_bits::{List, NoMemory, end_line, push_line, push_number, push_piece};
 
 /// The character of a value.
-fn value_code(value: Value) -> u8
+pub fn value_code(value: Value) -> u8
     ensures { result ≡ value_code value }
 {
     match value {
@@ -22,7 +22,7 @@ fn value_code(value: Value) -> u8
 }
 
 /// Whether two values are the same.
-pub(crate) fn is_same(a: Value, b: Value) -> bool
+pub fn is_same(a: Value, b: Value) -> bool
     ensures { result ≡ same_value a b }
 {
     match a {

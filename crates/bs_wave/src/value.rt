@@ -1,7 +1,7 @@
 //! The value that a net has at a moment.
 
 /// A value of four-state logic without high impedance.
-#[derive(Clone, Copy, Debug, PartialEq, Eq)]
+#[derive(Clone, Copy)]
 pub enum Value {
     Zero,
     One,

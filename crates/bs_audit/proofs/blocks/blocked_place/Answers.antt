@@ -1,4 +1,4 @@
-use Rattle.bs_report_good.specs.Step.{listed}
+use Rattle.bs_report.specs.Step.{listed}
 use Rattle.bs_audit.proofs.BlockLemmas.{not_due_none, due_place}
 use Rattle.bs_audit.proofs.blocks.blocked_place.Goals as goal
 

@@ -1,4 +1,4 @@
-use Rattle.bs_report_good.specs.Step.{listed}
+use Rattle.bs_report.specs.Step.{listed}
 use Rattle.std.proofs.Common.{refl}
 use Rattle.bs_audit.proofs.BlockLemmas.{line_is_due, line_is_noted}
 use Rattle.bs_audit.proofs.blocks.note_line.Goals as goal

@@ -1,7 +1,7 @@
 use Rattle.std.proofs.Common.{◌∙◌, sym}
 use Rattle.bs_encode.specs.Assuming.{block_for}
-use Rattle.bs_report_good.specs.Step.{listed}
-use Rattle.bs_report_good.specs.Valid.{blocks_due, has_clause}
+use Rattle.bs_report.specs.Step.{listed}
+use Rattle.bs_report.specs.Valid.{blocks_due, has_clause}
 use Rattle.bs_audit.proofs.BlockLemmas.{known_more, noted_more, unknown_one}
 use Rattle.bs_audit.proofs.blocks.note_lines.Goals as goal
 

@@ -1,8 +1,8 @@
 use Rattle.std.proofs.Common.{◌≡◌, take, true}
 use Rattle.std.specs.List.{list_all}
 use Rattle.bs_encode.specs.Assuming.{block_for}
-use Rattle.bs_report_good.specs.Step.{listed}
-use Rattle.bs_report_good.specs.Valid.{blocks_due, blocks_in, has_clause}
+use Rattle.bs_report.specs.Step.{listed}
+use Rattle.bs_report.specs.Valid.{blocks_due, blocks_in, has_clause}
 use Rattle.bs_audit.specs.Blocked.{AreNoted}
 use Rattle.bs_audit.proofs.blocks.note_lines.Given as goal
 

@@ -1,6 +1,6 @@
 use Rattle.std.proofs.Common.{◌+◌, ◌-◌, ◌/◌, arith}
 use Rattle.std.specs.declared.cmp.Ordering.TheVariants.{Less, Equal, Greater}
-use Rattle.bs_report_good.specs.Step.{listed}
+use Rattle.bs_report.specs.Step.{listed}
 use Rattle.bs_audit.proofs.BlockLemmas.{middle_below, compared, listed_length, less_below, greater_above, stands_at, not_found}
 use Rattle.bs_audit.proofs.blocks.place_of.Goals as goal
 

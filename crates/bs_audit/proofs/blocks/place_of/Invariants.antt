@@ -1,5 +1,5 @@
 use Rattle.std.proofs.Common.{◌-◌, ◌≤◌, length}
-use Rattle.bs_report_good.specs.Step.{listed}
+use Rattle.bs_report.specs.Step.{listed}
 use Rattle.bs_audit.proofs.BlockLemmas.{AllLess, AllGreater}
 use Rattle.bs_audit.proofs.blocks.place_of.Given as goal
 

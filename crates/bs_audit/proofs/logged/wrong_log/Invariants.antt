@@ -1,6 +1,6 @@
 use Rattle.std.proofs.Common.{◌≡◌, drop}
 use Rattle.bs_log.specs.Steps.{steps_of}
-use Rattle.bs_report_good.specs.Valid.{each_step, first_of_all, log_parts}
+use Rattle.bs_report.specs.Valid.{each_step, first_of_all, log_parts}
 use Rattle.bs_audit.specs.Logged.{basis_with}
 use Rattle.bs_audit.proofs.logged.wrong_log.Given as goal
 

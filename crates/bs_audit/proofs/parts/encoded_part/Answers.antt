@@ -3,7 +3,7 @@ use Rattle.std.proofs.lemmas.List.{length-map}
 use Rattle.bs_net.specs.Netlist.{circuit}
 use Rattle.bs_encode.specs.Depth.{basis_of}
 use Rattle.bs_encode.proofs.AssumingLemmas.{length_steps_from}
-use Rattle.bs_report_good.specs.Chain.{present_of}
+use Rattle.bs_report.specs.Chain.{present_of}
 use Rattle.bs_audit.specs.Logged.{basis_with}
 use Rattle.bs_audit.proofs.WholeLemmas.{same_basis, tidy_fit, log_of}
 use Rattle.bs_audit.proofs.parts.encoded_part.Goals as goal

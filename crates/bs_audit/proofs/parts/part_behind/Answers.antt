@@ -4,10 +4,10 @@ use Rattle.bs_scan.specs.declared.seen.Seen.{Seen}
 use Rattle.bs_net.specs.Netlist.{circuit}
 use Rattle.bs_scan.specs.Choice.{depth_of}
 use Rattle.bs_encode.specs.Depth.{basis_of}
-use Rattle.bs_report_good.specs.declared.part.Part.TheVariants as parts
-use Rattle.bs_report_good.specs.Chain.{present_of}
-use Rattle.bs_report_good.specs.Trace.{end_of}
-use Rattle.bs_report_good.specs.Valid.{first_of_all}
+use Rattle.bs_report.specs.declared.part.Part.TheVariants as parts
+use Rattle.bs_report.specs.Chain.{present_of}
+use Rattle.bs_report.specs.Trace.{end_of}
+use Rattle.bs_report.specs.Valid.{first_of_all}
 use Rattle.bs_scan.specs.Present.{present_in}
 use Rattle.bs_audit.specs.Logged.{behind_parts}
 use Rattle.bs_audit.proofs.WholeLemmas.{stop_fails, trace_fails, behind_log, few_steps, fit_cands}

@@ -1,7 +1,7 @@
 use Rattle.std.proofs.Common.{◌∙◌, ap, Some}
 use Rattle.std.specs.Prelude.{option_map}
 use Rattle.bs_report.specs.declared.report.Step.{Step}
-use Rattle.bs_report_good.specs.Valid.{cause_of_end}
+use Rattle.bs_report.specs.Valid.{cause_of_end}
 use Rattle.bs_audit.proofs.LastLemmas.{last_is}
 use Rattle.bs_audit.proofs.stop.last_cause.Goals as goal
 

@@ -1,6 +1,6 @@
 use Rattle.std.proofs.Common.{◌∙◌, sym}
 use Rattle.std.specs.Prelude.{option_map}
-use Rattle.bs_report_good.specs.Trace.{hit_state}
+use Rattle.bs_report.specs.Trace.{hit_state}
 use Rattle.bs_audit.proofs.Cuts.{cut_once, uncut_once}
 use Rattle.bs_audit.proofs.trace.are_hits.Goals as goal
 

@@ -1,7 +1,7 @@
 use Rattle.std.proofs.Common.{◌≡◌, drop}
 use Rattle.std.specs.Prelude.{reverse, filter_map}
-use Rattle.bs_report_good.specs.Trace.{hit_state}
-use Rattle.bs_report_good.specs.Valid.{all_bits_eq}
+use Rattle.bs_report.specs.Trace.{hit_state}
+use Rattle.bs_report.specs.Valid.{all_bits_eq}
 use Rattle.bs_audit.proofs.trace.are_hits.Given as goal
 
 abbrev pub invariant-steps : goal.invariant-steps

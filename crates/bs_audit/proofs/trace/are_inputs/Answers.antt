@@ -1,7 +1,7 @@
 use Rattle.std.proofs.Common.{◌∙◌, sym}
 use Rattle.std.specs.Prelude.{option_map, option_and_then}
 use Rattle.bs_report.specs.declared.report.Step.{Step}
-use Rattle.bs_report_good.specs.Trace.{hit_state, input_for}
+use Rattle.bs_report.specs.Trace.{hit_state, input_for}
 use Rattle.bs_audit.proofs.Cuts.{cut_once, uncut_once}
 use Rattle.bs_audit.proofs.trace.are_inputs.Goals as goal
 

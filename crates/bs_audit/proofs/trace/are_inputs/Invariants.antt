@@ -1,7 +1,7 @@
 use Rattle.std.proofs.Common.{◌≡◌, drop}
 use Rattle.std.specs.Prelude.{reverse, filter_map, option_and_then}
-use Rattle.bs_report_good.specs.Trace.{hit_state, input_for, trace_inputs}
-use Rattle.bs_report_good.specs.Valid.{all_bits_eq}
+use Rattle.bs_report.specs.Trace.{hit_state, input_for, trace_inputs}
+use Rattle.bs_report.specs.Valid.{all_bits_eq}
 use Rattle.bs_audit.proofs.trace.are_inputs.Given as goal
 
 abbrev pub invariant-steps : goal.invariant-steps

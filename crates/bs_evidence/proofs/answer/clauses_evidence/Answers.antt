@@ -1,7 +1,7 @@
 use Rattle.std.proofs.Common.{◌≡◌, ◌∙◌, ◌*◌, ℕ, sym, subst, ap, arith, length}
 use Rattle.std.specs.Prelude.{IfSome}
 use Rattle.std.proofs.lemmas.List.FromFn.{length-map-range_with_len}
-use Rattle.bs_log_dimacs.specs.Walk.{IsOneOf}
+use Rattle.bs_log.specs.Walk.{IsOneOf}
 use Rattle.bs_evidence.proofs.ProblemLemmas.{evidence_of, problem_over}
 use Rattle.bs_reach_unrolled.specs.Unrolled.{length_assumes, reach_problem}
 use Rattle.bs_evidence.proofs.LengthLemmas.{same_problem}

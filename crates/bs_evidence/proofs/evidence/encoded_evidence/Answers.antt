@@ -1,10 +1,10 @@
 use Rattle.std.proofs.Common.{◌∙◌, sym, map, length, arith, ap, subst}
 use Rattle.std.specs.Prelude.{IfSome}
 use Rattle.std.proofs.lemmas.List.{length-map}
-use Rattle.bs_log_dimacs.specs.Walk.{IsOneOf}
+use Rattle.bs_log.specs.Walk.{IsOneOf}
 use Rattle.bs_net.specs.Netlist.{circuit}
 use Rattle.bs_encode.proofs.AssumingLemmas.{length_steps_from}
-use Rattle.bs_report_good.specs.Chain.{present_of}
+use Rattle.bs_report.specs.Chain.{present_of}
 use Rattle.bs_evidence.specs.Evidence.{problem_for}
 use Rattle.bs_evidence.proofs.FitLemmas.{fits_suit}
 use Rattle.bs_evidence.proofs.ProblemLemmas.{problem_over, same_problem, evidence_of}

@@ -1,5 +1,5 @@
 use Rattle.std.proofs.Common.{refl}
-use Rattle.bs_verilog_lexemes.specs.declared.lexeme.Name.{Name}
+use Rattle.bs_lex.specs.declared.lexeme.Name.{Name}
 use Rattle.bs_verilog_scope.specs.Checking.{looked}
 use Rattle.bs_flat_connect.proofs.PortLemmas.{ids_more, ports_more, ports_all}
 use Rattle.bs_flat_connect.proofs.ports.header_ports.Goals as goal

@@ -5,7 +5,7 @@ use Rattle.bs_flat_nets.specs.Climbing.{node_at}
 use Rattle.bs_flat_nets.specs.Free.{free_nets, free_of, free_of_node, count_in, known_in}
 use Rattle.bs_flat_nets.specs.Numbering.{AreByNode}
 use Rattle.bs_flat_nets.specs.Tally.{no_tally, IsTally}
-use Rattle.bs_flat_nets.specs.declared.tally.Tally.{Tally}
+use Rattle.bs_flat_nets.specs.declared.tally.NetTally.{NetTally}
 use Rattle.bs_flat_nets.proofs.RiseLemmas.{AreUpTo, up_to_top, up_to_more, by_node_at_end, free_ascend, node_ascends}
 use Rattle.bs_flat_nets.proofs.TallyLemmas.{Placed, placed_none, placed_nets}
 use Rattle.bs_flat_nets.proofs.PlaceLemmas.{some_node, tally_top, tally_node, whole_tally}
@@ -19,10 +19,10 @@ nodes-init c =
     let d = design_of blocks top in
     record {
       nets =
-          subst (λ (t : Tally). IsTally d (free_of d (take 1 (paths d))) t) (sym c.requires.first)
+          subst (λ (t : NetTally). IsTally d (free_of d (take 1 (paths d))) t) (sym c.requires.first)
           (tally_top blocks nodes top c.requires.design c.requires.paths);
       placed =
-          subst (λ (t : Tally). Placed (length nodes) t) (sym c.requires.first)
+          subst (λ (t : NetTally). Placed (length nodes) t) (sym c.requires.first)
           (placed_nets (length nodes) 0 (known_in blocks top) (free_nets [] (count_in blocks top)) no_tally (some_node blocks nodes top c.requires.paths)
           (placed_none (length nodes)));
       by_node =
@@ -42,10 +42,10 @@ nodes-preserved c =
     let up : 0 < at = omega (arith, c.nodes.auto.at) in
     record {
       nets =
-          subst (λ (t : Tally). IsTally d (free_of d (take (at + 1) (paths d))) t) (sym c.in_ok-push_node.ensures)
+          subst (λ (t : NetTally). IsTally d (free_of d (take (at + 1) (paths d))) t) (sym c.in_ok-push_node.ensures)
           (tally_node blocks nodes top at c.nodes.tally c.requires.design c.requires.paths up c.nodes-test.true c.nodes.invariant.nets);
       placed =
-          subst (λ (t : Tally). Placed (length nodes) t) (sym c.in_ok-push_node.ensures)
+          subst (λ (t : NetTally). Placed (length nodes) t) (sym c.in_ok-push_node.ensures)
           (placed_nets (length nodes) at (known_in blocks (node_at nodes at).of) (free_of_node blocks nodes at) c.nodes.tally c.nodes-test.true
           c.nodes.invariant.placed);
       by_node =

@@ -1,6 +1,6 @@
 use Rattle.std.proofs.Common.{◌≡◌, ◌≤◌, ◌++◌, length, map, take, filter}
 use Rattle.std.specs.List.{flat_map}
-use Rattle.bs_net_names.specs.Signals.{signal_in}
+use Rattle.bs_inspect_view.specs.Signals.{signal_in}
 use Rattle.bs_inspect_check.specs.declared.lines.TheConstants.{MAX_LINES}
 use Rattle.bs_inspect_check.specs.Text.{missing_line, signal_missing}
 use Rattle.bs_inspect_check.proofs.missing.push_first.Given as goal

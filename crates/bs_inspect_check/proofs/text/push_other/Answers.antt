@@ -1,5 +1,5 @@
 use Rattle.std.specs.Prelude.{codes, map}
-use Rattle.bs_net_names.specs.Signals.{signal_in}
+use Rattle.bs_inspect_view.specs.Signals.{signal_in}
 use Rattle.bs_inspect_check.specs.Text.{difference_text, like_text, word_line}
 use Rattle.bs_inspect_check.proofs.TextLemmas.{three_on}
 use Rattle.bs_inspect_check.proofs.text.push_other.Goals as goal

@@ -1,7 +1,6 @@
 use Rattle.std.proofs.Common.{List, Ok, ◌∙◌}
 use Rattle.bs_outside.specs.Plan.{Plan, end}
-use Rattle.bs_top_files.specs.NoteCases.{NoteCase}
-use Rattle.bs_top_files.specs.Refusals.{Case}
+use Rattle.bs_top_files.specs.Causes.{Case}
 use Rattle.bs_inspect_check.specs.declared.comparison.Comparison.{Comparison}
 use Rattle.bs_outside.proofs.TellingLemmas.{diagnosed_end, diagnosed_stop, diagnosed_then}
 use Rattle.bs_inspect_files.specs.Checked.{Checked}
@@ -10,11 +9,9 @@ use Rattle.bs_inspect_files.proofs.checking.load_all.Goals as goal
 pub returns-in-Ok : goal.returns-in-Ok
 returns-in-Ok g c =
     let f : List Comparison → Plan Case Checked = λ ms. end record { raw = c.args.run_files.net.raw; comparisons = ms } in
-    let h : List Comparison → Plan NoteCase Checked = λ ms. end record { raw = c.args.run_files.net.raw; comparisons = ms } in
-    diagnosed_then f h c.in-Ok.ensures diagnosed_end
+    diagnosed_then f c.in-Ok.ensures diagnosed_end
 
 pub returns-in-Err : goal.returns-in-Err
 returns-in-Err g c =
     let f : List Comparison → Plan Case Checked = λ ms. end record { raw = c.args.run_files.net.raw; comparisons = ms } in
-    let h : List Comparison → Plan NoteCase Checked = λ ms. end record { raw = c.args.run_files.net.raw; comparisons = ms } in
-    diagnosed_stop f h c.in-Err.ensures
+    diagnosed_stop f c.in-Err.ensures

@@ -3,7 +3,7 @@ use Rattle.std.specs.Option.{option_map}
 use Rattle.bs_inspect_report.specs.Keys.{flop_keys}
 use Rattle.bs_inspect_values.specs.Dumped.{clock_or}
 use Rattle.bs_inspect_values.proofs.WalkLemmas.{diagnosed_with}
-use Rattle.bs_inspect_files.specs.Checked.{Beside, named_looked, named_of}
+use Rattle.bs_inspect_files.specs.Checked.{Beside, named_of}
 use Rattle.bs_inspect_files.proofs.checking.load_compared.Goals as goal
 
 pub returns : goal.returns
@@ -13,4 +13,4 @@ returns g c =
     let names : Option (List ℕ) = option_map (λ s. s.now) c.args.files.names in
     let at : List ℕ → Beside =
     λ clock. record { raw = c.args.run_files.now.net.raw; runs = c.args.run_files.now.runs; clock = clock; scope = option_map (λ s. s.now) c.args.files.scope } in
-    diagnosed_with (λ (k : List ℕ). named_of keys names (at k) vcds) (λ (k : List ℕ). named_looked keys names (at k) vcds) _ _ c.clock_or.ensures c.load_named.ensures
+    diagnosed_with (λ (k : List ℕ). named_of keys names (at k) vcds) _ _ c.clock_or.ensures c.load_named.ensures

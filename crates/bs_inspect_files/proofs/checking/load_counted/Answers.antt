@@ -1,11 +1,10 @@
 use Rattle.std.proofs.Common.{◌≡◌, ℕ, List, Ok, length, map, ◌∙◌}
 use Rattle.bs_outside.specs.Plan.{Plan}
-use Rattle.bs_top_files.specs.NoteCases.{NoteCase}
-use Rattle.bs_top_files.specs.Refusals.{Case}
+use Rattle.bs_top_files.specs.Causes.{Case}
 use Rattle.std.specs.Prelude.{Bool}
 use Rattle.bs_inspect_files.specs.Taken.{run_files_in}
 use Rattle.bs_outside.proofs.TellingLemmas.{diagnosed_read, diagnosed_stop, diagnosed_then}
-use Rattle.bs_inspect_files.specs.Checked.{all_step, all_step_looked, Checked, files_in}
+use Rattle.bs_inspect_files.specs.Checked.{all_step, Checked, files_in}
 use Rattle.bs_outside.specs.declared.file.File.TheVariants as files
 use Rattle.bs_inspect_files.proofs.CountLemmas.{settled_holds}
 use Rattle.bs_inspect_files.proofs.checking.load_counted.Goals as goal
@@ -19,12 +18,10 @@ pub returns-in-Ok : goal.returns-in-Ok
 returns-in-Ok g c =
     let vcds : List (List ℕ) = map (λ s. s.now) c.args.vcds.now in
     let f : Bool → Plan Case Checked = λ fits. all_step (files_in c.args.files) (run_files_in c.args.run_files) vcds in
-    let h : Bool → Plan NoteCase Checked = λ fits. all_step_looked (files_in c.args.files) (run_files_in c.args.run_files) vcds in
-    diagnosed_then f h (diagnosed_read _ _ _ _ c.in-Ok.ensures c.count_or_diagnostic.ensures.words c.count_or_diagnostic.ensures.note) c.load_all.ensures
+    diagnosed_then f (diagnosed_read _ _ _ c.in-Ok.ensures c.count_or_diagnostic.ensures.words c.count_or_diagnostic.ensures.note) c.load_all.ensures
 
 pub returns-in-Err : goal.returns-in-Err
 returns-in-Err g c =
     let vcds : List (List ℕ) = map (λ s. s.now) c.args.vcds.now in
     let f : Bool → Plan Case Checked = λ fits. all_step (files_in c.args.files) (run_files_in c.args.run_files) vcds in
-    let h : Bool → Plan NoteCase Checked = λ fits. all_step_looked (files_in c.args.files) (run_files_in c.args.run_files) vcds in
-    diagnosed_stop f h (diagnosed_read _ _ _ _ c.in-Err.ensures c.count_or_diagnostic.ensures.words c.count_or_diagnostic.ensures.note)
+    diagnosed_stop f (diagnosed_read _ _ _ c.in-Err.ensures c.count_or_diagnostic.ensures.words c.count_or_diagnostic.ensures.note)

@@ -2,10 +2,9 @@ use Rattle.std.proofs.Common.{ℕ, List, [], Vec, map, refl}
 use Rattle.std.specs.declared.alloc.Global.{Global}
 use Rattle.bs_outside.specs.Plan.{Plan, end}
 use Rattle.bs_outside.proofs.TellingLemmas.{diagnosed_stop, diagnosed_then}
-use Rattle.bs_top_files.specs.NoteCases.{NoteCase}
-use Rattle.bs_top_files.specs.Refusals.{Case}
+use Rattle.bs_top_files.specs.Causes.{Case}
 use Rattle.bs_inspect_check.specs.declared.comparison.Comparison.{Comparison}
-use Rattle.bs_inspect_files.specs.Checked.{all_behind, all_behind_looked, beside_in}
+use Rattle.bs_inspect_files.specs.Checked.{all_behind, beside_in}
 use Rattle.bs_inspect_values.proofs.WalkLemmas.{diagnosed_ends, diagnosed_with}
 use Rattle.bs_inspect_files.proofs.comparing.load_all.Goals as goal
 
@@ -15,10 +14,9 @@ returns-in-Ok g c =
     let names : List (List ℕ) = map (λ n. n.now) c.args.names.now in
     let vcds : List (List ℕ) = map (λ s. s.now) c.args.vcds.now in
     let f : List Comparison → Plan Case (List Comparison) = λ comparisons. end comparisons in
-    let h : List Comparison → Plan NoteCase (List Comparison) = λ comparisons. end comparisons in
-    diagnosed_then f h
+    diagnosed_then f
     (diagnosed_with (λ (old : List Comparison). all_behind keys names (beside_in c.args.beside) old vcds)
-    (λ (old : List Comparison). all_behind_looked keys names (beside_in c.args.beside) old vcds) _ [] c.new-comparisons.ensures.items c.in-Ok.ensures)
+    _ [] c.new-comparisons.ensures.items c.in-Ok.ensures)
     (diagnosed_ends (λ (ms : Vec Comparison Global). ms.items) _ _ refl)
 
 pub returns-in-Err : goal.returns-in-Err
@@ -27,7 +25,6 @@ returns-in-Err g c =
     let names : List (List ℕ) = map (λ n. n.now) c.args.names.now in
     let vcds : List (List ℕ) = map (λ s. s.now) c.args.vcds.now in
     let f : List Comparison → Plan Case (List Comparison) = λ comparisons. end comparisons in
-    let h : List Comparison → Plan NoteCase (List Comparison) = λ comparisons. end comparisons in
-    diagnosed_stop f h
+    diagnosed_stop f
     (diagnosed_with (λ (old : List Comparison). all_behind keys names (beside_in c.args.beside) old vcds)
-    (λ (old : List Comparison). all_behind_looked keys names (beside_in c.args.beside) old vcds) _ [] c.new-comparisons.ensures.items c.in-Err.ensures)
+    _ [] c.new-comparisons.ensures.items c.in-Err.ensures)

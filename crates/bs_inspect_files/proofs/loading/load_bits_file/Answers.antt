@@ -2,21 +2,18 @@ use Rattle.std.proofs.Common.{ℕ, List, Bool}
 use Rattle.std.proofs.lemmas.Result.{err_from_is_err_and}
 use Rattle.bs_outside.specs.Plan.{Plan}
 use Rattle.bs_outside.proofs.TellingLemmas.{diagnosed_fetch_stop}
-use Rattle.bs_top_files.specs.NoteCases.{NoteCase}
-use Rattle.bs_top_files.specs.Refusals.{Case}
+use Rattle.bs_top_files.specs.Causes.{Case}
 use Rattle.bs_inspect_values.proofs.WalkLemmas.{diagnosed_fetch_then}
-use Rattle.bs_inspect_files.specs.FlopFiles.{joined_step, joined_step_looked}
+use Rattle.bs_inspect_files.specs.FlopFiles.{joined_step}
 use Rattle.bs_inspect_files.proofs.loading.load_bits_file.Goals as goal
 
 pub returns-in_err-bytes : goal.returns-in_err-bytes
 returns-in_err-bytes g c =
     let f : List ℕ → Plan Case (List Bool) = λ t. joined_step c.args.lines t in
-    let h : List ℕ → Plan NoteCase (List Bool) = λ t. joined_step_looked c.args.lines t in
     let p = err_from_is_err_and c.from_residual.result c.from_residual.ensures.1 in
-    rw (p.1, p.2) (diagnosed_fetch_stop f h c.in_err-bytes.ensures)
+    rw (p.1, p.2) (diagnosed_fetch_stop f c.in_err-bytes.ensures)
 
 pub returns : goal.returns
 returns g c =
     let f : List ℕ → Plan Case (List Bool) = λ t. joined_step c.args.lines t in
-    let h : List ℕ → Plan NoteCase (List Bool) = λ t. joined_step_looked c.args.lines t in
-    diagnosed_fetch_then f h c.deref.result.now c.deref.ensures.value c.in_ok-bytes.ensures c.load_joined.ensures
+    diagnosed_fetch_then f c.deref.result.now c.deref.ensures.value c.in_ok-bytes.ensures c.load_joined.ensures

@@ -1,10 +1,9 @@
 use Rattle.std.proofs.Common.{ℕ, List, Bor, Ok, map, ap, ◌∙◌}
 use Rattle.bs_outside.specs.Plan.{Plan}
-use Rattle.bs_top_files.specs.NoteCases.{NoteCase}
-use Rattle.bs_top_files.specs.Refusals.{Case}
+use Rattle.bs_top_files.specs.Causes.{Case}
 use Rattle.bs_inspect_check.specs.declared.comparison.Comparison.{Comparison}
 use Rattle.bs_inspect_report.specs.Keys.{flop_keys}
-use Rattle.bs_inspect_files.specs.Checked.{all_looked, all_of, beside_in}
+use Rattle.bs_inspect_files.specs.Checked.{all_of, beside_in}
 use Rattle.bs_inspect_values.proofs.WalkLemmas.{diagnosed_want, diagnosed_with}
 use Rattle.bs_inspect_files.proofs.naming.load_keyed.Goals as goal
 
@@ -12,9 +11,8 @@ pub returns-in-Ok : goal.returns-in-Ok
 returns-in-Ok g c =
     let vcds : List (List ℕ) = map (λ s. s.now) c.args.vcds.now in
     let plan : List (List ℕ) → Plan Case (List Comparison) = λ ks. all_of ks ks (beside_in c.args.beside) vcds in
-    let looked : List (List ℕ) → Plan NoteCase (List Comparison) = λ ks. all_looked ks ks (beside_in c.args.beside) vcds in
-    diagnosed_with plan looked (map (λ k. k.now) c.as_slice-keys.result.now) (flop_keys c.args.beside.net.now.raw)
+    diagnosed_with plan (map (λ k. k.now) c.as_slice-keys.result.now) (flop_keys c.args.beside.net.now.raw)
     (ap (λ (ks : List (Bor (List ℕ))). map (λ k. k.now) ks) c.as_slice-keys.ensures.value ∙ c.in-Ok.ensures) c.load_all.ensures
 
 pub returns-in-Err : goal.returns-in-Err
-returns-in-Err g c = diagnosed_want _ _
+returns-in-Err g c = diagnosed_want _

@@ -1,20 +1,18 @@
 use Rattle.std.proofs.Common.{ℕ, List, Bor, Ok, map, ap, ◌∙◌}
 use Rattle.bs_outside.specs.Plan.{Plan}
-use Rattle.bs_top_files.specs.NoteCases.{NoteCase}
-use Rattle.bs_top_files.specs.Refusals.{Case}
+use Rattle.bs_top_files.specs.Causes.{Case}
 use Rattle.bs_inspect_check.specs.declared.comparison.Comparison.{Comparison}
 use Rattle.bs_inspect_report.specs.Keys.{flop_keys}
-use Rattle.bs_inspect_files.specs.Checked.{beside_in, names_step, names_step_looked}
+use Rattle.bs_inspect_files.specs.Checked.{beside_in, names_step}
 use Rattle.bs_inspect_values.proofs.WalkLemmas.{diagnosed_want, diagnosed_with}
 use Rattle.bs_inspect_files.proofs.naming.load_renamed.Goals as goal
 
 pub returns-in-Ok : goal.returns-in-Ok
 returns-in-Ok g c =
     let vcds : List (List ℕ) = map (λ s. s.now) c.args.vcds.now in
-    let plan : List (List ℕ) → Plan Case (List Comparison) = λ ks. names_step ks c.args.text.now (beside_in c.args.beside) vcds in
-    let looked : List (List ℕ) → Plan NoteCase (List Comparison) = λ ks. names_step_looked c.args.path.now ks c.args.text.now (beside_in c.args.beside) vcds in
-    diagnosed_with plan looked (map (λ k. k.now) c.as_slice-keys.result.now) (flop_keys c.args.beside.net.now.raw)
+    let plan : List (List ℕ) → Plan Case (List Comparison) = λ ks. names_step c.args.path.now ks c.args.text.now (beside_in c.args.beside) vcds in
+    diagnosed_with plan (map (λ k. k.now) c.as_slice-keys.result.now) (flop_keys c.args.beside.net.now.raw)
     (ap (λ (ks : List (Bor (List ℕ))). map (λ k. k.now) ks) c.as_slice-keys.ensures.value ∙ c.in-Ok.ensures) c.load_by_names.ensures
 
 pub returns-in-Err : goal.returns-in-Err
-returns-in-Err g c = diagnosed_want _ _
+returns-in-Err g c = diagnosed_want _

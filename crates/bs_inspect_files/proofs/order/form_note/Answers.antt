@@ -1,4 +1,4 @@
-use Rattle.bs_top_reach.proofs.LineLemmas.{line_said}
+use Rattle.bs_reach_answer.proofs.LineLemmas.{line_said}
 use Rattle.bs_inspect_files.proofs.order.form_note.Goals as goal
 
 pub returns : goal.returns

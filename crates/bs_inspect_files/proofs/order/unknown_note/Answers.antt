@@ -1,7 +1,7 @@
 use Rattle.std.proofs.Common.{ℕ, List, Bor, ◌∙◌, ap, map}
 use Rattle.bs_inspect_notes.specs.declared.name.Subject.TheVariants.{Flops}
 use Rattle.bs_inspect_notes.specs.Names.{key_saying, numbered}
-use Rattle.bs_top_reach.proofs.LineLemmas.{line_said}
+use Rattle.bs_reach_answer.proofs.LineLemmas.{line_said}
 use Rattle.bs_inspect_files.proofs.order.unknown_note.Goals as goal
 
 pub returns : goal.returns

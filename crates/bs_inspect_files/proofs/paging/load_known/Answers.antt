@@ -3,8 +3,8 @@ use Rattle.bs_inspect_files.proofs.paging.load_known.Goals as goal
 
 pub returns-in-Ok : goal.returns-in-Ok
 returns-in-Ok g c =
-    diagnosed_then _ _ (diagnosed_read _ _ _ _ c.in-Ok.ensures c.known_or_diagnostic-known.ensures.words c.known_or_diagnostic-known.ensures.note) diagnosed_end
+    diagnosed_then _ (diagnosed_read _ _ _ c.in-Ok.ensures c.known_or_diagnostic-known.ensures.words c.known_or_diagnostic-known.ensures.note) diagnosed_end
 
 pub returns-in-Err : goal.returns-in-Err
 returns-in-Err g c =
-    diagnosed_stop _ _ (diagnosed_read _ _ _ _ c.in-Err.ensures c.known_or_diagnostic-known.ensures.words c.known_or_diagnostic-known.ensures.note)
+    diagnosed_stop _ (diagnosed_read _ _ _ c.in-Err.ensures c.known_or_diagnostic-known.ensures.words c.known_or_diagnostic-known.ensures.note)

@@ -3,7 +3,7 @@ use Rattle.bs_inspect_files.proofs.tracing.load_drawn.Goals as goal
 
 pub returns-in-Ok : goal.returns-in-Ok
 returns-in-Ok g c =
-    diagnosed_then _ _ (diagnosed_read _ _ _ _ c.in-Ok.ensures c.called_or_diagnostic.ensures.words c.called_or_diagnostic.ensures.note) diagnosed_end
+    diagnosed_then _ (diagnosed_read _ _ _ c.in-Ok.ensures c.called_or_diagnostic.ensures.words c.called_or_diagnostic.ensures.note) diagnosed_end
 
 pub returns-in-Err : goal.returns-in-Err
-returns-in-Err g c = diagnosed_stop _ _ (diagnosed_read _ _ _ _ c.in-Err.ensures c.called_or_diagnostic.ensures.words c.called_or_diagnostic.ensures.note)
+returns-in-Err g c = diagnosed_stop _ (diagnosed_read _ _ _ c.in-Err.ensures c.called_or_diagnostic.ensures.words c.called_or_diagnostic.ensures.note)

@@ -2,7 +2,7 @@ use Rattle.bs_outside.proofs.TellingLemmas.{diagnosed_stop, diagnosed_then}
 use Rattle.bs_inspect_files.proofs.tracing.load_driving.Goals as goal
 
 pub returns-in-Ok : goal.returns-in-Ok
-returns-in-Ok g c = diagnosed_then _ _ c.in-Ok.ensures.walks c.load_driven.ensures
+returns-in-Ok g c = diagnosed_then _ c.in-Ok.ensures.walks c.load_driven.ensures
 
 pub returns-in-Err : goal.returns-in-Err
-returns-in-Err g c = diagnosed_stop _ _ c.in-Err.ensures.walks
+returns-in-Err g c = diagnosed_stop _ c.in-Err.ensures.walks

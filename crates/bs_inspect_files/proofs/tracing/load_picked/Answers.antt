@@ -5,14 +5,14 @@ use Rattle.bs_inspect_files.proofs.tracing.load_picked.Goals as goal
 pub returns-in_err-trace_files : goal.returns-in_err-trace_files
 returns-in_err-trace_files g c =
     let p = err_from_is_err_and c.from_residual.result c.from_residual.ensures.1 in
-    rw (p.1, p.2) (diagnosed_stop _ _ c.in_err-trace_files.ensures)
+    rw (p.1, p.2) (diagnosed_stop _ c.in_err-trace_files.ensures)
 
 pub returns-in-Ok : goal.returns-in-Ok
 returns-in-Ok g c =
-    diagnosed_then _ _ c.in_ok-trace_files.ensures
-    (diagnosed_then _ _ (diagnosed_read _ _ _ _ c.in-Ok.ensures c.known_or_diagnostic-known.ensures.words c.known_or_diagnostic-known.ensures.note) diagnosed_end)
+    diagnosed_then _ c.in_ok-trace_files.ensures
+    (diagnosed_then _ (diagnosed_read _ _ _ c.in-Ok.ensures c.known_or_diagnostic-known.ensures.words c.known_or_diagnostic-known.ensures.note) diagnosed_end)
 
 pub returns-in-Err : goal.returns-in-Err
 returns-in-Err g c =
-    diagnosed_then _ _ c.in_ok-trace_files.ensures
-    (diagnosed_stop _ _ (diagnosed_read _ _ _ _ c.in-Err.ensures c.known_or_diagnostic-known.ensures.words c.known_or_diagnostic-known.ensures.note))
+    diagnosed_then _ c.in_ok-trace_files.ensures
+    (diagnosed_stop _ (diagnosed_read _ _ _ c.in-Err.ensures c.known_or_diagnostic-known.ensures.words c.known_or_diagnostic-known.ensures.note))

@@ -1,4 +1,4 @@
-use Rattle.bs_net_names.specs.Signals.{signal_in}
+use Rattle.bs_inspect_view.specs.Signals.{signal_in}
 use Rattle.bs_inspect_html.proofs.BitLemmas.{name_put}
 use Rattle.bs_inspect_html.proofs.names.push_name_cell.Goals as goal
 

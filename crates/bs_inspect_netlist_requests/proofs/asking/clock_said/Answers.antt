@@ -1,4 +1,4 @@
-use Rattle.bs_top_answer.proofs.NoteLemmas.{made_due}
+use Rattle.bs_call.proofs.NoteLemmas.{made_due}
 use Rattle.bs_inspect_netlist_requests.proofs.asking.clock_said.Goals as goal
 
 pub returns : goal.returns

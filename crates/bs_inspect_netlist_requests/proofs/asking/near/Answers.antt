@@ -1,5 +1,5 @@
 use Rattle.std.proofs.Common.{refl}
-use Rattle.bs_inspect_plans.specs.Taken.{near_files_looked, near_files_of}
+use Rattle.bs_inspect_plans.specs.Taken.{near_files_of}
 use Rattle.bs_inspect_words.specs.Asked.{near_in}
 use Rattle.bs_inspect_words.specs.Request.{Near as Asked}
 use Rattle.bs_inspect_plans.specs.Sources.{source_of, sources_of}
@@ -10,11 +10,9 @@ use Rattle.bs_inspect_netlist_requests.proofs.asking.near.Goals as goal
 pub returns-in-Ok : goal.returns-in-Ok
 returns-in-Ok g c =
     walked_done (near_files_of c.args.asked.now.netlist.now c.args.asked.now.runs.now c.args.asked.now.dump.now)
-    (near_files_looked c.args.asked.now.netlist.now c.args.asked.now.runs.now c.args.asked.now.dump.now)
     to_near (source_of (sources_of (Asked (near_in c.args.asked.now)))) _ _ c.silent.ensures refl c.in-Ok.ensures c.tell_near.ensures
 
 pub returns-in-Err : goal.returns-in-Err
 returns-in-Err g c =
     walked_stop (near_files_of c.args.asked.now.netlist.now c.args.asked.now.runs.now c.args.asked.now.dump.now)
-    (near_files_looked c.args.asked.now.netlist.now c.args.asked.now.runs.now c.args.asked.now.dump.now)
     to_near _ (sources_of (Asked (near_in c.args.asked.now))) _ c.near_sources.ensures c.in-Err.ensures c.stop_at.ensures.reply c.stop_at.ensures.note

@@ -1,6 +1,6 @@
 use Rattle.std.proofs.Common.{◌≡◌, ℕ, List, subst}
 use Rattle.std.specs.Prelude.{IfOk}
-use Rattle.bs_top_answer.proofs.NoteLemmas.{made_due}
+use Rattle.bs_call.proofs.NoteLemmas.{made_due}
 use Rattle.bs_inspect_notes.specs.Simulations.{late_text}
 use Rattle.bs_inspect_netlist_requests.proofs.asking.run_said.Goals as goal
 

@@ -1,7 +1,7 @@
 use Rattle.std.proofs.Common.{ℕ, Bor, List, Option, map, refl, sym}
 use Rattle.std.specs.Option.{option_map}
-use Rattle.bs_top_answer.proofs.AnswerLemmas.{diagnosed_as, diagnosed_work}
-use Rattle.bs_inspect_values.specs.Simulated.{simulated_looked, simulated_of}
+use Rattle.bs_call.proofs.AnswerLemmas.{diagnosed_as, diagnosed_work}
+use Rattle.bs_inspect_values.specs.Simulated.{simulated_of}
 use Rattle.bs_inspect_words.specs.Request.{Request, Stimulus}
 use Rattle.bs_inspect_plans.specs.Said.{WorkSaid}
 use Rattle.bs_inspect_plans.specs.Sources.{source_of, sources_of}
@@ -19,8 +19,7 @@ returns-in-Ok g c =
     let slice : List (Bor (List ℕ)) = c.as_slice-vcds.result.now in
     noted_with request c.args.asked.now.vcds.items slice _ (sym c.as_slice-vcds.ensures.value)
     (diagnosed_work WorkSaid (source_of (sources_of (request slice))) _ is_work
-    (diagnosed_as {plan = simulated_of c.args.asked.now.netlist.now names (record { clock = clock; scope = scope }) (map (λ s. s.now) slice)}
-    {looked = simulated_looked c.args.asked.now.netlist.now names (record { clock = clock; scope = scope }) (map (λ s. s.now) slice)} (to_runs clock) c.in-Ok.ensures)
+    (diagnosed_as {plan = simulated_of c.args.asked.now.netlist.now names (record { clock = clock; scope = scope }) (map (λ s. s.now) slice)} (to_runs clock) c.in-Ok.ensures)
     c.runs_answer.ensures.reply c.runs_answer.ensures.note)
 
 pub returns-in-Err : goal.returns-in-Err
@@ -33,6 +32,5 @@ returns-in-Err g c =
     let slice : List (Bor (List ℕ)) = c.as_slice-vcds.result.now in
     noted_with request c.args.asked.now.vcds.items slice _ (sym c.as_slice-vcds.ensures.value)
     (walked_stop (simulated_of c.args.asked.now.netlist.now names (record { clock = clock; scope = scope }) (map (λ s. s.now) slice))
-    (simulated_looked c.args.asked.now.netlist.now names (record { clock = clock; scope = scope }) (map (λ s. s.now) slice))
     (to_runs clock) (sources_of (request slice)) (sources_of (request slice)) _ refl c.in-Err.ensures
     c.stop_values.ensures.reply c.stop_values.ensures.note)

@@ -1,5 +1,5 @@
 use Rattle.std.proofs.Common.{ℕ, List, length, ap, subst, ◌∙◌}
-use Rattle.bs_top_answer.specs.Note.{DueText}
+use Rattle.bs_call.specs.Note.{DueText}
 use Rattle.bs_inspect_netlist.specs.Order.{unlisted_count}
 use Rattle.bs_inspect_plans.specs.Said.{count_doubt}
 use Rattle.bs_inspect_netlist_requests.proofs.chain.order_said.Goals as goal

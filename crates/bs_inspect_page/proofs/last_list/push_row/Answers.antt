@@ -1,4 +1,4 @@
-use Rattle.bs_net_names.specs.Signals.{signal_in}
+use Rattle.bs_inspect_view.specs.Signals.{signal_in}
 use Rattle.bs_inspect_page.proofs.LastLemmas.{row_put}
 use Rattle.bs_inspect_page.proofs.last_list.push_row.Goals as goal
 

@@ -2,8 +2,8 @@ use Rattle.std.proofs.Common.{◌<◌, ◌^◌, ap, sym, subst, map, rules, ◌�
 use Rattle.std.specs.List.{All}
 use Rattle.std.proofs.lemmas.Fn.{filter_same}
 use Rattle.std.proofs.lemmas.List.Elements.{All-filter}
-use Rattle.bs_net_names.specs.declared.signal.Signal.{Signal as CodeSignal}
-use Rattle.bs_net_names.specs.Signals.{signal_in}
+use Rattle.bs_inspect_view.specs.declared.signal.Signal.{Signal as CodeSignal}
+use Rattle.bs_inspect_view.specs.Signals.{signal_in}
 use Rattle.bs_inspect_page.specs.Page.{asked_in, is_listed}
 use Rattle.bs_inspect_page.proofs.DrawnLemmas.{filter_in}
 use Rattle.bs_inspect_page.proofs.listing.keep_listed.Goals as goal

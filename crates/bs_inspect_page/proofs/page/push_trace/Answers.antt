@@ -1,6 +1,6 @@
 use Rattle.std.proofs.Common.{map}
 use Rattle.std.specs.Option.{option_map}
-use Rattle.bs_net_names.specs.Signals.{signal_in}
+use Rattle.bs_inspect_view.specs.Signals.{signal_in}
 use Rattle.bs_inspect_html.specs.Figures.{figure_in}
 use Rattle.bs_inspect_html.specs.Signed.{file_in}
 use Rattle.bs_inspect_page.proofs.PageLemmas.{trace_put}

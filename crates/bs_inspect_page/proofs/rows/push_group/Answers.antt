@@ -1,5 +1,5 @@
 use Rattle.std.proofs.Common.{map}
-use Rattle.bs_net_names.specs.Signals.{signal_in}
+use Rattle.bs_inspect_view.specs.Signals.{signal_in}
 use Rattle.bs_inspect_html.specs.Figures.{figure_in}
 use Rattle.bs_inspect_page.proofs.RowLemmas.{group_put}
 use Rattle.bs_inspect_page.proofs.rows.push_group.Goals as goal

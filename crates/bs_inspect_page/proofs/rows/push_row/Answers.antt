@@ -1,4 +1,4 @@
-use Rattle.bs_net_names.specs.Signals.{signal_in}
+use Rattle.bs_inspect_view.specs.Signals.{signal_in}
 use Rattle.bs_inspect_html.specs.Figures.{figure_in}
 use Rattle.bs_inspect_page.proofs.RowLemmas.{row_put}
 use Rattle.bs_inspect_page.proofs.rows.push_row.Goals as goal

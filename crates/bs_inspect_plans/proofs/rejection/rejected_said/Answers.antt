@@ -1,5 +1,5 @@
 use Rattle.std.proofs.Common.{ℕ, List, subst}
-use Rattle.bs_top_answer.specs.Note.{DueText}
+use Rattle.bs_call.specs.Note.{DueText}
 use Rattle.bs_inspect_plans.specs.Rejections.{rejected_text}
 use Rattle.bs_inspect_plans.proofs.rejection.rejected_said.Goals as goal
 

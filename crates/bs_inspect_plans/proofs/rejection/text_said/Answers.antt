@@ -1,7 +1,7 @@
 use Rattle.std.proofs.Common.{Option, subst}
 use Rattle.std.specs.Prelude.{option_map}
 use Rattle.bs_note_files.specs.Notes.{Saying}
-use Rattle.bs_top_answer.specs.Note.{DueText}
+use Rattle.bs_call.specs.Note.{DueText}
 use Rattle.bs_inspect_plans.specs.Rejections.{meaning_text}
 use Rattle.bs_inspect_plans.proofs.rejection.text_said.Goals as goal
 

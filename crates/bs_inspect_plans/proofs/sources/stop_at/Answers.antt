@@ -1,4 +1,4 @@
-use Rattle.bs_top_answer.proofs.NoteLemmas.{noted_by, noted_by_names}
+use Rattle.bs_call.proofs.NoteLemmas.{noted_by, noted_by_names}
 use Rattle.bs_inspect_plans.specs.Sources.{source_of, sources_in}
 use Rattle.bs_inspect_plans.proofs.sources.stop_at.Goals as goal
 

@@ -1,5 +1,5 @@
 use Rattle.std.proofs.Common.{ℕ, subst}
-use Rattle.bs_top_answer.specs.Note.{DueText}
+use Rattle.bs_call.specs.Note.{DueText}
 use Rattle.bs_inspect_plans.specs.Asked.{window_of}
 use Rattle.bs_inspect_plans.specs.Windows.{window_text}
 use Rattle.bs_inspect_plans.proofs.window.window_said.Goals as goal

@@ -1,5 +1,5 @@
 use Rattle.std.proofs.Common.{◌≡◌, ◌++◌, map, take}
-use Rattle.bs_net_names.specs.Signals.{signal_in}
+use Rattle.bs_inspect_view.specs.Signals.{signal_in}
 use Rattle.bs_inspect_report.specs.Table.{name_cells}
 use Rattle.bs_inspect_report.proofs.table.push_name_cells.Given as goal
 

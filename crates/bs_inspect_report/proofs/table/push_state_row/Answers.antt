@@ -1,7 +1,7 @@
 use Rattle.std.proofs.Common.{◌≡◌, ◌∷◌, ◌++◌, ℕ, List, [], map, ap, subst, ◌∙◌, decimal, slice_get, None}
 use Rattle.std.specs.Prelude.{OnOk}
-use Rattle.bs_net_names.specs.declared.signal.Signal.{Signal as CodeSignal}
-use Rattle.bs_net_names.specs.Signals.{signal_in}
+use Rattle.bs_inspect_view.specs.declared.signal.Signal.{Signal as CodeSignal}
+use Rattle.bs_inspect_view.specs.Signals.{signal_in}
 use Rattle.bs_inspect_report.specs.Table.{origin_cells, value_cells}
 use Rattle.bs_inspect_report.specs.Trace.{free_at}
 use Rattle.bs_inspect_report.proofs.TableLemmas.{row_told}

@@ -1,4 +1,4 @@
-use Rattle.bs_inspect_files.specs.Taken.{charted_looked, charted_of}
+use Rattle.bs_inspect_files.specs.Taken.{charted_of}
 use Rattle.std.proofs.Common.{ℕ, Bool, Bor, List, map, sym, refl}
 use Rattle.bs_inspect_words.specs.Request.{Request, Gtkw}
 use Rattle.bs_inspect_plans.specs.Sources.{source_of, sources_of}
@@ -14,8 +14,7 @@ returns-in-Ok g c =
     λ xs. Gtkw (record { netlist = c.args.asked.now.netlist.now; report = c.args.asked.now.report.now; wave = c.args.asked.now.wave.now; all = all; from = from; only = map (λ s. s.now) xs }) in
     let slice : List (Bor (List ℕ)) = c.as_slice-only.result.now in
     noted_with request c.args.asked.now.only.items slice _ (sym c.as_slice-only.ensures.value)
-    (walked_done (charted_of c.args.asked.now.netlist.now c.args.asked.now.report.now (map (λ s. s.now) slice))
-    (charted_looked c.args.asked.now.netlist.now c.args.asked.now.report.now (map (λ s. s.now) slice)) (to_save c.args.asked.now.wave.now from all (map (λ s. s.now)
+    (walked_done (charted_of c.args.asked.now.netlist.now c.args.asked.now.report.now (map (λ s. s.now) slice)) (to_save c.args.asked.now.wave.now from all (map (λ s. s.now)
     slice))
     (source_of (sources_of (request slice))) _ _ c.silent-answer.ensures refl c.in-Ok.ensures c.tell_save.ensures)
 
@@ -27,7 +26,6 @@ returns-in-Err g c =
     λ xs. Gtkw (record { netlist = c.args.asked.now.netlist.now; report = c.args.asked.now.report.now; wave = c.args.asked.now.wave.now; all = all; from = from; only = map (λ s. s.now) xs }) in
     let slice : List (Bor (List ℕ)) = c.as_slice-only.result.now in
     noted_with request c.args.asked.now.only.items slice _ (sym c.as_slice-only.ensures.value)
-    (walked_stop (charted_of c.args.asked.now.netlist.now c.args.asked.now.report.now (map (λ s. s.now) slice))
-    (charted_looked c.args.asked.now.netlist.now c.args.asked.now.report.now (map (λ s. s.now) slice)) (to_save c.args.asked.now.wave.now from all (map (λ s. s.now)
+    (walked_stop (charted_of c.args.asked.now.netlist.now c.args.asked.now.report.now (map (λ s. s.now) slice)) (to_save c.args.asked.now.wave.now from all (map (λ s. s.now)
     slice))
     _ (sources_of (request slice)) _ c.trace_sources.ensures c.in-Err.ensures c.stop_at.ensures.reply c.stop_at.ensures.note)

@@ -1,4 +1,4 @@
-use Rattle.bs_inspect_files.specs.Taken.{picked_looked, picked_of}
+use Rattle.bs_inspect_files.specs.Taken.{picked_of}
 use Rattle.std.proofs.Common.{ℕ, Bor, List, map, sym, refl}
 use Rattle.bs_inspect_words.specs.Request.{Request, Lists}
 use Rattle.bs_inspect_plans.specs.Sources.{source_of, sources_of}
@@ -12,8 +12,7 @@ returns-in-Ok g c =
     λ xs. Lists (record { netlist = c.args.asked.now.netlist.now; report = c.args.asked.now.report.now; only = map (λ s. s.now) xs }) in
     let slice : List (Bor (List ℕ)) = c.as_slice-only.result.now in
     noted_with request c.args.asked.now.only.items slice _ (sym c.as_slice-only.ensures.value)
-    (walked_done (picked_of c.args.asked.now.netlist.now c.args.asked.now.report.now (map (λ s. s.now) slice))
-    (picked_looked c.args.asked.now.netlist.now c.args.asked.now.report.now (map (λ s. s.now) slice)) (to_lists (map (λ s. s.now)
+    (walked_done (picked_of c.args.asked.now.netlist.now c.args.asked.now.report.now (map (λ s. s.now) slice)) (to_lists (map (λ s. s.now)
     slice))
     (source_of (sources_of (request slice))) _ _ c.silent-answer.ensures refl c.in-Ok.ensures c.tell_lists.ensures)
 
@@ -23,7 +22,6 @@ returns-in-Err g c =
     λ xs. Lists (record { netlist = c.args.asked.now.netlist.now; report = c.args.asked.now.report.now; only = map (λ s. s.now) xs }) in
     let slice : List (Bor (List ℕ)) = c.as_slice-only.result.now in
     noted_with request c.args.asked.now.only.items slice _ (sym c.as_slice-only.ensures.value)
-    (walked_stop (picked_of c.args.asked.now.netlist.now c.args.asked.now.report.now (map (λ s. s.now) slice))
-    (picked_looked c.args.asked.now.netlist.now c.args.asked.now.report.now (map (λ s. s.now) slice)) (to_lists (map (λ s. s.now)
+    (walked_stop (picked_of c.args.asked.now.netlist.now c.args.asked.now.report.now (map (λ s. s.now) slice)) (to_lists (map (λ s. s.now)
     slice))
     _ (sources_of (request slice)) _ c.trace_sources.ensures c.in-Err.ensures c.stop_at.ensures.reply c.stop_at.ensures.note)

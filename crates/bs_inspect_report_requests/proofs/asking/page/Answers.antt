@@ -1,4 +1,4 @@
-use Rattle.bs_inspect_files.specs.Paged.{PageFiles, page_files_looked, page_files_of}
+use Rattle.bs_inspect_files.specs.Paged.{PageFiles, page_files_of}
 use Rattle.std.proofs.Common.{ℕ, Bor, List, map, sym, refl, Option}
 use Rattle.std.specs.Option.{option_map}
 use Rattle.bs_inspect_words.specs.Request.{Request, Page}
@@ -18,7 +18,6 @@ returns-in-Ok g c =
     λ f. to_page (page_for c.args.asked.now.netlist.now c.args.asked.now.report.now signature f.choice (map (λ s. s.now) slice) c.args.asked.now.most) f.trace_files in
     noted_with request c.args.asked.now.only.items slice _ (sym c.as_slice-only.ensures.value)
     (walked_done (page_files_of c.args.asked.now.netlist.now signature c.args.asked.now.report.now (map (λ s. s.now) slice))
-    (page_files_looked c.args.asked.now.netlist.now signature c.args.asked.now.report.now (map (λ s. s.now) slice))
     work (source_of (sources_of (request slice))) _ _ c.silent-answer.ensures refl c.in-Ok.ensures c.tell_page.ensures)
 
 pub returns-in-Err : goal.returns-in-Err
@@ -31,5 +30,4 @@ returns-in-Err g c =
     λ f. to_page (page_for c.args.asked.now.netlist.now c.args.asked.now.report.now signature f.choice (map (λ s. s.now) slice) c.args.asked.now.most) f.trace_files in
     noted_with request c.args.asked.now.only.items slice _ (sym c.as_slice-only.ensures.value)
     (walked_stop (page_files_of c.args.asked.now.netlist.now signature c.args.asked.now.report.now (map (λ s. s.now) slice))
-    (page_files_looked c.args.asked.now.netlist.now signature c.args.asked.now.report.now (map (λ s. s.now) slice))
     work _ (sources_of (request slice)) _ c.page_sources.ensures c.in-Err.ensures c.stop_at.ensures.reply c.stop_at.ensures.note)

@@ -1,4 +1,4 @@
-use Rattle.bs_inspect_files.specs.Taken.{picked_looked, picked_of}
+use Rattle.bs_inspect_files.specs.Taken.{picked_of}
 use Rattle.std.proofs.Common.{ℕ, Bool, Bor, List, map, sym}
 use Rattle.bs_inspect_words.specs.Request.{Request, Trace}
 use Rattle.bs_inspect_plans.specs.Sources.{source_of, sources_of}
@@ -14,8 +14,7 @@ returns-in-Ok g c =
     λ xs. Trace (record { netlist = c.args.asked.now.netlist.now; report = c.args.asked.now.report.now; all = all; window = c.args.asked.now.window; only = map (λ s. s.now) xs }) in
     let slice : List (Bor (List ℕ)) = c.as_slice-only.result.now in
     noted_with request c.args.asked.now.only.items slice _ (sym c.as_slice-only.ensures.value)
-    (walked_noted (picked_of c.args.asked.now.netlist.now c.args.asked.now.report.now (map (λ s. s.now) slice))
-    (picked_looked c.args.asked.now.netlist.now c.args.asked.now.report.now (map (λ s. s.now) slice)) (to_trace all (window_of
+    (walked_noted (picked_of c.args.asked.now.netlist.now c.args.asked.now.report.now (map (λ s. s.now) slice)) (to_trace all (window_of
     c.args.asked.now.window) (map (λ s. s.now) slice))
     (source_of (sources_of (request slice))) _ _ c.window_noted-answer.ensures.reply c.window_noted-answer.ensures.note c.in-Ok.ensures c.tell_trace.ensures)
 
@@ -26,7 +25,6 @@ returns-in-Err g c =
     λ xs. Trace (record { netlist = c.args.asked.now.netlist.now; report = c.args.asked.now.report.now; all = all; window = c.args.asked.now.window; only = map (λ s. s.now) xs }) in
     let slice : List (Bor (List ℕ)) = c.as_slice-only.result.now in
     noted_with request c.args.asked.now.only.items slice _ (sym c.as_slice-only.ensures.value)
-    (walked_stop (picked_of c.args.asked.now.netlist.now c.args.asked.now.report.now (map (λ s. s.now) slice))
-    (picked_looked c.args.asked.now.netlist.now c.args.asked.now.report.now (map (λ s. s.now) slice)) (to_trace all (window_of
+    (walked_stop (picked_of c.args.asked.now.netlist.now c.args.asked.now.report.now (map (λ s. s.now) slice)) (to_trace all (window_of
     c.args.asked.now.window) (map (λ s. s.now) slice))
     _ (sources_of (request slice)) _ c.trace_sources.ensures c.in-Err.ensures c.stop_at.ensures.reply c.stop_at.ensures.note)

@@ -1,20 +1,17 @@
-use Rattle.std.proofs.Common.{ℕ, List, Bool, Option, Some, None, Bor, Vec, Ok, length, map, ap, refl, sym, subst, ◌∙◌}
-use Rattle.std.specs.Option.{option_map}
+use Rattle.std.proofs.Common.{ℕ, List, Bor, map, ap, ◌∙◌}
 use Rattle.bs_outside.specs.Plan.{Plan}
-use Rattle.bs_top_files.specs.NoteCases.{NoteCase}
-use Rattle.bs_top_files.specs.Refusals.{Case}
+use Rattle.bs_top_files.specs.Causes.{Case}
 use Rattle.bs_inspect_report.specs.Keys.{flop_keys}
 use Rattle.bs_vcd.specs.declared.cycles.MarkedStates.{MarkedStates}
-use Rattle.bs_inspect_values.specs.Dumped.{states_step, states_step_looked, taking_in}
+use Rattle.bs_inspect_values.specs.Dumped.{states_step, taking_in}
 use Rattle.bs_inspect_values.proofs.DumpedLemmas.{flops_wide}
 use Rattle.bs_inspect_values.proofs.WalkLemmas.{diagnosed_want, diagnosed_with}
 use Rattle.bs_inspect_values.proofs.dumping.load_renamed.Goals as goal
 
 pub returns-in-Ok-clause-walks : goal.returns-in-Ok-clause-walks
 returns-in-Ok-clause-walks g c =
-    let plan : List (List ℕ) → Plan Case MarkedStates = λ ks. states_step ks c.args.text.now (taking_in c.args.taking) in
-    let looked : List (List ℕ) → Plan NoteCase MarkedStates = λ ks. states_step_looked c.args.path.now ks c.args.text.now (taking_in c.args.taking) in
-    diagnosed_with plan looked (map (λ k. k.now) c.as_slice-keys.result.now) (flop_keys c.args.net.now.raw)
+    let plan : List (List ℕ) → Plan Case MarkedStates = λ ks. states_step c.args.path.now ks c.args.text.now (taking_in c.args.taking) in
+    diagnosed_with plan (map (λ k. k.now) c.as_slice-keys.result.now) (flop_keys c.args.net.now.raw)
     (ap (λ (ks : List (Bor (List ℕ))). map (λ k. k.now) ks) c.as_slice-keys.ensures.value ∙ c.in-Ok.ensures) c.load_by_names.ensures.walks
 
 pub returns-in-Ok-clause-wide : goal.returns-in-Ok-clause-wide
@@ -23,4 +20,4 @@ returns-in-Ok-clause-wide g c =
     c.load_by_names.ensures.wide
 
 pub returns-in-Err-clause-walks : goal.returns-in-Err-clause-walks
-returns-in-Err-clause-walks g c = diagnosed_want _ _
+returns-in-Err-clause-walks g c = diagnosed_want _

@@ -1,10 +1,8 @@
-use Rattle.std.proofs.Common.{ℕ, List, Bool, Option, Some, None, Bor, Vec, Ok, length, map, ap, refl, sym, subst, ◌∙◌}
-use Rattle.std.specs.Option.{option_map}
+use Rattle.std.proofs.Common.{ℕ, List, Bor, map, ap, ◌∙◌}
 use Rattle.bs_outside.specs.Plan.{Plan}
-use Rattle.bs_top_files.specs.NoteCases.{NoteCase}
-use Rattle.bs_top_files.specs.Refusals.{Case}
+use Rattle.bs_top_files.specs.Causes.{Case}
 use Rattle.bs_vcd.specs.declared.cycles.MarkedStates.{MarkedStates}
-use Rattle.bs_inspect_values.specs.Dumped.{states_looked, states_of, taking_in}
+use Rattle.bs_inspect_values.specs.Dumped.{states_of, taking_in}
 use Rattle.bs_inspect_values.proofs.DumpedLemmas.{slices_wide}
 use Rattle.bs_inspect_values.proofs.WalkLemmas.{diagnosed_want, diagnosed_with}
 use Rattle.bs_inspect_values.proofs.dumping.load_spelled.Goals as goal
@@ -13,8 +11,7 @@ pub returns-in-Ok-clause-walks : goal.returns-in-Ok-clause-walks
 returns-in-Ok-clause-walks g c =
     let keys : List (List ℕ) = map (λ k. k.now) c.args.keys.now in
     let plan : List (List ℕ) → Plan Case MarkedStates = λ ns. states_of keys ns (taking_in c.args.taking) in
-    let looked : List (List ℕ) → Plan NoteCase MarkedStates = λ ns. states_looked keys ns (taking_in c.args.taking) in
-    diagnosed_with plan looked (map (λ n. n.now) c.as_slice-slices.result.now) c.args.names.now
+    diagnosed_with plan (map (λ n. n.now) c.as_slice-slices.result.now) c.args.names.now
     (ap (λ (ns : List (Bor (List ℕ))). map (λ n. n.now) ns) c.as_slice-slices.ensures.value ∙ c.in-Ok.ensures) c.load_states.ensures.walks
 
 pub returns-in-Ok-clause-wide : goal.returns-in-Ok-clause-wide
@@ -23,4 +20,4 @@ returns-in-Ok-clause-wide g c =
     c.load_states.ensures.wide
 
 pub returns-in-Err-clause-walks : goal.returns-in-Err-clause-walks
-returns-in-Err-clause-walks g c = diagnosed_want _ _
+returns-in-Err-clause-walks g c = diagnosed_want _

@@ -1,4 +1,4 @@
-use Rattle.std.proofs.Common.{ℕ, List, map}
+use Rattle.std.proofs.Common.{map}
 use Rattle.bs_inspect_values.specs.SimulatedRun.{run_in}
 use Rattle.bs_inspect_values.specs.Simulated.{clocked_in}
 use Rattle.bs_inspect_values.proofs.SimulatedLemmas.{no_texts, none_left, one_more, one_stops}

@@ -2,7 +2,7 @@ use Rattle.std.proofs.Common.{ℕ, List, Option, map, subst}
 use Rattle.std.specs.Option.{option_map}
 use Rattle.bs_bits.specs.Reading.{Answers}
 use Rattle.bs_vcd_header.specs.declared.fault.VcdFault.TheVariants.{NoMemory}
-use Rattle.bs_vcd.specs.declared.sampling.SampledLines.{SampledLines}
+use Rattle.bs_vcd.specs.declared.clock_edges.SampledLines.{SampledLines}
 use Rattle.bs_vcd.specs.Stimulus.{stimulus_in}
 use Rattle.bs_inspect_values.proofs.values.sampled.Goals as goal
 

@@ -1,7 +1,7 @@
 use Rattle.std.proofs.Common.{ap, map, rules, ◌∙◌, List}
 use Rattle.std.proofs.lemmas.Fn.{filter_same}
-use Rattle.bs_net_names.specs.declared.signal.Signal.{Signal as CodeSignal}
-use Rattle.bs_net_names.specs.Signals.{signal_in}
+use Rattle.bs_inspect_view.specs.declared.signal.Signal.{Signal as CodeSignal}
+use Rattle.bs_inspect_view.specs.Signals.{signal_in}
 use Rattle.bs_inspect_view.specs.Drawn.{asked_in, is_drawn}
 use Rattle.bs_inspect_view.proofs.DrawnLemmas.{filter_in}
 use Rattle.bs_inspect_view.proofs.drawn.keep_drawn.Goals as goal

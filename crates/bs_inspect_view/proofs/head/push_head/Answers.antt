@@ -1,5 +1,5 @@
 use Rattle.std.proofs.Common.{map}
-use Rattle.bs_net_names.specs.Signals.{signal_in}
+use Rattle.bs_inspect_view.specs.Signals.{signal_in}
 use Rattle.bs_inspect_view.proofs.HeadLemmas.{head_whole}
 use Rattle.bs_inspect_view.proofs.head.push_head.Goals as goal
 

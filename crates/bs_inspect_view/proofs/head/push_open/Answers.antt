@@ -1,6 +1,6 @@
 use Rattle.std.proofs.Common.{ap, ◌∙◌, ◌++◌, map, List, ℕ}
-use Rattle.bs_net_names.specs.declared.signal.Signal.{Signal as CodeSignal}
-use Rattle.bs_net_names.specs.Signals.{signal_in}
+use Rattle.bs_inspect_view.specs.declared.signal.Signal.{Signal as CodeSignal}
+use Rattle.bs_inspect_view.specs.Signals.{signal_in}
 use Rattle.bs_inspect_view.specs.View.{path_before, scoped}
 use Rattle.bs_inspect_view.proofs.PlaceLemmas.{variable_step}
 use Rattle.bs_inspect_view.proofs.head.push_open.Goals as goal

@@ -1,6 +1,6 @@
 use Rattle.std.proofs.Common.{◌≡◌, ◌++◌, map, slice_get}
 use Rattle.std.specs.List.{flat_map, range_with_len}
-use Rattle.bs_net_names.specs.Signals.{signal_in}
+use Rattle.bs_inspect_view.specs.Signals.{signal_in}
 use Rattle.bs_inspect_view.specs.View.{variable_at}
 use Rattle.bs_inspect_view.proofs.head.push_open.Given as goal
 

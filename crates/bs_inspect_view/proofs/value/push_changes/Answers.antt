@@ -1,7 +1,7 @@
 use Rattle.std.proofs.Common.{ap, ◌∙◌, ◌++◌}
 use Rattle.std.specs.Option.{option_map}
-use Rattle.bs_net_names.specs.declared.signal.Signal.{Signal as CodeSignal}
-use Rattle.bs_net_names.specs.Signals.{signal_in}
+use Rattle.bs_inspect_view.specs.declared.signal.Signal.{Signal as CodeSignal}
+use Rattle.bs_inspect_view.specs.Signals.{signal_in}
 use Rattle.bs_inspect_view.specs.View.{change_text}
 use Rattle.bs_inspect_view.proofs.PlaceLemmas.{change_step}
 use Rattle.bs_inspect_view.proofs.value.push_changes.Goals as goal

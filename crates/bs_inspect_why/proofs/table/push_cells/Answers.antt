@@ -3,7 +3,7 @@ use Rattle.std.specs.Prelude.{codes, decimal}
 use Rattle.bs_net.specs.Netlist.{parts_of}
 use Rattle.bs_net.specs.Parts.{key_at}
 use Rattle.bs_net_names.specs.Rtl.{rtl_name}
-use Rattle.bs_net_names.specs.Values.{value_text}
+use Rattle.bs_inspect_view.specs.Values.{value_text}
 use Rattle.bs_inspect_report.specs.Table.{field}
 use Rattle.bs_inspect_why_words.proofs.HeadLemmas.{steps_told}
 use Rattle.bs_inspect_why.proofs.table.push_cells.Goals as goal

@@ -1,6 +1,6 @@
 use Rattle.std.proofs.Common.{map, ap, ◌∙◌, arith}
 use Rattle.std.proofs.lemmas.List.{take_all}
-use Rattle.bs_net_names.specs.Signals.{signal_in}
+use Rattle.bs_inspect_view.specs.Signals.{signal_in}
 use Rattle.bs_inspect_why_words.specs.Causes.{old_row, old_rows}
 use Rattle.bs_inspect_why_words.proofs.StepLemmas.{flat_more}
 use Rattle.bs_inspect_why_words.proofs.cause.old_rows.Goals as goal

@@ -1,6 +1,6 @@
 use Rattle.std.proofs.Common.{List, ◌++◌, map, ap, sym, ◌∙◌, arith}
 use Rattle.std.proofs.lemmas.List.{append-nil, take_all}
-use Rattle.bs_net_names.specs.Signals.{signal_in}
+use Rattle.bs_inspect_view.specs.Signals.{signal_in}
 use Rattle.bs_inspect_why_words.specs.declared.row.Row.{Row}
 use Rattle.bs_inspect_why_words.specs.Causes.{row_names}
 use Rattle.bs_inspect_why_words.proofs.CauseLemmas.{names_more}

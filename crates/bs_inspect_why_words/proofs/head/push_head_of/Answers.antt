@@ -1,5 +1,5 @@
 use Rattle.std.proofs.Common.{map}
-use Rattle.bs_net_names.specs.Signals.{signal_in}
+use Rattle.bs_inspect_view.specs.Signals.{signal_in}
 use Rattle.bs_inspect_why_words.specs.Heads.{episode_in}
 use Rattle.bs_inspect_why_words.proofs.HeadLemmas.{line_told}
 use Rattle.bs_inspect_why_words.proofs.head.push_head_of.Goals as goal

@@ -1,6 +1,6 @@
 use Rattle.std.proofs.Common.{map}
 use Rattle.std.specs.Prelude.{codes, decimal}
-use Rattle.bs_net_names.specs.Signals.{signal_in}
+use Rattle.bs_inspect_view.specs.Signals.{signal_in}
 use Rattle.bs_inspect_why_words.specs.Facts.{signals_words}
 use Rattle.bs_inspect_why_words.specs.Heads.{before_words, episode_in, moment_words, since_words}
 use Rattle.bs_inspect_why_words.proofs.HeadLemmas.{line_put}

@@ -1,6 +1,6 @@
 use Rattle.std.proofs.Common.{◌-◌, map}
 use Rattle.std.specs.Prelude.{codes, decimal}
-use Rattle.bs_net_names.specs.Signals.{signal_in}
+use Rattle.bs_inspect_view.specs.Signals.{signal_in}
 use Rattle.bs_inspect_why_words.specs.Heads.{at_words, values_words}
 use Rattle.bs_inspect_why_words.proofs.HeadLemmas.{steps_told}
 use Rattle.bs_inspect_why_words.proofs.head.push_steps.Goals as goal

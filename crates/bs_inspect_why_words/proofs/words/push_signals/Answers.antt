@@ -1,7 +1,7 @@
 use Rattle.std.proofs.Common.{List, ◌++◌, map, ap, sym, ◌∙◌, arith}
 use Rattle.std.proofs.lemmas.List.{append-nil, take_all}
-use Rattle.bs_net_names.specs.Signals.{signal_in}
-use Rattle.bs_net_names.specs.declared.signal.Signal.{Signal as CodeSignal}
+use Rattle.bs_inspect_view.specs.Signals.{signal_in}
+use Rattle.bs_inspect_view.specs.declared.signal.Signal.{Signal as CodeSignal}
 use Rattle.bs_inspect_why_words.specs.Facts.{signals_words}
 use Rattle.bs_inspect_why_words.proofs.WordLemmas.{narrow_here, signals_more}
 use Rattle.bs_inspect_why_words.proofs.words.push_signals.Goals as goal

@@ -1,5 +1,5 @@
 use Rattle.std.proofs.Common.{◌≡◌, ◌++◌, map, take}
-use Rattle.bs_net_names.specs.Signals.{signal_in}
+use Rattle.bs_inspect_view.specs.Signals.{signal_in}
 use Rattle.bs_inspect_why_words.specs.Facts.{signals_words}
 use Rattle.bs_inspect_why_words.proofs.words.push_signals.Given as goal
 

@@ -3,7 +3,7 @@ use Rattle.bs_net.specs.declared.net.NetId.{NetId}
 use Rattle.bs_net.specs.declared.net.Const.{Const}
 use Rattle.bs_net.specs.Steps.{puts, constant_step, gate_write}
 use Rattle.bs_lanes.specs.Planes.{lane}
-use Rattle.bs_lanes.specs.declared.program.Stretch.{Stretch}
+use Rattle.bs_lanes.specs.declared.program.GateStretch.{GateStretch}
 use Rattle.bs_lanes.specs.Program.{program_gates}
 use Rattle.bs_lanes.specs.Settling.{RunsAll}
 use Rattle.bs_lanes.proofs.LayoutLemmas.{runs_on}
@@ -16,7 +16,7 @@ returns g c =
     let B : List NetId → Type 0 = λ ns.
     RunsAll g.row.N (λ r. puts ns (lane g.row.N (length ns) c.args.flops.now r)) c.show_nets.new.nets c.show_nets-2.new.nets in
     let K : List Const → Type 0 = λ ks. RunsAll g.row.N (λ r. map constant_step ks) c.show_nets-2.new.nets c.show_constants.new.nets in
-    let G : List Stretch → Type 0 = λ ss.
+    let G : List GateStretch → Type 0 = λ ss.
     RunsAll g.row.N (λ r. map gate_write (program_gates ss)) c.show_constants.new.nets c.settle_program.new.nets in
     runs_on g.row.N _ _ _ _ _ (subst A c.slice.ensures c.show_nets.ensures)
     (runs_on g.row.N _ _ _ _ _ (subst B c.slice-2.ensures c.show_nets-2.ensures)

@@ -1,5 +1,5 @@
 use Rattle.bs_scan.specs.Moments.{first_moment}
-use Rattle.bs_report_good.specs.Step.{listed}
+use Rattle.bs_report.specs.Step.{listed}
 use Rattle.bs_loop.proofs.MeetLemmas.{hit_first}
 use Rattle.bs_loop.proofs.steps.hit_in.Goals as goal
 

@@ -1,5 +1,5 @@
 use Rattle.std.proofs.Common.{◌≡◌, drop, reverse, filter_map}
-use Rattle.bs_report_good.specs.Trace.{hit_state}
+use Rattle.bs_report.specs.Trace.{hit_state}
 use Rattle.bs_loop.proofs.trace.states_back.Given as goal
 
 abbrev pub invariant-steps : goal.invariant-steps

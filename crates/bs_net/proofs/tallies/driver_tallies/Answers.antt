@@ -5,7 +5,7 @@ use Rattle.bs_net.specs.declared.net.Flop.{Flop}
 use Rattle.bs_net.specs.declared.net.Const.{Const}
 use Rattle.bs_net.specs.Tallies.{tallied}
 use Rattle.bs_net.specs.Check.{driver_nets}
-use Rattle.bs_net.specs.declared.tallies.Tally.TheVariants.{Never}
+use Rattle.bs_net.specs.declared.tallies.UseCount.TheVariants.{Never}
 use Rattle.bs_net.proofs.TallyLemmas.{four_tallied}
 use Rattle.bs_net.proofs.tallies.driver_tallies.Goals as goal
 

@@ -6,7 +6,7 @@ use Rattle.bs_net.specs.declared.net.Flop.{Flop}
 use Rattle.bs_net.specs.Tallies.{tallied}
 use Rattle.bs_net.specs.Check.{reader_nets}
 use Rattle.bs_net.specs.Parts.{load_nets}
-use Rattle.bs_net.specs.declared.tallies.Tally.TheVariants.{Never}
+use Rattle.bs_net.specs.declared.tallies.UseCount.TheVariants.{Never}
 use Rattle.bs_net.proofs.TallyLemmas.{four_tallied}
 use Rattle.bs_net.proofs.tallies.reader_tallies.Goals as goal
 

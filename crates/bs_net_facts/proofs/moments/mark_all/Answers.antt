@@ -5,7 +5,7 @@ use Rattle.bs_net.specs.declared.net.Const.{Const}
 use Rattle.bs_net.specs.declared.net.Gate.{Gate}
 use Rattle.bs_net.specs.Netlist.{circuit}
 use Rattle.bs_net.proofs.NetlistLemmas.{order_below}
-use Rattle.bs_net_facts.specs.Marks.{StayHeld, AreSettled, AreShown}
+use Rattle.bs_sim.specs.Marks.{StayHeld, AreSettled, AreShown}
 use Rattle.bs_net_facts.specs.Seen.{ShowState}
 use Rattle.bs_net_facts.proofs.SeenLemmas.{marked_last}
 use Rattle.bs_net_facts.proofs.moments.mark_all.Goals as goal

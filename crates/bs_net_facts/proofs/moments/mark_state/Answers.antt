@@ -1,5 +1,5 @@
 use Rattle.std.proofs.Common.{arith, ap, ◌∙◌}
-use Rattle.bs_net_facts.specs.Marks.{fixed}
+use Rattle.bs_sim.specs.Marks.{fixed}
 use Rattle.bs_net_facts.proofs.SeenLemmas.{stay_state}
 use Rattle.bs_net_facts.proofs.moments.mark_state.Goals as goal
 

@@ -1,4 +1,4 @@
-use Rattle.bs_net_facts.specs.Marks.{StayHeld}
+use Rattle.bs_sim.specs.Marks.{StayHeld}
 use Rattle.bs_net_facts.specs.Seen.{ShowState}
 use Rattle.bs_net_facts.proofs.moments.mark_state.Given as goal
 

@@ -1,7 +1,7 @@
 use Rattle.std.proofs.Common.{◌-◌, ◌∙◌, arith, subst, Bool, List, Option}
 use Rattle.std.specs.Prelude.{option_map}
 use Rattle.bs_chip.specs.Stepped.{Stepped}
-use Rattle.bs_preimage_recorded.specs.declared.search.Turn.TheVariants.{GoOn, End}
+use Rattle.bs_preimage_recorded.specs.declared.search.RunResult.TheVariants.{GoOn, End}
 use Rattle.bs_preimage_recorded.specs.Search.{alike_at, asked_in, HasTurned, IsUnknownAt, TurnsTo}
 use Rattle.bs_preimage_recorded.proofs.SearchLemmas.{both_spans, tried_at, tried_further}
 use Rattle.bs_preimage_recorded.proofs.search.lowest_at.Goals as goal

@@ -1,6 +1,6 @@
 use Rattle.std.proofs.Common.{◌-◌, ◌*◌, ◌∙◌, ap, arith, List, length}
 use Rattle.bs_clause.specs.Literal.{Literal, Clause}
-use Rattle.bs_reach_implied.proofs.RowLemmas.{unrolled_length}
+use Rattle.bs_reach_unrolled.proofs.RowLemmas.{unrolled_length}
 use Rattle.bs_reach.proofs.refuted.count.Goals as goal
 
 pub returns : goal.returns

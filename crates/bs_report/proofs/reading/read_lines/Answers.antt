@@ -1,6 +1,6 @@
 use Rattle.std.proofs.Common.{ap, sym, arith}
 use Rattle.std.proofs.lemmas.Result.{err_from_is_err_and}
-use Rattle.bs_report.specs.declared.place.Place.TheVariants.{Title}
+use Rattle.bs_report.specs.declared.place.NextLine.TheVariants.{Title}
 use Rattle.bs_report.specs.declared.report.Report.{Report}
 use Rattle.bs_bits.specs.Lines.{pieces_of}
 use Rattle.bs_report.specs.Reading.{report_from, report_in}

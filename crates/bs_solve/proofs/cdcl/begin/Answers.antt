@@ -1,5 +1,5 @@
 use Rattle.std.proofs.Common.{◌≤◌, length, sym, subst, drop}
-use Rattle.bs_solve.specs.declared.first_level.Start.TheVariants.{Failed, Clash, Assigned}
+use Rattle.bs_solve.specs.declared.first_level.LevelStart.TheVariants.{Failed, Clash, Assigned}
 use Rattle.bs_solve.specs.Database.{entries}
 use Rattle.bs_solve.specs.FirstLevel.{AreShort, HasBegunLevel}
 use Rattle.bs_watch.specs.Watch.{decided}

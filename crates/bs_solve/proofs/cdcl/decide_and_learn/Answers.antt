@@ -132,3 +132,40 @@ rounds-preserved c =
       clear = subst (λ n. IsClear (n + 1) c.learn.new.marks) c.rounds.invariant.vars c.in_ok-learn-in-Conflict.ensures.clear;
       room = subst (λ n. length c.propagate-in-Conflict.new.watch.trail.places ≤ n) round.vars_is p.room;
     }
+
+pub propagate-requires : goal.propagate-requires
+propagate-requires c =
+    let (base, t) = subst (IsSomeRound c.args.proof.now c.vars-vars.result c.rounds.conflicts c.args.limit c.rounds.proof c.rounds.watch c.rounds.arena.clauses
+    c.rounds.database) c.in-Quiet.is c.rounds.invariant.round in
+    let d = c.if-not-decide.ensures in
+    d.serves.keeps c.rounds.arena.clauses t.running.serves
+
+pub refute-requires-clause-phase : goal.refute-requires-clause-phase
+refute-requires-clause-phase c =
+    let (base, t) = subst (IsSomeRound c.args.proof.now c.vars-vars.result c.rounds.conflicts c.args.limit c.rounds.proof c.rounds.watch c.rounds.arena.clauses
+    c.rounds.database) c.in-Conflict.is c.rounds.invariant.round in
+    t.search.phase
+
+pub learn-requires-clause-some : goal.learn-requires-clause-some
+learn-requires-clause-some c =
+    let (base, t) = subst (IsSomeRound c.args.proof.now c.vars-vars.result c.rounds.conflicts c.args.limit c.rounds.proof c.rounds.watch c.rounds.arena.clauses
+    c.rounds.database) c.in-Conflict.is c.rounds.invariant.round in (
+      base,
+      conflict_in c.args.proof.now c.vars-vars.result base c.rounds.conflicts c.args.limit c.rounds.proof c.rounds.watch c.rounds.arena.clauses
+          c.rounds.database c.in-Conflict.r t,
+    )
+
+pub learn-requires-clause-phase : goal.learn-requires-clause-phase
+learn-requires-clause-phase c =
+    let (base, t) = subst (IsSomeRound c.args.proof.now c.vars-vars.result c.rounds.conflicts c.args.limit c.rounds.proof c.rounds.watch c.rounds.arena.clauses
+    c.rounds.database) c.in-Conflict.is c.rounds.invariant.round in
+    t.search.phase
+
+pub propagate-requires-in-Conflict : goal.propagate-requires-in-Conflict
+propagate-requires-in-Conflict c =
+    let (base, t) = subst (IsSomeRound c.args.proof.now c.vars-vars.result c.rounds.conflicts c.args.limit c.rounds.proof c.rounds.watch c.rounds.arena.clauses
+    c.rounds.database) c.in-Conflict.is c.rounds.invariant.round in
+    let h = c.in_ok-learn-in-Conflict.ensures.ok in
+    let running = h.running base (conflict_in c.args.proof.now c.vars-vars.result base c.rounds.conflicts c.args.limit c.rounds.proof c.rounds.watch
+    c.rounds.arena.clauses c.rounds.database c.in-Conflict.r t) in
+    running.serves

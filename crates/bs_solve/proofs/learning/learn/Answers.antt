@@ -9,7 +9,17 @@ use Rattle.bs_solve_lemmas.specs.ProofLog.{with_lemma}
 use Rattle.bs_solve.specs.Database.{entries, id_in}
 use Rattle.bs_solve.specs.Backjump.{IsSomeLearntClause, JumpsBack}
 use Rattle.bs_solve.proofs.LearningLemmas.{live_range, hints_range, live_distinct, last_decided, quiet_at_last, learnt_from, logged_learnt, lemma_range, lemma_is_new, learns_from, grown_again, entry_again}
+use Rattle.bs_watch.specs.Watch.{Serves}
 use Rattle.bs_solve.proofs.learning.learn.Goals as goal
+
+pub first_point-requires-clause-reasoned : goal.first_point-requires-clause-reasoned
+first_point-requires-clause-reasoned c = c.requires.some.1.running.reasoned
+
+pub first_point-requires-clause-conflict : goal.first_point-requires-clause-conflict
+first_point-requires-clause-conflict c = c.requires.some.1.clash
+
+pub first_point-requires-clause-clear : goal.first_point-requires-clause-clear
+first_point-requires-clause-clear c = c.requires.clear
 
 pub first_point-requires-clause-range : goal.first_point-requires-clause-range
 first_point-requires-clause-range c =
@@ -45,6 +55,13 @@ reward-requires-clause-range c =
     (live_range c.args.arena.now c.args.watch.now.lists c.args.database.now (entries c.args.proof.now) c.args.watch.now.trail.vars c.holds_clauses.ensures
     s.running.holds_entries s.range))
 
+pub ids_of-requires : goal.ids_of-requires
+ids_of-requires c =
+    subst (All (λ r. is_some (held_at c.args.arena.now.clauses r) ≡ true)) (sym c.as_slice-2.ensures.value) c.in_ok-learnt.ensures.learnt.live
+
+pub jump_back-requires-clause-serves : goal.jump_back-requires-clause-serves
+jump_back-requires-clause-serves c = subst (λ w. Serves w c.args.arena.now.clauses) (sym c.reward.ensures) c.requires.some.1.running.serves
+
 pub jump_back-requires-clause-backjump : goal.jump_back-requires-clause-backjump
 jump_back-requires-clause-backjump c =
     subst (λ w. IsSomeLearntClause w c.slice.result.now) (sym c.reward.ensures) (subst (IsSomeLearntClause c.args.watch.now) (sym c.slice.ensures) (
@@ -55,6 +72,9 @@ jump_back-requires-clause-backjump c =
           (subst (NoneRefused c.args.proof.now.problem) c.log.ensures.lines c.log.ensures.right)
           (subst (LemmasAreLean c.args.proof.now.problem) c.log.ensures.lines c.log.ensures.lean),
     ))
+
+pub log_lemma-requires-clause-phase : goal.log_lemma-requires-clause-phase
+log_lemma-requires-clause-phase c = c.requires.phase
 
 pub log_lemma-requires-clause-learnt : goal.log_lemma-requires-clause-learnt
 log_lemma-requires-clause-learnt c =
@@ -94,3 +114,6 @@ returns-clause-ok c =
     (grown_again c.args.proof.now c.log_lemma.new.self c.in_ok-log_lemma.field-0 c.in_ok-id.id c.in_ok-learnt.learnt.lits same
     c.in_ok-log_lemma.ensures.stands)
     (entry_again c.log_lemma.new.self c.in_ok-log_lemma.field-0 c.in_ok-id.id c.in_ok-learnt.learnt.lits same c.in_ok-log_lemma.ensures.entry)
+
+pub returns-clause-clear : goal.returns-clause-clear
+returns-clause-clear c = c.in_ok-learnt.ensures.clear

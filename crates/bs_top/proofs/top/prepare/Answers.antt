@@ -1,6 +1,6 @@
 use Rattle.std.proofs.Common.{Some, sym, ◌∙◌, ap}
 use Rattle.std.specs.Prelude.{map, string_bytes}
-use Rattle.bs_top_answer.proofs.AnswerLemmas.{noted_alone}
+use Rattle.bs_call.proofs.AnswerLemmas.{noted_alone}
 use Rattle.bs_top_words.specs.Job.{job_of}
 use Rattle.bs_top_words.specs.Shown.{job_in, shown_job}
 use Rattle.bs_top.proofs.AskedLemmas.{budget_is, conflicts_fit, cycles_fit}

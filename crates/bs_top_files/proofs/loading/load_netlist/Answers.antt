@@ -1,15 +1,14 @@
 use Rattle.std.proofs.lemmas.Result.{err_from_is_err_and}
 use Rattle.bs_top_files.specs.Readings.{netlist_in}
-use Rattle.bs_top_files.specs.Noting.{netlist_noted}
 use Rattle.bs_outside.proofs.TellingLemmas.{diagnosed_fetch_stop, diagnosed_reads}
 use Rattle.bs_top_files.proofs.loading.load_netlist.Goals as goal
 
 pub returns-in_err-bytes : goal.returns-in_err-bytes
 returns-in_err-bytes g c =
     let p = err_from_is_err_and c.from_residual.result c.from_residual.ensures.1 in
-    rw (p.1, p.2) (diagnosed_fetch_stop _ _ c.in_err-bytes.ensures)
+    rw (p.1, p.2) (diagnosed_fetch_stop _ c.in_err-bytes.ensures)
 
 pub returns : goal.returns
 returns g c =
-    diagnosed_reads netlist_in (netlist_noted c.args.name.now) _ _
+    diagnosed_reads (netlist_in c.args.name.now) _ _
     c.deref.ensures.value c.settle_diagnostic.ensures c.in_ok-bytes.ensures c.netlist_or_diagnostic.ensures.words c.netlist_or_diagnostic.ensures.note

@@ -1,16 +1,15 @@
 use Rattle.std.proofs.lemmas.Result.{err_from_is_err_and}
 use Rattle.bs_top_files.specs.Entry.{input_width}
 use Rattle.bs_top_files.specs.Readings.{stimulus_in}
-use Rattle.bs_top_files.specs.Noting.{stimulus_noted}
 use Rattle.bs_outside.proofs.TellingLemmas.{diagnosed_fetch_stop, diagnosed_reads}
 use Rattle.bs_top_files.proofs.loading.load_stimulus.Goals as goal
 
 pub returns-in_err-bytes-clause-walks : goal.returns-in_err-bytes-clause-walks
 returns-in_err-bytes-clause-walks g c =
     let p = err_from_is_err_and c.from_residual.result c.from_residual.ensures.1 in
-    rw (p.1, p.2) (diagnosed_fetch_stop _ _ c.in_err-bytes.ensures)
+    rw (p.1, p.2) (diagnosed_fetch_stop _ c.in_err-bytes.ensures)
 
 pub returns-clause-walks : goal.returns-clause-walks
 returns-clause-walks g c =
-    diagnosed_reads (stimulus_in (input_width c.args.net.now.raw)) (stimulus_noted (input_width c.args.net.now.raw) c.args.name.now) _ _
+    diagnosed_reads (stimulus_in (input_width c.args.net.now.raw) c.args.name.now) _ _
     c.deref.ensures.value c.settle_diagnostic.ensures c.in_ok-bytes.ensures c.stimulus_or_diagnostic.ensures.words c.stimulus_or_diagnostic.ensures.note

@@ -1,5 +1,5 @@
 use Rattle.std.proofs.Common.{◌≡◌, List, Ok, subst}
-use Rattle.bs_verilog_lexemes.specs.Packed.{Lexeme}
+use Rattle.bs_lex.specs.Packed.{Lexeme}
 use Rattle.bs_flat_meaning.specs.Reading as reading
 use Rattle.bs_flat_modules.specs.Reading.{read_modules_of}
 use Rattle.bs_top_files.proofs.FlattenLemmas.{read_whole}

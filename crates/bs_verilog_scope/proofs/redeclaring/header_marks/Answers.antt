@@ -1,5 +1,5 @@
 use Rattle.std.proofs.Common.{◌∙◌, sym, ap, inr, get_or, refl}
-use Rattle.bs_verilog_lexemes.specs.declared.lexeme.Name.{Name}
+use Rattle.bs_lex.specs.declared.lexeme.Name.{Name}
 use Rattle.bs_verilog_syntax.specs.declared.fault.VerilogFault.TheVariants.{Redeclared}
 use Rattle.bs_verilog_scope.specs.Declaring.{stands_before, fault}
 use Rattle.bs_verilog_scope.proofs.TableLemmas.{marks_start, marks_more, first_here, first_later, first_none, all_marked}

@@ -1,6 +1,6 @@
 use Rattle.std.proofs.Common.{◌≡◌, drop, Some}
 use Rattle.std.specs.Prelude.{option_map}
-use Rattle.bs_report_good.specs.Chain.{last_present}
+use Rattle.bs_report.specs.Chain.{last_present}
 use Rattle.bs_scan.specs.Present.{present_in}
 use Rattle.bs_audit.specs.Following.{first_from}
 use Rattle.bs_audit.proofs.replay.Replay.walk.Given as goal

@@ -1,5 +1,5 @@
 use Rattle.std.proofs.Common.{◌≡◌, ◌∙◌, length, true, false, sym}
-use Rattle.bs_report_good.specs.Valid.{is_right_cand}
+use Rattle.bs_report.specs.Valid.{is_right_cand}
 use Rattle.bs_audit.proofs.Follows.{cands_from}
 use Rattle.bs_audit.proofs.replay.Replay.wrong_candidate.Goals as goal
 

@@ -1,5 +1,5 @@
 use Rattle.std.proofs.Common.{◌≡◌, ◌-◌, length}
-use Rattle.bs_report_good.specs.Valid.{first_of_all}
+use Rattle.bs_report.specs.Valid.{first_of_all}
 use Rattle.bs_audit.specs.Following.{cand_parts}
 use Rattle.bs_audit.proofs.replay.Replay.wrong_candidate.Given as goal
 

@@ -89,3 +89,30 @@ invariant_of-self-2 c =
     (ready_after_end inside c.finish.new.proof (retired c.finish.new.proof) c.log_end.new.self c.args.end c.new-activation.result c.in_ok-leaving.leaving.ids
     c.self.invariant.whole.ready c.if-self.false facts.0 facts.1 c.in_ok-finish.ensures.ok c.new-activation.ensures refl
     c.holds_end.ensures c.in_ok-log_end.ensures.order ids is_new)
+
+pub prepare-requires-clause-rest : goal.prepare-requires-clause-rest
+prepare-requires-clause-rest c =
+    let inside : SolverState = record { proof = c.self.inside.proof; vars = c.self.inside.vars; stage = c.self.inside.stage; failed = c.self.inside.failed } in
+    rested inside c.self.inside.watch c.rest.new.watch c.self.inside.arena.clauses c.self.inside.database c.self.inside.marks c.self.invariant.whole
+    c.if-self.false c.rest.ensures
+
+pub prepare-requires-clause-own : goal.prepare-requires-clause-own
+prepare-requires-clause-own c = c.self.invariant.own_is c.if-self.false
+
+pub prepare-requires-clause-known : goal.prepare-requires-clause-known
+prepare-requires-clause-known c = c.self.invariant.knows c.if-self.false
+
+pub settle-self-inside-requires-clause-serves : goal.settle-self-inside-requires-clause-serves
+settle-self-inside-requires-clause-serves c = c.in_ok-leaving.ensures.serves
+
+pub settle-self-inside-requires-clause-room : goal.settle-self-inside-requires-clause-room
+settle-self-inside-requires-clause-room c = c.in_ok-leaving.ensures.room
+
+pub settle-self-inside-requires-clause-ascends : goal.settle-self-inside-requires-clause-ascends
+settle-self-inside-requires-clause-ascends c = c.in_ok-leaving.ensures.ascends
+
+pub settle-self-inside-requires-clause-gone : goal.settle-self-inside-requires-clause-gone
+settle-self-inside-requires-clause-gone c = c.in_ok-leaving.ensures.gone
+
+pub settle-self-inside-requires-clause-staying : goal.settle-self-inside-requires-clause-staying
+settle-self-inside-requires-clause-staying c = c.in_ok-leaving.ensures.staying

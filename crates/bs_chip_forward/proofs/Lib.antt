@@ -1,3 +1,0 @@
-pub mod IndependentLemmas
-pub mod ForwardLemmas
-pub mod FirstLemmas

@@ -1,7 +1,0 @@
-use Rattle.bs_chip_forward.proofs.ForwardLemmas.{brought_ahead}
-use Rattle.bs_chip_forward.proofs.forward.advance_by.Goals as goal
-
-pub advance-requires-clause-ahead : goal.advance-requires-clause-ahead
-advance-requires-clause-ahead c =
-    brought_ahead c.args.pass.now c.lend.new.pass c.args.low.now c.args.high.now c.args.rows.now c.len.result c.requires.ahead c.lend.ensures.same
-    c.len.ensures c.lend.ensures.there

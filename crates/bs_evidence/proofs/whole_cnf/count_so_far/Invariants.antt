@@ -1,0 +1,14 @@
+use Rattle.std.proofs.Common.{◌≡◌, length, take}
+use Rattle.bs_log.specs.History.{History}
+use Rattle.bs_log.specs.Refusal.{history_of}
+use Rattle.bs_evidence.specs.WholeProof.{under_of, so_far}
+use Rattle.bs_evidence.specs.WholeWalk.{problem_in}
+use Rattle.bs_evidence.proofs.whole_cnf.count_so_far.Given as goal
+
+abbrev pub invariant-lines : goal.invariant-lines
+invariant-lines l =
+    let h : History = history_of (take l.i l.asked.lines.now) in
+    record {
+      under : l.under ≡ under_of h;
+      count : l.count ≡ length (so_far (problem_in l.asked) h);
+    }

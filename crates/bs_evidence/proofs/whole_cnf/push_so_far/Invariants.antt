@@ -1,0 +1,16 @@
+use Rattle.std.proofs.Common.{◌≡◌, ◌++◌, take}
+use Rattle.std.specs.List.{flat_map}
+use Rattle.bs_log.specs.History.{History}
+use Rattle.bs_log.specs.Refusal.{history_of}
+use Rattle.bs_log.specs.Clauses.{clause_text}
+use Rattle.bs_evidence.specs.WholeProof.{under_of, so_far}
+use Rattle.bs_evidence.specs.WholeWalk.{problem_in}
+use Rattle.bs_evidence.proofs.whole_cnf.push_so_far.Given as goal
+
+abbrev pub invariant-lines : goal.invariant-lines
+invariant-lines l =
+    let h : History = history_of (take l.i l.asked.lines.now) in
+    record {
+      under : l.under ≡ under_of h;
+      text : l.text.items ≡ l.initial.text.items ++ flat_map clause_text (so_far (problem_in l.asked) h);
+    }

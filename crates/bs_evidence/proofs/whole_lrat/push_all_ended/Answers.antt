@@ -1,0 +1,32 @@
+use Rattle.std.proofs.Common.{◌≡◌, List, get_or, ap}
+use Rattle.bs_log.specs.declared.line.Line.{Line}
+use Rattle.bs_log.specs.LineText.{id_text}
+use Rattle.bs_log.specs.Lines.{raised}
+use Rattle.bs_evidence.proofs.Bounds.{step_fits, fits_here, under_more}
+use Rattle.bs_evidence.proofs.WholeTexts.{ended_texts_more}
+use Rattle.bs_evidence.proofs.whole_lrat.push_all_ended.Goals as goal
+
+pub push_ended-requires : goal.push_ended-requires
+push_ended-requires c =
+    let lines : List Line = c.args.asked.now.lines.now in
+    let line : Line = get_or lines c.lines.i c.index-asked-i.result in
+    let same : line ≡ get_or lines c.lines.i line = ap (get_or lines c.lines.i) c.index-asked-i.is in
+    fits_here c.args.asked.now c.requires.writable c.lines.i c.lines.under c.lines.invariant.under line c.lines-test.true same c.args.f.now c.requires.frame
+
+pub under_behind-under-requires : goal.under_behind-under-requires
+under_behind-under-requires c = step_fits c.args.asked.now c.requires.writable c.lines.i c.lines.under c.lines.invariant.under
+
+pub lines-preserved : goal.lines-preserved
+lines-preserved c =
+    let lines : List Line = c.args.asked.now.lines.now in
+    let line : Line = get_or lines c.lines.i c.index-asked-i.result in
+    let same : line ≡ get_or lines c.lines.i line = ap (get_or lines c.lines.i) c.index-asked-i.is in
+    record {
+      under =
+          under_more c.args.asked.now c.requires.writable c.lines.i c.lines.under c.lines.invariant.under line c.lines-test.true same
+          c.under_behind-under.result c.under_behind-under.ensures;
+      text =
+          ended_texts_more id_text (λ e. raised c.args.f.now e.0) lines c.lines.i line c.lines.under
+          c.args.text.now.items c.lines.text.items c.push_ended.new.text.items c.lines-test.true same c.lines.invariant.under
+          c.lines.invariant.text c.in_ok-push_ended.ensures;
+    }

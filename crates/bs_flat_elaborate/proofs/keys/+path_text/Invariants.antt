@@ -1,4 +1,0 @@
-use Rattle.bs_flat_elaborate.proofs.keys.+path_text.Given as goal
-
-abbrev pub decreases-path_text : goal.decreases-path_text
-decreases-path_text l = l.at

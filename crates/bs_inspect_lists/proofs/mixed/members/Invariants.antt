@@ -1,6 +1,0 @@
-use Rattle.std.proofs.Common.{◌≡◌}
-use Rattle.bs_inspect_lists.proofs.MixedLemmas.{first_members}
-use Rattle.bs_inspect_lists.proofs.mixed.members.Given as goal
-
-abbrev pub invariant-flops : goal.invariant-flops
-invariant-flops l = l.members ≡ first_members l.count l.item l.flop

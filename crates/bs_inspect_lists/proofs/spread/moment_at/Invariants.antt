@@ -1,5 +1,0 @@
-use Rattle.bs_inspect_lists.proofs.SpreadLemmas.{PlaceSo}
-use Rattle.bs_inspect_lists.proofs.spread.moment_at.Given as goal
-
-abbrev pub invariant-runs : goal.invariant-runs
-invariant-runs l = PlaceSo l.runs l.place l.k l.left

@@ -1,5 +1,0 @@
-use Rattle.bs_inspect_novel.proofs.LookLemmas.{LeavesSo}
-use Rattle.bs_inspect_novel.proofs.look.agreeing.Given as goal
-
-abbrev pub invariant-places : goal.invariant-places
-invariant-places l = LeavesSo l.words l.places l.value l.mask l.left l.i

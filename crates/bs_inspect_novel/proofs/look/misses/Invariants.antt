@@ -1,6 +1,0 @@
-use Rattle.std.proofs.Common.{take}
-use Rattle.bs_inspect_novel.specs.Shown.{Misses}
-use Rattle.bs_inspect_novel.proofs.look.misses.Given as goal
-
-abbrev pub invariant-values : goal.invariant-values
-invariant-values l = Misses (take l.i l.values) l.words l.places l.mask l.left

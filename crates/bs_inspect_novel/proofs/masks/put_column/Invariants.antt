@@ -1,5 +1,0 @@
-use Rattle.bs_inspect_novel.proofs.MaskLemmas.{ColumnSo}
-use Rattle.bs_inspect_novel.proofs.masks.put_column.Given as goal
-
-abbrev pub invariant-planes : goal.invariant-planes
-invariant-planes l = ColumnSo l.planes l.wide l.word l.i l.initial.words.items l.words.items

@@ -1,8 +1,0 @@
-use Rattle.std.proofs.Common.{◌≡◌, ◌++◌, take}
-use Rattle.std.specs.List.{flat_map}
-use Rattle.bs_log_dimacs.specs.Clauses.{clause_text}
-use Rattle.bs_log_dimacs.specs.Cnf.{units}
-use Rattle.bs_log_dimacs.proofs.cnf.push_units.Given as goal
-
-abbrev pub invariant-literals : goal.invariant-literals
-invariant-literals l = l.text.items ≡ l.initial.text.items ++ flat_map clause_text (units (take l.literal-index l.literals))

@@ -1,6 +1,0 @@
-use Rattle.std.proofs.Common.{◌≡◌, take}
-use Rattle.bs_net_facts.specs.Marks.{all_mark}
-use Rattle.bs_net_facts.proofs.gates.all_mark.Given as goal
-
-abbrev pub invariant-nets : goal.invariant-nets
-invariant-nets l = l.all ≡ all_mark l.marks (take l.net-index l.nets)

@@ -1,6 +1,0 @@
-use Rattle.std.proofs.Common.{◌≡◌, take}
-use Rattle.bs_net_facts.specs.Marks.{any_mark}
-use Rattle.bs_net_facts.proofs.gates.any_mark.Given as goal
-
-abbrev pub invariant-nets : goal.invariant-nets
-invariant-nets l = l.any ≡ any_mark l.marks (take l.net-index l.nets)

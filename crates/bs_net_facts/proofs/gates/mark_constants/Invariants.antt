@@ -1,5 +1,0 @@
-use Rattle.bs_net_facts.specs.Marks.{StayHeld, AreShown}
-use Rattle.bs_net_facts.proofs.gates.mark_constants.Given as goal
-
-abbrev pub invariant-constants : goal.invariant-constants
-invariant-constants l = StayHeld (AreShown l.consts) l.initial.marks l.marks

@@ -1,0 +1,13 @@
+pub mod EndLemmas
+pub mod ReadingLemmas
+pub mod FormLemmas
+pub mod SpellingLemmas
+pub mod ReadBackLemmas
+pub mod SpelledLemmas
+pub mod WrittenLemmas
+pub mod AnswerExamples
+pub mod ShownAnswerLemmas
+pub mod LineLemmas
+pub mod TraceLemmas
+pub mod CycleLemmas
+pub mod Examples

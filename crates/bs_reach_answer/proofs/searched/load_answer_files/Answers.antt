@@ -1,0 +1,8 @@
+use Rattle.bs_outside.proofs.TellingLemmas.{diagnosed_stop, diagnosed_then}
+use Rattle.bs_reach_answer.proofs.searched.load_answer_files.Goals as goal
+
+pub returns-in-Ok-clause-walks : goal.returns-in-Ok-clause-walks
+returns-in-Ok-clause-walks g c = diagnosed_then _ c.in-Ok.ensures.walks c.load_searched.ensures.walks
+
+pub returns-in-Err-clause-walks : goal.returns-in-Err-clause-walks
+returns-in-Err-clause-walks g c = diagnosed_stop _ c.in-Err.ensures.walks

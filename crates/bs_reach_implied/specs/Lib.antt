@@ -1,3 +1,0 @@
--- what the public contract rests on
-pub mod Rows
-pub mod Chain

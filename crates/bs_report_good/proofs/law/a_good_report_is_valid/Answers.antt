@@ -1,5 +1,0 @@
-use Rattle.bs_report_good.proofs.LoggedLemmas.{good_is_valid}
-use Rattle.bs_report_good.proofs.law.a_good_report_is_valid.Goals as goal
-
-pub returns : goal.returns
-returns c = good_is_valid

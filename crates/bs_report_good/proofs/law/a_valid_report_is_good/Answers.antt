@@ -1,5 +1,0 @@
-use Rattle.bs_report_good.proofs.GoodLemmas.{valid_is_good}
-use Rattle.bs_report_good.proofs.law.a_valid_report_is_good.Goals as goal
-
-pub returns : goal.returns
-returns c = valid_is_good

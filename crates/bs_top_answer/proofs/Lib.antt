@@ -1,6 +1,0 @@
-pub mod TurnedLemmas
-pub mod LookLemmas
-pub mod PartlyLemmas
-pub mod NoteLemmas
-pub mod EndingLemmas
-pub mod AnswerLemmas

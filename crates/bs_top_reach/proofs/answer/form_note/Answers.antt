@@ -1,5 +1,0 @@
-use Rattle.bs_top_reach.proofs.LineLemmas.{line_said}
-use Rattle.bs_top_reach.proofs.answer.form_note.Goals as goal
-
-pub returns : goal.returns
-returns c = line_said _ _ _ _ _ _ c.answer_saying-message.ensures c.in_ok-note.ensures

@@ -1,4 +1,0 @@
-use Rattle.bs_top_reach.proofs.lines.line_note.Goals as goal
-
-pub returns : goal.returns
-returns c = record { start = c.start_of-start.result; begins = c.start_of-start.ensures.begins; placed = c.in_ok-note.ensures }

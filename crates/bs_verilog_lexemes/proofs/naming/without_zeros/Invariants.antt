@@ -1,9 +1,0 @@
-use Rattle.std.proofs.Common.{◌≡◌, length}
-use Rattle.bs_verilog_lexemes.specs.Lexemes.{without_zeros}
-use Rattle.bs_verilog_lexemes.proofs.naming.without_zeros.Given as goal
-
-abbrev pub invariant-zeros : goal.invariant-zeros
-invariant-zeros l = without_zeros l.rest ≡ without_zeros l.digits
-
-abbrev pub decreases-zeros : goal.decreases-zeros
-decreases-zeros l = length l.rest

@@ -1,9 +1,0 @@
-//! A law of the definitions.
-ghost use Rattle.bs_verilog_lexemes.specs.Apart.{TellsNumbersApart};
-
-use bs_lex::Token;
-
-/// Numbers of digits are told apart as the numbers that they stand for, of any length.
-pub fn numbers_are_told_apart(source: &[u8], tokens: &[Token])
-    ensures { TellsNumbersApart source.now tokens.now }
-{}
